@@ -1,0 +1,74 @@
+-- `names::classes::is_plain` meets its contract: at `i`, what is left is plain just where the whole is. Assumes nothing.
+use mathlib.Core.Path.{_≡_, refl}
+use mathlib.Core.List.{List}
+use mathlib.Core.Bool.{Bool, true, false, not}
+use Prim.Native.Nat.{ℕ, _+_, _≤_, _<_, _-_}
+use lib.ListN.{length, drop, getD}
+use borrow.Author.Needs.{needs}
+use borrow.Author.Tests.{not-true, not-false}
+use Rattle.names.specs.Lists.{every}
+use Rattle.names.specs.Names.{plain, plainByte}
+use Rattle.names.proofs.Walk.{here, done}
+use Rattle.names.proofs.classes.is_plain.Statement.{statement}
+use Rattle.names.proofs.classes.is_plain.Tie as tie
+
+module _ (s : List ℕ) (i : ℕ) (inv : plain (drop i s) ≡ plain s) where
+  all : length s ≤ i → true ≡ plain s
+  unfolding plain every
+  all h = rw (← inv, done s i h)
+
+  module _ (h : i < length s) (b : Bool) (is : b ≡ plainByte (getD s i 0)) where
+    wrong : not b ≡ true → false ≡ plain s
+    unfolding plain every
+    wrong e = rw (← inv, here s i h, ← is, not-true b e)
+
+    right : not b ≡ false → plain (drop (i + 1) s) ≡ plain s
+    unfolding plain every
+    right e = rw (← inv, here s i h, ← is, not-false b e)
+
+ruleset steps = (needs, all, wrong, right)
+
+abbrev Inv-loop : tie.InvT-loop
+Inv-loop s i₀ i = (i ≤ length s) × (plain (drop i s) ≡ plain s)
+
+abbrev μ-loop : tie.MeasureT-loop
+μ-loop s i₀ i = length s - i
+
+loop-holds : tie.Need-loop-holds Inv-loop μ-loop
+loop-holds c = search steps
+
+shared-slice-read-is-plain-byte : tie.Need-shared-slice-read-is-plain-byte Inv-loop μ-loop
+shared-slice-read-is-plain-byte c = search steps
+
+is-plain-byte-requires : tie.Need-is-plain-byte-requires Inv-loop μ-loop
+is-plain-byte-requires c κs = search steps
+
+returns : tie.Need-returns Inv-loop μ-loop
+returns c = search steps
+
+add-i : tie.Need-add-i Inv-loop μ-loop
+add-i c = search steps
+
+loop-less : tie.Need-loop-less Inv-loop μ-loop
+loop-less c = search steps
+
+loop-again : tie.Need-loop-again Inv-loop μ-loop
+loop-again c = search steps
+
+returns-2 : tie.Need-returns-2 Inv-loop μ-loop
+returns-2 c = search steps
+
+pub is-plain-spec : {M : Type 1} → statement M
+is-plain-spec =
+    tie.close
+    (tie.spec
+    Inv-loop
+    μ-loop
+    loop-holds
+    shared-slice-read-is-plain-byte
+    is-plain-byte-requires
+    returns
+    add-i
+    loop-less
+    loop-again
+    returns-2)

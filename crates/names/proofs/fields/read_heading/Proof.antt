@@ -1,0 +1,101 @@
+-- `names::fields::read_heading` meets its contract. Assumes nothing.
+use mathlib.Core.Path.{_≡_, sym, _∙_}
+use mathlib.Core.Bool.{Bool, true, false}
+use mathlib.Core.List.{List}
+use Prim.Native.Nat.{ℕ, _+_, _-_, _≤_, _<_}
+use native.Mathlib.Nat.{zero-add}
+use native.Mathlib.Omega.{arith}
+use lib.Dec.{eqb}
+use lib.ListN.{length, take, drop}
+use lib.Seq.{length-take-le}
+use borrow.Author.Needs.{needs}
+use borrow.Author.Tests.{eq-eqb, ne-eqb}
+use Rattle.names.specs.declared.Read.{Read}
+use Rattle.names.specs.declared.Read.the-variants.{Next, Refused}
+use Rattle.names.specs.Fields.{Got, next, holds, u16, number, heading}
+use Rattle.names.specs.Names.{same}
+use Rattle.names.specs.Read.{ending}
+use Rattle.names.proofs.Laws.{via, bytes-end, bytes-got, stops, goes, u16-value}
+use Rattle.names.proofs.fields.read_heading.Statement.{statement}
+use Rattle.names.proofs.fields.read_heading.Tie as tie
+
+module _ (s mark : List ℕ) where
+  version : ℕ → ℕ → Got ℕ
+  version v n = holds 4 (eqb v 1) v s n
+
+  too-short : length s < length mark → Refused 2 ≡ ending (heading mark s 0)
+  unfolding heading ending
+  too-short h = rw (bytes-end s 0 (length mark) (omega arith))
+
+  module _ (h : length mark ≤ length s) (b : Bool) (is : b ≡ same (take (length mark) s) mark) where
+    other-mark : b ≡ false → Refused 3 ≡ ending (heading mark s 0)
+    unfolding heading ending
+    other-mark e = rw (bytes-got s 0 (length mark) (omega arith), ← is, e)
+
+    marked : b ≡ true → heading mark s 0 ≡ next (u16 s (length mark)) version
+    unfolding heading version
+    marked e = rw (bytes-got s 0 (length mark) (omega arith), ← is, e, zero-add)
+
+    module _ (e : b ≡ true) (x : Read) (is′ : x ≡ ending (u16 s (length mark))) where
+      no-version : (r : ℕ) → x ≡ Refused r → x ≡ ending (heading mark s 0)
+      no-version r f = via (marked e) (stops _ _ f is′)
+
+      module _ (m : ℕ) (f : x ≡ Next m) (v : ℕ) (is″ : v ≡ number 0 (take 2 (drop (length mark) s))) where
+        version-1 : v ≡ 1 → Next m ≡ ending (heading mark s 0)
+        unfolding version ending
+        version-1 g = via (marked e) (goes (u16 s (length mark)) version f is′ λ w d. rw (u16-value s _ d, ← is″, g))
+
+        other-version : (v ≡ 1 → ⊥) → Refused 4 ≡ ending (heading mark s 0)
+        unfolding version ending
+        other-version g = via (marked e) (goes (u16 s (length mark)) version f is′ λ w d. rw (u16-value s _ d, ← is″, ne-eqb _ _ g))
+
+ruleset steps = (needs, too-short, other-mark, no-version, version-1, other-version)
+
+returns : tie.Need-returns
+returns c = search steps
+
+slice-aggregate-same : tie.Need-slice-aggregate-same
+slice-aggregate-same c = search (steps, length-take-le)
+
+same-requires : tie.Need-same-requires
+same-requires c κs = search steps
+
+read-u16-requires : tie.Need-read-u16-requires
+read-u16-requires c κs = search steps
+
+enum-known-version : tie.Need-enum-known-version
+enum-known-version c = search steps
+
+enum-told : tie.Need-enum-told
+enum-told c = search steps
+
+returns-2 : tie.Need-returns-2
+returns-2 c = search steps
+
+u16-at-requires : tie.Need-u16-at-requires
+u16-at-requires c κs = search steps
+
+returns-3 : tie.Need-returns-3
+returns-3 c = search steps
+
+returns-4 : tie.Need-returns-4
+returns-4 c = search steps
+
+returns-5 : tie.Need-returns-5
+returns-5 c = search steps
+
+pub read-heading-spec : {M : Type 1} → statement M
+read-heading-spec =
+    tie.close
+    (tie.spec
+    returns
+    slice-aggregate-same
+    same-requires
+    read-u16-requires
+    enum-known-version
+    enum-told
+    returns-2
+    u16-at-requires
+    returns-3
+    returns-4
+    returns-5)

@@ -1,0 +1,69 @@
+-- `names::fields::u16_at` meets its contract. Assumes nothing.
+use mathlib.Core.Path.{_≡_, sym}
+use mathlib.Core.List.{List}
+use Prim.Native.Nat.{ℕ, _+_, _*_, _-_, _≤_, _<_}
+use native.Mathlib.Nat.{zero-add}
+use native.Mathlib.Omega.{arith}
+use lib.ListN.{length, getD, take, drop}
+use borrow.Author.Needs.{needs}
+use Rattle.names.specs.Fields.{number}
+use Rattle.names.proofs.Walk.{here, done}
+use Rattle.names.proofs.fields.u16_at.Statement.{statement}
+use Rattle.names.proofs.fields.u16_at.Tie as tie
+
+module _ (s : List ℕ) (at : ℕ) where
+  none : length s ≤ at → 0 ≡ number 0 (take 2 (drop at s))
+  unfolding number
+  none h = rw (done s at h)
+
+  module _ (h : at < length s) (high : ℕ) (is : high ≡ getD s at 0) where
+    one : length s ≤ at + 1 → high ≡ number 0 (take 2 (drop at s))
+    unfolding number
+    one k = rw (here s at h, done s (at + 1) k, zero-add) is
+
+    two : at + 1 < length s → (low r : ℕ) → low ≡ getD s (at + 1) 0 → r ≡ high * 256 + low → r ≡ number 0 (take 2 (drop at s))
+    unfolding number
+    two k low r is′ e = rw (here s at h, here s (at + 1) k, ← is, ← is′, zero-add) e
+
+ruleset steps = (needs, none, one, two)
+
+returns : tie.Need-returns
+returns c = search steps
+
+shared-slice-read-wide : tie.Need-shared-slice-read-wide
+shared-slice-read-wide c = search steps
+
+wide-requires : tie.Need-wide-requires
+wide-requires c κs = search steps
+
+add-next : tie.Need-add-next
+add-next c = search steps
+
+returns-2 : tie.Need-returns-2
+returns-2 c = search steps
+
+shared-slice-read-wide-2 : tie.Need-shared-slice-read-wide-2
+shared-slice-read-wide-2 c = search steps
+
+wide-requires-2 : tie.Need-wide-requires-2
+wide-requires-2 c κs = search steps
+
+pair-requires : tie.Need-pair-requires
+pair-requires c κs = search steps
+
+returns-3 : tie.Need-returns-3
+returns-3 c = search steps
+
+pub u16-at-spec : {M : Type 1} → statement M
+u16-at-spec =
+    tie.close
+    (tie.spec
+    returns
+    shared-slice-read-wide
+    wide-requires
+    add-next
+    returns-2
+    shared-slice-read-wide-2
+    wide-requires-2
+    pair-requires
+    returns-3)

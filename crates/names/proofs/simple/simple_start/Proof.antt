@@ -1,0 +1,111 @@
+-- `names::simple::simple_start` meets its contract: at `i`, with `start` behind the last `::` so far. Assumes nothing.
+use mathlib.Core.Path.{_≡_, refl, sym, _∙_}
+use mathlib.Core.Bool.{cond, _&&_}
+use mathlib.Core.List.{List, [], _∷_}
+use Prim.Native.Nat.{ℕ, _+_, _-_, _≤_, _<_}
+use native.Mathlib.Nat.{add-assoc}
+use lib.Dec.{eqb}
+use lib.ListN.{length, getD, drop}
+use borrow.Author.Needs.{needs}
+use borrow.Author.Tests.{eq-eqb, ne-eqb}
+use Rattle.names.specs.Names.{simpleFrom, simpleName}
+use Rattle.names.proofs.Walk.{here, done}
+use Rattle.names.proofs.simple.simple_start.Statement.{statement}
+use Rattle.names.proofs.simple.simple_start.Tie as tie
+
+begins : (s : List ℕ) → simpleFrom (drop 0 s) (drop 0 s) ≡ simpleName s
+unfolding simpleName
+begins s = refl
+
+step : (rest : List ℕ) (b c : ℕ) (w : List ℕ)
+    → simpleFrom rest (b ∷ (c ∷ w)) ≡ simpleFrom (cond (eqb b 58 && eqb c 58) w rest) (c ∷ w)
+unfolding simpleFrom
+step rest b c w = refl
+
+module _ (s : List ℕ) (start i : ℕ) (inv : simpleFrom (drop start s) (drop i s) ≡ simpleName s) where
+  at-end : length s ≤ i → drop start s ≡ simpleName s
+  unfolding simpleFrom
+  at-end h = rw (done s i h) at inv
+
+  module _ (h : i < length s) where
+    at-last : length s ≤ i + 1 → drop start s ≡ simpleName s
+    unfolding simpleFrom
+    at-last k = rw (here s i h, done s (i + 1) k) at inv
+
+    module _ (k : i + 1 < length s) where
+      one-on : (getD s i 0 ≡ 58 → ⊥) → simpleFrom (drop start s) (drop (i + 1) s) ≡ simpleName s
+      one-on n = rw (here s (i + 1) k) (rw (here s i h, here s (i + 1) k, step, ne-eqb _ _ n) at inv)
+
+      module _ (e : getD s i 0 ≡ 58) where
+        one-on′ : (getD s (i + 1) 0 ≡ 58 → ⊥) → simpleFrom (drop start s) (drop (i + 1) s) ≡ simpleName s
+        one-on′ n = rw (here s (i + 1) k) (rw (here s i h, here s (i + 1) k, step, eq-eqb _ _ e, ne-eqb _ _ n) at inv)
+
+        two-on : getD s (i + 1) 0 ≡ 58 → simpleFrom (drop (i + 1 + 1) s) (drop (i + 1) s) ≡ simpleName s
+        two-on f = rw (here s (i + 1) k) (rw (here s i h, here s (i + 1) k, step, eq-eqb _ _ e, eq-eqb _ _ f) at inv)
+
+ruleset steps = (needs, begins, at-end, at-last, one-on, one-on′, two-on)
+
+abbrev Inv-loop : tie.InvT-loop
+Inv-loop s start₀ i₀ start i = (i ≤ length s) × (start ≤ length s) × (simpleFrom (drop start s) (drop i s) ≡ simpleName s)
+
+abbrev μ-loop : tie.MeasureT-loop
+μ-loop s start₀ i₀ start i = length s - i
+
+loop-holds : tie.Need-loop-holds Inv-loop μ-loop
+loop-holds c = search steps
+
+add-next : tie.Need-add-next Inv-loop μ-loop
+add-next c = search steps
+
+returns : tie.Need-returns Inv-loop μ-loop
+returns c = search steps
+
+shared-slice-read-if2 : tie.Need-shared-slice-read-if2 Inv-loop μ-loop
+shared-slice-read-if2 c = search steps
+
+loop-less : tie.Need-loop-less Inv-loop μ-loop
+loop-less c = search steps
+
+loop-again : tie.Need-loop-again Inv-loop μ-loop
+loop-again c = search steps
+
+shared-slice-read-if3 : tie.Need-shared-slice-read-if3 Inv-loop μ-loop
+shared-slice-read-if3 c = search steps
+
+loop-less-2 : tie.Need-loop-less-2 Inv-loop μ-loop
+loop-less-2 c = search steps
+
+loop-again-2 : tie.Need-loop-again-2 Inv-loop μ-loop
+loop-again-2 c = search steps
+
+add-start : tie.Need-add-start Inv-loop μ-loop
+add-start c = search steps
+
+loop-less-3 : tie.Need-loop-less-3 Inv-loop μ-loop
+loop-less-3 c = search steps
+
+loop-again-3 : tie.Need-loop-again-3 Inv-loop μ-loop
+loop-again-3 c = search steps
+
+returns-2 : tie.Need-returns-2 Inv-loop μ-loop
+returns-2 c = search steps
+
+pub simple-start-spec : {M : Type 1} → statement M
+simple-start-spec =
+    tie.close
+    (tie.spec
+    Inv-loop
+    μ-loop
+    loop-holds
+    add-next
+    returns
+    shared-slice-read-if2
+    loop-less
+    loop-again
+    shared-slice-read-if3
+    loop-less-2
+    loop-again-2
+    add-start
+    loop-less-3
+    loop-again-3
+    returns-2)

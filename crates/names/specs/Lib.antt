@@ -1,0 +1,9 @@
+pub mod Lists
+pub mod Names
+pub mod Text
+pub mod Fields
+pub mod Paths
+pub mod Class
+pub mod Order
+pub mod Read
+pub mod Writer
