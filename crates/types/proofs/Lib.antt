@@ -1,0 +1,4 @@
+-- Laws that several proofs cite.
+pub mod Fits
+pub mod Words
+pub mod Examples

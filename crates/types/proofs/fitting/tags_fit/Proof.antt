@@ -1,0 +1,64 @@
+-- `types::fitting::tags_fit` meets its contract. Assumes nothing.
+use mathlib.Core.Path.{_≡_, refl, sym, _∙_}
+use mathlib.Core.Bool.{Bool, true, false, false≢true}
+use mathlib.Core.List.{List}
+use mathlib.Core.Option.{some}
+use Prim.Native.Nat.{ℕ}
+use Rattle.names.specs.Names.{same}
+use Rattle.types.specs.Rules.{anyTags, tagsBy}
+use Rattle.types.specs.declared.Test.{Test}
+use Rattle.types.specs.declared.Test.the-variants as Test
+use borrow.Author.Needs.{needs}
+use Rattle.types.proofs.fitting.tags_fit.Statement.{statement}
+use Rattle.types.proofs.fitting.tags_fit.Tie as tie
+
+module _ (r : Test) (v w : List ℕ) (a : Bool) (rule : a ≡ anyTags r) where
+  any : a ≡ true → true ≡ tagsBy r (some v) (some w)
+  any h = go r (sym rule ∙ h)
+    where
+      go : (r : Test) → anyTags r ≡ true → true ≡ tagsBy r (some v) (some w)
+      go Test.Equal e = absurd (false≢true e)
+      go Test.Accepts e = absurd (false≢true e)
+      go Test.Compatible e = refl
+
+  alike : a ≡ false → (x y : List ℕ) → x ≡ v → y ≡ w → (b : Bool) → b ≡ same x y → b ≡ tagsBy r (some v) (some w)
+  alike h x y p q b e = go r (sym rule ∙ h)
+    where
+      is : b ≡ same v w
+      is = e ∙ rw (p, q)
+
+      go : (r : Test) → anyTags r ≡ false → b ≡ tagsBy r (some v) (some w)
+      go Test.Equal e = is
+      go Test.Accepts e = is
+      go Test.Compatible e = absurd (false≢true (sym e))
+
+ruleset steps = (needs, any, alike)
+
+takes-any-tags-requires : tie.Need-takes-any-tags-requires
+takes-any-tags-requires c κs = search steps
+
+returns : tie.Need-returns
+returns c = search steps
+
+tag-bytes-requires : tie.Need-tag-bytes-requires
+tag-bytes-requires c κs = search steps
+
+tag-bytes-requires-2 : tie.Need-tag-bytes-requires-2
+tag-bytes-requires-2 c κs = search steps
+
+same-requires : tie.Need-same-requires
+same-requires c κs = search steps
+
+returns-2 : tie.Need-returns-2
+returns-2 c = search steps
+
+pub tags-fit-spec : {M : Type 1} → statement M
+tags-fit-spec =
+    tie.close
+    (tie.spec
+    takes-any-tags-requires
+    returns
+    tag-bytes-requires
+    tag-bytes-requires-2
+    same-requires
+    returns-2)

@@ -1,0 +1,58 @@
+-- `types::texts::put_base` meets its contract: the word, and the tag behind it. Assumes nothing.
+use mathlib.Core.Path.{_≡_}
+use mathlib.Core.List.{List}
+use Prim.Native.Nat.{ℕ, _+_, _≤_}
+use native.Mathlib.Omega.{arith}
+use lib.ListN.{length}
+use Rattle.names.specs.Writer.{Stored}
+use Rattle.names.specs.Writer.Laws.{stored-more, stored-length}
+use Rattle.types.specs.Meaning.{baseOf, tagPart}
+use Rattle.types.specs.Words.{textBy, typeWord, wordOf}
+use Rattle.types.specs.declared.Base.{Base}
+use Rattle.types.specs.declared.Form.{Form}
+use Rattle.types.proofs.Words.{below, base-text, base-length}
+use borrow.Author.Needs.{needs}
+use Rattle.types.proofs.texts.put_base.Statement.{statement}
+use Rattle.types.proofs.texts.put_base.Tie as tie
+
+module _ (a b : List ℕ) (f : Form) (x : Base) (s : List ℕ) (at : ℕ) (room : at + length (textBy f (baseOf a b x)) ≤ length s) (k : ℕ) (is : k ≡ wordOf f x) where
+  word-room : at + length (typeWord k) ≤ length s
+  word-room = rw is (omega (arith, base-length a b f x))
+
+  module _ (t : List ℕ) (m : ℕ) (first : Stored s at (typeWord k) t m) (w : List ℕ) (tag : w ≡ tagPart a b x) where
+    tag-room : m + length w ≤ length t
+    tag-room = rw tag (omega (arith, base-length a b f x, rw is at (first .next), stored-length first))
+
+    both : (u : List ℕ) (r : ℕ) → Stored t m w u r → Stored s at (textBy f (baseOf a b x)) u r
+    both u r second = rw (base-text a b f x, ← is, ← tag) (stored-more first second)
+
+ruleset steps = (needs, below, word-room, tag-room, both)
+
+word-of-requires : tie.Need-word-of-requires
+word-of-requires c κs = search steps
+
+put-word-requires : tie.Need-put-word-requires
+put-word-requires c κs = search steps
+
+tag-part-requires : tie.Need-tag-part-requires
+tag-part-requires c κs = search steps
+
+put-requires : tie.Need-put-requires
+put-requires c κs = search steps
+
+same-length : tie.Need-same-length
+same-length c = search steps
+
+returns : tie.Need-returns
+returns c = search steps
+
+pub put-base-spec : {M : Type 1} → statement M
+put-base-spec =
+    tie.close
+    (tie.spec
+    word-of-requires
+    put-word-requires
+    tag-part-requires
+    put-requires
+    same-length
+    returns)

@@ -1,0 +1,52 @@
+-- `types::texts::put_type` meets its contract: the openings, the base and the closings, one behind the other. Assumes nothing.
+use mathlib.Core.List.{List}
+use Prim.Native.Nat.{ℕ, _+_, _≤_}
+use native.Mathlib.Omega.{arith}
+use lib.ListN.{length}
+use Rattle.names.specs.Writer.{Stored}
+use Rattle.names.specs.Writer.Laws.{stored-more, stored-length}
+use Rattle.types.specs.Types.{Ty}
+use Rattle.types.specs.Meaning.{layered}
+use Rattle.types.specs.Words.{textBy, typeWord, repeated}
+use Rattle.types.specs.declared.Form.{Form}
+use Rattle.types.proofs.Words.{layers-text, layers-length}
+use borrow.Author.Needs.{needs}
+use Rattle.types.proofs.texts.put_type.Statement.{statement}
+use Rattle.types.proofs.texts.put_type.Tie as tie
+
+module _ (f : Form) (n : ℕ) (b : Ty) (s : List ℕ) (at : ℕ) (room : at + length (textBy f (layered n b)) ≤ length s) where
+  open-room : at + length (repeated n (typeWord 13)) ≤ length s
+  open-room = omega (arith, layers-length f n b)
+
+  module _ (t : List ℕ) (m : ℕ) (opened : Stored s at (repeated n (typeWord 13)) t m) where
+    base-room : m + length (textBy f b) ≤ length t
+    base-room = omega (arith, layers-length f n b, opened .next, stored-length opened)
+
+    module _ (u : List ℕ) (p : ℕ) (named : Stored t m (textBy f b) u p) where
+      close-room : p + length (repeated n (typeWord 14)) ≤ length u
+      close-room = omega (arith, layers-length f n b, opened .next, named .next, stored-length opened, stored-length named)
+
+      all : (v : List ℕ) (r : ℕ) → Stored u p (repeated n (typeWord 14)) v r → Stored s at (textBy f (layered n b)) v r
+      all v r closed = rw (layers-text f n b) (stored-more (stored-more opened named) closed)
+
+ruleset steps = (needs, open-room, base-room, close-room, all)
+
+put-words-requires : tie.Need-put-words-requires
+put-words-requires c κs = search steps
+
+put-base-requires : tie.Need-put-base-requires
+put-base-requires c κs = search steps
+
+put-words-requires-2 : tie.Need-put-words-requires-2
+put-words-requires-2 c κs = search steps
+
+same-length : tie.Need-same-length
+same-length c = search steps
+
+returns : tie.Need-returns
+returns c = search steps
+
+pub put-type-spec : {M : Type 1} → statement M
+put-type-spec =
+    tie.close
+    (tie.spec put-words-requires put-base-requires put-words-requires-2 same-length returns)

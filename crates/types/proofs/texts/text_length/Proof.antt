@@ -1,0 +1,64 @@
+-- `types::texts::text_length` meets its contract: a layer adds seven bytes. Assumes nothing.
+use mathlib.Core.Path.{_≡_}
+use mathlib.Core.List.{List}
+use Prim.Native.Nat.{ℕ, _+_, _*_, _<_}
+use native.Mathlib.Omega.{arith}
+use lib.ListN.{length}
+use Rattle.types.specs.Types.Texts.{length-layers}
+use Rattle.types.specs.Meaning.{baseOf, tagPart, layered}
+use Rattle.types.specs.Words.{textBy, typeWord, wordOf}
+use Rattle.types.specs.declared.Base.{Base}
+use Rattle.types.specs.declared.Form.{Form}
+use Rattle.types.proofs.Words.{below, base-length}
+use borrow.Author.Needs.{needs}
+use Rattle.types.proofs.texts.text_length.Statement.{statement}
+use Rattle.types.proofs.texts.text_length.Tie as tie
+
+module _ (a b : List ℕ) (f : Form) (n : ℕ) (x : Base) (k : ℕ) (is : k ≡ wordOf f x) (l : ℕ) (long : l ≡ length (typeWord k)) (w : List ℕ) (tag : w ≡ tagPart a b x) where
+  sum : n * 7 + (l + length w) ≡ length (textBy f (layered n (baseOf a b x)))
+  sum = rw (length-layers f n (baseOf a b x), base-length a b f x, long, is, tag)
+
+  module _ (room : length (textBy f (layered n (baseOf a b x))) < 18446744073709551616) where
+    layers-room : n * 7 < 18446744073709551616
+    layers-room = omega (arith, sum)
+
+    base-room : l + length w < 18446744073709551616
+    base-room = omega (arith, sum)
+
+    all-room : n * 7 + (l + length w) < 18446744073709551616
+    all-room = omega (arith, sum)
+
+ruleset steps = (needs, below, sum, layers-room, base-room, all-room)
+
+word-of-requires : tie.Need-word-of-requires
+word-of-requires c κs = search steps
+
+word-length-requires : tie.Need-word-length-requires
+word-length-requires c κs = search steps
+
+tag-part-requires : tie.Need-tag-part-requires
+tag-part-requires c κs = search steps
+
+mul-result : tie.Need-mul-result
+mul-result c = search steps
+
+add-result : tie.Need-add-result
+add-result c = search steps
+
+add-result-2 : tie.Need-add-result-2
+add-result-2 c = search steps
+
+returns : tie.Need-returns
+returns c = search steps
+
+pub text-length-spec : {M : Type 1} → statement M
+text-length-spec =
+    tie.close
+    (tie.spec
+    word-of-requires
+    word-length-requires
+    tag-part-requires
+    mul-result
+    add-result
+    add-result-2
+    returns)

@@ -1,0 +1,5 @@
+pub mod Types
+pub mod Meaning
+pub mod Rules
+pub mod Words
+pub mod Examples

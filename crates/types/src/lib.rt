@@ -1,0 +1,64 @@
+// The types that the checks compare: a number of array layers over a base. Their tests, and their texts.
+mod fitting;
+mod tags;
+mod texts;
+
+pub use fitting::accepts;
+pub use fitting::compatible;
+pub use fitting::equal;
+pub use fitting::is_numeric;
+pub use tags::tag_bytes;
+pub use texts::display;
+pub use texts::render;
+pub use texts::text_length;
+
+pub enum Scalar {
+    Long,
+    String,
+    Decimal,
+    Bool,
+    Timepoint,
+    Object,
+    Never,
+}
+
+// The record that holds a tag.
+pub enum Source {
+    Schema,
+    Condition,
+}
+
+// An entity's tag: a part of a record's bytes.
+pub struct Tag {
+    pub source: Source,
+    pub at: usize,
+    pub len: usize,
+}
+
+// What stands under the layers. `AnyArray` and `MixedArray` are arrays themselves: of unknown elements, and of mixed ones.
+pub enum Base {
+    Plain(Scalar),
+    Tagged(Tag),
+    Untagged,
+    AnyArray,
+    MixedArray,
+}
+
+// The Rust's `RichType`.
+pub struct Rich {
+    pub layers: usize,
+    pub base: Base,
+}
+
+// The tests of two types: the Rust's `==`, `accepts` and `compatible`.
+pub enum Test {
+    Equal,
+    Accepts,
+    Compatible,
+}
+
+// The texts of a type: the Rust's `display` and `render`.
+pub enum Form {
+    Display,
+    Render,
+}
