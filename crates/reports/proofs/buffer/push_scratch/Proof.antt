@@ -1,0 +1,36 @@
+-- `reports::buffer::push_scratch` meets its contract. Assumes nothing.
+use mathlib.Core.Path.{_≡_, ap, _∙_}
+use mathlib.Core.List.{List}
+use Prim.Native.Nat.{ℕ, _<_}
+use native.Mathlib.Omega.{arith}
+use lib.ListN.{length, take, drop}
+use Rattle.names.proofs.Walk.{take-at-most}
+use Rattle.reports.specs.Sink.{Sink, push}
+use borrow.Author.Needs.{needs}
+use Rattle.reports.proofs.buffer.push_scratch.Statement.{statement}
+use Rattle.reports.proofs.buffer.push_scratch.Tie as tie
+
+-- m is the part of the scratch
+module _ (n : ℕ) (m s : List ℕ) (is : m ≡ take n (drop 0 s)) where
+  short : n < 65536 → length m < 65536
+  short h = omega (arith, ap length is, take-at-most n s)
+
+  pushed : (start end : ℕ) (a : Sink) {r : Sink} → r ≡ push a (record { start = start; end = end; message = m }) → r ≡ push a (record { start = start; end = end; message = take n s })
+  pushed start end a e = e ∙ ap (λ (l : List ℕ). push a (record { start = start; end = end; message = l })) is
+
+ruleset steps = (needs, short, pushed)
+
+part-of-requires : tie.Need-part-of-requires
+part-of-requires c κs = search steps
+
+push-report-requires : tie.Need-push-report-requires
+push-report-requires c κs = search steps
+
+same-length : tie.Need-same-length
+same-length c = search steps
+
+returns : tie.Need-returns
+returns c = search steps
+
+pub push-scratch-spec : {M : Type 1} → statement M
+push-scratch-spec = tie.close (tie.spec part-of-requires push-report-requires same-length returns)

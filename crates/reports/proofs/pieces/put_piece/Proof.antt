@@ -1,0 +1,50 @@
+-- `reports::pieces::put_piece` meets its contract. Assumes nothing.
+use mathlib.Core.Path.{_≡_}
+use mathlib.Core.List.{List, []}
+use Prim.Native.Nat.{ℕ, _+_, _≤_, _<_}
+use native.Mathlib.Omega.{arith}
+use lib.ListN.{length, getD}
+use Rattle.names.specs.Writer.{Stored}
+use Rattle.reports.specs.declared.Message.{Message}
+use Rattle.reports.specs.Messages.{part, words}
+use Rattle.reports.specs.Messages.Laws.{firstOf, pieces, pieces-last, piece-is}
+use mir.Syntax.{w64}
+use mir.Val.{Fits}
+use borrow.Author.Needs.{needs, fits-under}
+use Rattle.reports.proofs.pieces.put_piece.Statement.{statement}
+use Rattle.reports.proofs.pieces.put_piece.Tie as tie
+
+-- n is the place of the message's first text
+module _ (m : Message) (i : ℕ) (inside : i ≤ words m) (n : ℕ) (is : n ≡ firstOf m) where
+  in-table : n + i < 29
+  in-table = omega (arith, pieces-last m)
+
+  sum-fits : Fits w64 (n + i)
+  sum-fits = fits-under w64 (n + i) 29 in-table tt
+
+  room : (at : ℕ) (s : List ℕ) → at + length (part m i) ≤ length s → at + length (getD pieces (n + i) []) ≤ length s
+  room at s h = rw (is, piece-is m i inside) h
+
+  stored : {s s′ : List ℕ} {at r : ℕ} → Stored s at (getD pieces (n + i) []) s′ r → Stored s at (part m i) s′ r
+  stored w = rw (is, piece-is m i inside) at w
+
+ruleset steps = (needs, in-table, sum-fits, room, stored)
+
+first-piece-requires : tie.Need-first-piece-requires
+first-piece-requires c κs = search steps
+
+add-put-text : tie.Need-add-put-text
+add-put-text c = search steps
+
+put-text-requires : tie.Need-put-text-requires
+put-text-requires c κs = search steps
+
+same-length : tie.Need-same-length
+same-length c = search steps
+
+returns : tie.Need-returns
+returns c = search steps
+
+pub put-piece-spec : {M : Type 1} → statement M
+put-piece-spec =
+    tie.close (tie.spec first-piece-requires add-put-text put-text-requires same-length returns)

@@ -1,0 +1,10 @@
+pub mod Reports
+pub mod Decode
+pub mod Kept
+pub mod Sink
+pub mod Pairs
+pub mod Sets
+pub mod Once
+pub mod Answers
+pub mod Messages
+pub mod Examples

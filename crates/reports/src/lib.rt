@@ -1,0 +1,46 @@
+// Reports in a lent buffer: each a message with its start and end, as many whole ones as fit.
+mod buffer;
+mod earlier;
+mod pieces;
+
+pub use buffer::answer_of;
+pub use buffer::append_report;
+pub use buffer::has_room;
+pub use buffer::one_more;
+pub use buffer::push_report;
+pub use buffer::push_scratch;
+pub use buffer::put_header;
+pub use buffer::refused;
+pub use buffer::stopped;
+pub use pieces::put_last;
+pub use pieces::put_part;
+pub use pieces::put_piece;
+pub use pieces::text_size;
+
+// What the buffer holds: the bytes used, the reports in them, and whether one did not fit.
+pub struct State {
+    pub used: usize,
+    pub count: usize,
+    pub full: bool,
+}
+
+// What a run answers: the number of a refusal, 0 for none; the record that it is about, 0 for none; how many reports the buffer holds.
+#[repr(C)]
+pub struct Answer {
+    pub number: u8,
+    pub record: u8,
+    pub count: usize,
+}
+
+// The messages, each a `format!` of the Rust.
+pub enum Message {
+    WrongArgument,
+    WrongTimepoint,
+    NotNumeric,
+    UnlikeTypes,
+    WildcardInside,
+    NotLong,
+    CannotSum,
+    CannotSumTimepoint,
+    CannotSumDecimal,
+}
