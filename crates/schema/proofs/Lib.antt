@@ -1,0 +1,14 @@
+-- Laws that several proofs cite.
+pub mod ByKind
+pub mod Rows
+pub mod Levels
+pub mod Fields
+pub mod TypeViews
+pub mod Bases
+pub mod Views
+pub mod Search
+pub mod Entities
+pub mod Among
+pub mod TypeNames
+pub mod ActionRow
+pub mod Examples
