@@ -1,0 +1,43 @@
+// The target record and the path record: which bytes are one, and what stands in them.
+mod list;
+mod query;
+mod read;
+mod scope;
+
+pub use list::count;
+pub use list::first_target;
+pub use list::id_of;
+pub use list::namespace_of;
+pub use list::next_target;
+pub use list::target_at;
+pub use query::path_at;
+pub use query::path_len;
+pub use query::path_position;
+pub use query::path_side;
+pub use read::read_path;
+pub use read::read_targets;
+pub use scope::narrowing_at;
+pub use scope::principal;
+pub use scope::principal_at;
+pub use scope::resource;
+pub use scope::resource_at;
+
+// What a rule's scope says of a side; a type name is the position of its length byte.
+pub enum Narrowed {
+    Absent,
+    Any,
+    IsType(usize),
+    Uid(usize),
+    Member(usize),
+}
+
+// What a lookup by position gives: where the target stands.
+pub enum Found {
+    At(usize),
+    Absent,
+}
+
+pub enum Side {
+    Principal,
+    Resource,
+}
