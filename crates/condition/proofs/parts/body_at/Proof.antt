@@ -1,0 +1,10 @@
+-- `condition::parts::body_at` meets its contract. Assumes nothing.
+use Rattle.condition.proofs.Opens.{bodies}
+use Rattle.condition.proofs.parts.body_at.Statement.{statement}
+use Rattle.condition.proofs.parts.body_at.Tie as tie
+
+pub body-at-spec : {M : Type 1} → statement M
+body-at-spec =
+    tie.close
+    (tie.spec
+    (λ c κs. search bodies) (λ c. search bodies) (λ c κs. search bodies) (λ c κs. search bodies) (λ c. search bodies) (λ c. search bodies) (λ c κs. search bodies) (λ c. search bodies))

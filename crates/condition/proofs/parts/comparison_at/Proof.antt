@@ -1,0 +1,11 @@
+-- `condition::parts::comparison_at` meets its contract. Assumes nothing.
+use native.Mathlib.Omega.{arith}
+use Rattle.condition.proofs.Opens.{condition-room}
+use Rattle.condition.proofs.Pieces.{pieces, comparison-index}
+use Rattle.condition.proofs.parts.comparison_at.Statement.{statement}
+use Rattle.condition.proofs.parts.comparison_at.Tie as tie
+
+pub comparison-at-spec : {M : Type 1} → statement M
+comparison-at-spec =
+    tie.close
+    (tie.spec (λ c. omega (arith, condition-room _ _ (c .before .pre .0))) (λ c. search pieces) (λ c. omega (arith, comparison-index _ _ (c .before .before .pre .0) (c .before .before .pre .1))) (λ c κs. search pieces) (λ c. search pieces))

@@ -1,0 +1,10 @@
+-- `condition::parts::u32_at` meets its contract. Assumes nothing.
+use Rattle.condition.proofs.Pieces.{pieces}
+use Rattle.condition.proofs.parts.u32_at.Statement.{statement}
+use Rattle.condition.proofs.parts.u32_at.Tie as tie
+
+pub u32-at-spec : {M : Type 1} → statement M
+u32-at-spec =
+    tie.close
+    (tie.spec
+    (λ c. search pieces) (λ c κs. search pieces) (λ c. search pieces) (λ c. search pieces) (λ c κs. search pieces) (λ c. search pieces) (λ c. search pieces) (λ c κs. search pieces) (λ c. search pieces) (λ c. search pieces) (λ c κs. search pieces) (λ c κs. search pieces) (λ c. search pieces))

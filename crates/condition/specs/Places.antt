@@ -1,0 +1,83 @@
+-- What a position of an accepted condition record stands for. A law says that what is read with fewer levels left is read alike with all 32, so a
+-- position alone denotes a condition, a term, a list of arguments; where none stands there, any.
+use Prim.Native.Nat.{ℕ}
+use mathlib.Core.Bool.{Bool, false}
+use mathlib.Core.List.{List, []}
+use Rattle.names.specs.Fields.{Reader, levels, whole}
+use Rattle.names.specs.Paths.{pathOf}
+use Rattle.names.specs.Read.{accepted, valueOr}
+use Rattle.condition.specs.Condition.{Span, Condition, Term, Terms, Arguments, Aggregate, Slot, Annotation, Binder, opaque, wildcard, noArgument, nil, call, paramRef, timepoint, conditionAt, termAt, arguments, elements, aggregateOf, slot, annotation, binder, conditionRecord}
+
+abbrev pub nowhere : Span
+nowhere = record { start = 0; end = 0 }
+
+-- the record is accepted, and its condition
+abbrev pub isRecord : List ℕ → Bool
+isRecord s = accepted (whole conditionRecord s)
+
+unfoldable pub recordIn : List ℕ → Condition
+recordIn s = valueOr (opaque nowhere) (whole conditionRecord s)
+
+-- a condition stands there, and the condition
+abbrev pub isCondition : List ℕ → ℕ → Bool
+isCondition s at = accepted (conditionAt levels s at)
+
+unfoldable pub conditionIn : List ℕ → ℕ → Condition
+conditionIn s at = valueOr (opaque nowhere) (conditionAt levels s at)
+
+-- a term
+abbrev pub isTerm : List ℕ → ℕ → Bool
+isTerm s at = accepted (termAt levels false s at)
+
+unfoldable pub termIn : List ℕ → ℕ → Term
+termIn s at = valueOr wildcard (termAt levels false s at)
+
+-- an aggregate, from its own kind byte on
+abbrev pub aggregateAt : Reader Aggregate
+aggregateAt = aggregateOf (conditionAt levels) (termAt levels)
+
+abbrev pub isAggregate : List ℕ → ℕ → Bool
+isAggregate s at = accepted (aggregateAt s at)
+
+unfoldable pub aggregateIn : List ℕ → ℕ → Aggregate
+aggregateIn s at = valueOr (call nowhere) (aggregateAt s at)
+
+-- so many arguments of a predicate
+abbrev pub isArguments : List ℕ → ℕ → ℕ → Bool
+isArguments s n at = accepted (arguments (conditionAt levels) (termAt levels) n s at)
+
+unfoldable pub argumentsIn : List ℕ → ℕ → ℕ → Arguments
+argumentsIn s n at = valueOr noArgument (arguments (conditionAt levels) (termAt levels) n s at)
+
+-- so many elements of an array
+abbrev pub isElements : List ℕ → ℕ → ℕ → Bool
+isElements s n at = accepted (elements (conditionAt levels) (termAt levels) n s at)
+
+unfoldable pub elementsIn : List ℕ → ℕ → ℕ → Terms
+elementsIn s n at = valueOr nil (elements (conditionAt levels) (termAt levels) n s at)
+
+-- a path of plain strings
+abbrev pub isPath : List ℕ → ℕ → Bool
+isPath s at = accepted (pathOf s at)
+
+unfoldable pub pathIn : List ℕ → ℕ → List (List ℕ)
+pathIn s at = valueOr [] (pathOf s at)
+
+-- a slot, an annotation, a binder
+abbrev pub isSlot : List ℕ → ℕ → Bool
+isSlot s at = accepted (slot s at)
+
+unfoldable pub slotIn : List ℕ → ℕ → Slot
+slotIn s at = valueOr paramRef (slot s at)
+
+abbrev pub isAnnotation : List ℕ → ℕ → Bool
+isAnnotation s at = accepted (annotation s at)
+
+unfoldable pub annotationIn : List ℕ → ℕ → Annotation
+annotationIn s at = valueOr timepoint (annotation s at)
+
+abbrev pub isBinder : List ℕ → ℕ → Bool
+isBinder s at = accepted (binder s at)
+
+unfoldable pub binderIn : List ℕ → ℕ → Binder
+binderIn s at = valueOr (record { slot = paramRef; annotation = timepoint }) (binder s at)
