@@ -1,0 +1,38 @@
+-- `resolution::all::over_types` meets its contract. Assumes nothing.
+use mathlib.Core.List.{_∷_}
+use Rattle.names.specs.Read.{wordAt}
+use Rattle.schema.specs.Places.{schemaIn}
+use Rattle.targets.specs.Places.{narrowed}
+use Rattle.resolution.specs.Resolution.{scopePath}
+use Rattle.resolution.specs.Places.{segmentsIn, typesIn}
+use Rattle.resolution.specs.Passes.{briefly}
+use Rattle.resolution.proofs.AllTypes.{Passing, passing}
+use Rattle.resolution.proofs.all.over_types.Statement.{statement}
+use Rattle.resolution.proofs.all.over_types.Tie as tie
+
+abbrev Inv-loop : tie.InvT-loop
+Inv-loop s n narrowing c head rest left₀ known₀ left known = Passing s c (narrowed n narrowing) head rest (briefly (scopePath (schemaIn s) (narrowed n narrowing) (typesIn s left₀) (wordAt c head ∷ segmentsIn c rest))) left known
+
+abbrev μ-loop : tie.MeasureT-loop
+μ-loop s n narrowing c head rest left₀ known₀ left known = left .count
+
+pub over-types-spec : {M : Type 1} → statement M
+over-types-spec =
+    tie.close
+    (tie.spec
+    Inv-loop
+    μ-loop
+    (λ c. search passing)
+    (λ c κs. search passing)
+    (λ c. search passing)
+    (λ c. search passing)
+    (λ c. search passing)
+    (λ c κs. search passing)
+    (λ c κs. search passing)
+    (λ c. search passing)
+    (λ c. search passing)
+    (λ c. search passing)
+    (λ c κs. search passing)
+    (λ c κs. search passing)
+    (λ c. search passing)
+    (λ c. search passing))

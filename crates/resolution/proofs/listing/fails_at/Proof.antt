@@ -1,0 +1,17 @@
+-- `resolution::listing::fails_at` meets its contract. Assumes nothing.
+use Rattle.resolution.proofs.Failing.{failures}
+use Rattle.resolution.proofs.listing.fails_at.Statement.{statement}
+use Rattle.resolution.proofs.listing.fails_at.Tie as tie
+
+pub fails-at-spec : {M : Type 1} → statement M
+fails-at-spec =
+    tie.close
+    (tie.spec
+    (λ c κs. search failures)
+    (λ c κs. search failures)
+    (λ c. search failures)
+    (λ c. search failures)
+    (λ c. search failures)
+    (λ c κs. search failures)
+    (λ c κs. search failures)
+    (λ c. search failures))

@@ -1,0 +1,36 @@
+-- `resolution::ordering::rendering_from` meets its contract. Assumes nothing.
+use mathlib.Core.List.{_∷_}
+use mathlib.Core.Option.{none}
+use Rattle.names.specs.Lists.{select}
+use Rattle.names.specs.Read.{wordAt}
+use Rattle.schema.specs.Places.{schemaIn}
+use Rattle.targets.specs.Places.{narrowed}
+use Rattle.resolution.specs.Resolution.{admittedBy}
+use Rattle.resolution.specs.Places.{segmentsIn, typesIn, typedOf}
+use Rattle.resolution.specs.Passes.{rendered}
+use Rattle.resolution.proofs.Texts.{picked}
+use Rattle.resolution.proofs.Rendered.{Picking, picking}
+use Rattle.resolution.proofs.ordering.rendering_from.Statement.{statement}
+use Rattle.resolution.proofs.ordering.rendering_from.Tie as tie
+
+abbrev Inv-loop : tie.InvT-loop
+Inv-loop s n narrowing c head rest last left₀ best₀ left best = Picking s c (schemaIn s) (narrowed n narrowing) (wordAt c head ∷ segmentsIn c rest) (rendered (typedOf s c last)) (picked (schemaIn s) (wordAt c head ∷ segmentsIn c rest) (rendered (typedOf s c last)) none (select (admittedBy (schemaIn s) (narrowed n narrowing)) (typesIn s left₀))) left best
+
+abbrev μ-loop : tie.MeasureT-loop
+μ-loop s n narrowing c head rest last left₀ best₀ left best = left .count
+
+pub rendering-from-spec : {M : Type 1} → statement M
+rendering-from-spec =
+    tie.close
+    (tie.spec
+    Inv-loop
+    μ-loop
+    (λ c. search picking)
+    (λ c κs. search picking)
+    (λ c. search picking)
+    (λ c. search picking)
+    (λ c. search picking)
+    (λ c κs. search picking)
+    (λ c κs. search picking)
+    (λ c. search picking)
+    (λ c. search picking))
