@@ -1,0 +1,7 @@
+-- Laws that several proofs cite.
+pub mod Plain
+pub mod Arrays
+pub mod Fields
+pub mod Roots
+pub mod Under
+pub mod Examples

@@ -1,0 +1,6 @@
+pub mod Terms
+pub mod Facts
+pub mod Bounds
+pub mod Literals
+pub mod Answers
+pub mod Examples

@@ -1,0 +1,112 @@
+-- The flat environment of a condition, and the types of terms in it.
+use Prim.Native.Nat.{ℕ}
+use mathlib.Core.Bool.{Bool, true, false, cond, _&&_, _||_}
+use mathlib.Core.List.{List, [], _∷_}
+use mathlib.Core.Option.{Option, none, some}
+use Rattle.names.specs.Lists.{maybe}
+use Rattle.names.specs.Names.{same, simpleName, lastOf}
+use Rattle.condition.specs.Walk.{binders, lastNamed}
+use Rattle.names.specs.Text.{text}
+use Rattle.types.specs.Types as types
+use Rattle.types.specs.Types.{Ty, scalar, anyArray, mixedArray, sameType}
+use Rattle.schema.specs.Schema.{Schema, Action, Declared}
+use Rattle.targets.specs.Targets.{Narrowing, Scope}
+use Rattle.schema.specs.Find.{fieldsOf, findAttribute, richType}
+use Rattle.resolution.specs.Resolution.{contextType, scopeType, ScopePath, scopePath}
+use Rattle.condition.specs.Condition as condition
+use Rattle.condition.specs.Condition.{Condition, Term, Terms, Annotation, timepoint, path, Literal, entity, literal, contextField, scopeField, var, wildcard, array, aggregate, arith, sigil, nil, cons}
+
+-- the type that a word names: a word of the language, or an entity type
+unfoldable pub wordType : List ℕ → Ty
+wordType w =
+    cond (same w (text "Long")) (scalar types.long)
+    (cond (same w (text "String")) (scalar types.string)
+    (cond (same w (text "Bool") || same w (text "Boolean")) (scalar types.bool)
+    (cond (same w (text "decimal") || same w (text "Decimal")) (scalar types.decimal)
+    (types.entity (some w)))))
+
+-- `rich_type_of_annotation`: the type of a named annotation is its last segment's
+unfoldable pub annotationType : Annotation → Ty
+annotationType timepoint = scalar types.timepoint
+annotationType (path segments) = wordType (lastOf segments)
+
+-- what a condition is checked under: the schema, the rule's scope, the target's action if it is declared, and the whole condition
+pub record Facts : Type 0 where
+  pub schema : Schema
+  pub scope : Scope
+  pub action : Option Action
+  pub whole : Condition
+
+-- the type of an attribute of a record
+unfoldable pub fieldType : List ℕ → Declared → Option Ty
+fieldType name t = maybe none (λ fields. maybe none (λ u. some (richType u)) (findAttribute fields name)) (fieldsOf t)
+
+-- the type of an `input` field of the action's context
+unfoldable pub inputType : Option Action → List ℕ → Option Ty
+inputType action name =
+    maybe none
+    (λ a. maybe none (λ fields. maybe none (fieldType name) (findAttribute fields (text "input"))) (fieldsOf (a .context)))
+    action
+
+-- a name's type in the flat environment (`build_type_env`): by the last binder of that name, else by the input field
+unfoldable pub varType : Facts → List ℕ → Option Ty
+varType f name =
+    maybe (inputType (f .action) name) (λ a. some (annotationType a)) (lastNamed name (binders (f .whole)))
+
+abbrev pub ifResolved : ScopePath → Option Ty
+ifResolved (ScopePath.resolved t) = some t
+ifResolved (ScopePath.missing seg es) = none
+ifResolved (ScopePath.nonRecord seg) = none
+ifResolved (ScopePath.ambiguous ts) = none
+ifResolved ScopePath.unknown = none
+
+-- one side of the scope: the bare root, or a path of its attributes
+unfoldable pub sideType : Schema → Option Narrowing → List (List ℕ) → List (List ℕ) → Option Ty
+sideType s n candidates [] = scopeType s n candidates
+sideType s n candidates (seg ∷ rest) = ifResolved (scopePath s n candidates (seg ∷ rest))
+
+-- `principal` or `resource`, and what stands after it; another root has no type
+unfoldable pub rootType : Facts → Action → List (List ℕ) → Option Ty
+rootType f a [] = none
+rootType f a (root ∷ tail) =
+    cond (same root (text "principal")) (sideType (f .schema) (f .scope .principal) (a .principals) tail)
+    (cond (same root (text "resource")) (sideType (f .schema) (f .scope .resource) (a .resources) tail) none)
+
+-- `scope_field_type`
+unfoldable pub scopeFieldType : Facts → List (List ℕ) → Option Ty
+scopeFieldType f p = maybe none (λ a. rootType f a p) (f .action)
+
+abbrev pub literalType : Literal → Ty
+literalType condition.integer = scalar types.long
+literalType condition.decimal = scalar types.decimal
+literalType condition.string = scalar types.string
+literalType condition.bool = scalar types.bool
+
+-- whether all of some types are known and like the first (the Rust's clause for two numeric types adds nothing: only Long is numeric)
+unfoldable pub allLike : Ty → List (Option Ty) → Bool
+allLike t [] = true
+allLike t (none ∷ rest) = false
+allLike t (some u ∷ rest) = sameType u t && allLike t rest
+
+unfoldable pub arrayOf : List (Option Ty) → Ty
+arrayOf [] = anyArray
+arrayOf (none ∷ rest) = mixedArray
+arrayOf (some t ∷ rest) = cond (allLike t rest) (types.array t) mixedArray
+
+-- a term's type (`term_type`) under the facts; an array's elements are typed without any (`array_literal_type`), so that no name and no path among them has a type
+unfoldable mutual
+  pub termType : Option Facts → Term → Option Ty
+  termType f (entity n) = some (types.entity (some (simpleName n)))
+  termType f (literal l) = some (literalType l)
+  termType f (contextField p) = maybe none (λ g. contextType (g .action) p) f
+  termType f (scopeField p) = maybe none (λ g. scopeFieldType g p) f
+  termType f (var v) = maybe none (λ g. varType g v) f
+  termType f wildcard = none
+  termType f (array ts) = some (arrayOf (elementTypes ts))
+  termType f (aggregate a) = some (scalar types.long)
+  termType f (arith l r) = some (scalar types.long)
+  termType f sigil = none
+
+  pub elementTypes : Terms → List (Option Ty)
+  elementTypes nil = []
+  elementTypes (cons t ts) = termType none t ∷ elementTypes ts

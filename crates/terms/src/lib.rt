@@ -1,0 +1,34 @@
+// The facts of a target, and the types that terms have under them.
+mod env;
+mod literals;
+mod scope;
+mod target;
+mod term;
+
+pub use env::var_type;
+use resolution::Typed;
+use schema::Found;
+pub use target::facts_of;
+use targets::Narrowed;
+pub use term::term_type;
+use types::Rich;
+
+// What a condition is checked under, beside the bytes: where the target's action stands, if it is declared, and what the scope says of each side.
+pub struct Facts {
+    pub action: Found,
+    pub principal: Narrowed,
+    pub resource: Narrowed,
+}
+
+// A term's type, and the place behind the term.
+pub struct Element {
+    pub typed: Typed,
+    pub next: usize,
+}
+
+// The elements of an array seen so far: none, all of one type, or mixed.
+pub enum Seen {
+    Empty,
+    Like(Rich),
+    Mixed,
+}
