@@ -1,0 +1,7 @@
+pub mod Composing
+pub mod Judging
+pub mod AtNode
+pub mod Namespaces
+pub mod Argued
+pub mod Running
+pub mod Examples

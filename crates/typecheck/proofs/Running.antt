@@ -1,0 +1,197 @@
+-- The run: each reached node under a target, each target, and the records that are read before them. Assumes nothing.
+use mathlib.Core.Path.{_≡_, refl, sym, ap, _∙_}
+use mathlib.Core.Bool.{Bool, true, false, true≢false}
+use mathlib.Core.List.{List, [], _∷_}
+use mathlib.Core.Option.{Option, none, some}
+use Prim.Native.Nat.{ℕ, _+_, _-_, _≤_, _<_}
+use native.Mathlib.Omega.{arith}
+use borrow.Author.Needs.{needs}
+use lib.ListN.{length, drop, length-drop}
+use lib.Seq.{length-take-le}
+use Rattle.names.specs.Lists.{maybe, gather}
+use Rattle.names.specs.Fields.{Got, got, bad, whole}
+use Rattle.names.specs.Read.{ending, readNumber, valueOr, Listed}
+use Rattle.names.specs.declared.Read.{Read}
+use Rattle.names.specs.declared.Read.the-variants as Read
+use Rattle.names.proofs.Laws.{accept, passes}
+use Rattle.names.proofs.Row.{listed-first, listed-over}
+use Rattle.schema.specs.Schema.{Schema, Action, schemaRecord}
+use Rattle.schema.specs.Find.{findAction}
+use Rattle.schema.specs.Places.{isSchema, schemaIn, isAction, actionIn, foundIn, foundStands, FindsAction}
+use Rattle.schema.specs.declared.Found.{Found}
+use Rattle.schema.specs.declared.Found.the-variants as Found
+use Rattle.targets.specs.Targets.{Scope, Target, Targets, target, targetRecord}
+use Rattle.targets.specs.Places.{areTargets, targetsIn, isTarget, targetIn}
+use Rattle.condition.specs.Condition.{Condition, conditionRecord}
+use Rattle.condition.specs.Places.{isRecord, recordIn, conditionIn}
+use Rattle.condition.specs.Walk.{reached}
+use Rattle.condition.specs.Index.{nodesOf, Index, Reached}
+use Rattle.resolution.specs.Resolution.{admitsAnyEnv}
+use Rattle.reports.specs.Reports.{Breach}
+use Rattle.reports.specs.declared.State.{State}
+use Rattle.reports.specs.declared.Answer.{Answer}
+use Rattle.reports.specs.Sink.{Sink, sink, start, Sound, push, pushAll}
+use Rattle.reports.specs.Sink.Laws.{Reporting, reporting-begins, reporting-over, push-next, push-none, sound-start}
+use Rattle.reports.specs.Answers.{outcomeOf, Answers, Refuses, pushed}
+use Rattle.terms.specs.declared.Facts.{Facts}
+use Rattle.terms.specs.Facts.{factsIn, Known, FactsOf}
+use Rattle.typecheck.specs.Check.{nodeBreaches, factsOf, breachesUnder, checked, check}
+use Rattle.typecheck.specs.Ready.{Ready}
+
+-- ---- the reached nodes
+
+none-left : {A : Type 0} (xs : List A) → length xs ≤ 0 → xs ≡ []
+none-left [] h = refl
+none-left (x ∷ xs) h = absurd (omega arith)
+
+module _ (f : Condition → List Breach) (c : List ℕ) where
+  pub nodes-begin : (s : Sink) → Sound s → Reporting push f (pushAll s (gather f (nodesOf c))) s (drop 0 (nodesOf c))
+  nodes-begin s p = reporting-begins f push s (nodesOf c) p
+
+  module _ (all now : Sink) (i : ℕ) (r : Reporting push f all now (drop i (nodesOf c))) where
+    pub nodes-turn : (at : ℕ) → Reached c i at → {next : Sink} → next ≡ pushAll now (f (conditionIn c at)) → Reporting push f all next (drop (i + 1) (nodesOf c))
+    nodes-turn at h e = push-next f (rw (h .rest) at r) e
+
+    pub nodes-over : (places : List ℕ) → Index c places → length places ≤ i → now ≡ all
+    nodes-over places x h =
+        let e : drop i (nodesOf c) ≡ [] = none-left (drop i (nodesOf c)) (rw length-drop (omega (arith, x .size))) in
+        reporting-over f (rw e at r)
+
+pub ruleset each-node = (needs, nodes-begin, nodes-turn, nodes-over)
+
+-- ---- under a target
+
+module _ (s c n places : List ℕ) (found : Found) (f : Facts) (k : FactsOf n found f) where
+  pub facts-known : Ready s c n places → foundStands (isAction s) found ≡ true → Known s c places f
+  facts-known r h = record { schema = r .schema; condition = r .condition; index = r .index; action = rw (k .action) h }
+
+  pub under-facts : (now : Sink) {next : Sink} → next ≡ pushAll now (gather (nodeBreaches (factsIn s c n f)) (nodesOf c))
+      → next ≡ pushAll now (gather (nodeBreaches (factsOf (schemaIn s) (recordIn c) (targetsIn n .scope) (foundIn (actionIn s) found))) (nodesOf c))
+  under-facts now g =
+      let e : factsIn s c n f ≡ factsOf (schemaIn s) (recordIn c) (targetsIn n .scope) (foundIn (actionIn s) found) =
+      λ i. record { schema = schemaIn s; scope = k .scope i; action = foundIn (actionIn s) (k .action i); whole = recordIn c } in
+      rw e at g
+
+pub ruleset by-action = (needs, facts-known, under-facts)
+
+module _ (s n : List ℕ) (found : Found) (p : ℕ) (e : found ≡ Found.At p) where
+  pub action-stands : foundStands (isAction s) found ≡ true → isAction s p ≡ true
+  action-stands h = rw e at h
+
+  pub admitted : {b : Bool} → b ≡ admitsAnyEnv (schemaIn s) (targetsIn n .scope) (actionIn s p) → b ≡ maybe true (admitsAnyEnv (schemaIn s) (targetsIn n .scope)) (foundIn (actionIn s) found)
+  admitted h = rw e h
+
+pub ruleset whether-checked = (needs, action-stands, admitted)
+
+module _ (s : Schema) (c : Condition) (scope : Scope) (t : Target) where
+  under-checked : (o : Option Action) → o ≡ findAction s (t .namespace) (t .id) → maybe true (admitsAnyEnv s scope) o ≡ true
+      → gather (nodeBreaches (factsOf s c scope o)) (reached c) ≡ breachesUnder s c scope t
+  unfolding breachesUnder
+  under-checked none e h = rw (← e)
+  under-checked (some a) e h = rw (← e, h)
+
+  under-skipped : (o : Option Action) → o ≡ findAction s (t .namespace) (t .id) → maybe true (admitsAnyEnv s scope) o ≡ false → [] ≡ breachesUnder s c scope t
+  unfolding breachesUnder
+  under-skipped none e h = absurd (true≢false h)
+  under-skipped (some a) e h = rw (← e, h)
+
+module _ (s c n : List ℕ) (at : ℕ) (w : List ℕ) (is-w : w ≡ targetIn n at .namespace) (v : List ℕ) (is-v : v ≡ targetIn n at .id) (x : Found) (finds : FindsAction s (findAction (schemaIn s) w v) x)
+    (b : Bool) (is-b : b ≡ maybe true (admitsAnyEnv (schemaIn s) (targetsIn n .scope)) (foundIn (actionIn s) x)) (now : Sink) where
+  looked-up : foundIn (actionIn s) x ≡ findAction (schemaIn s) (targetIn n at .namespace) (targetIn n at .id)
+  looked-up = rw (← is-w, ← is-v) (finds .value)
+
+  pub target-checked : b ≡ true → {next : Sink} → next ≡ pushAll now (gather (nodeBreaches (factsOf (schemaIn s) (recordIn c) (targetsIn n .scope) (foundIn (actionIn s) x))) (nodesOf c))
+      → next ≡ pushAll now (breachesUnder (schemaIn s) (recordIn c) (targetsIn n .scope) (targetIn n at))
+  target-checked h g = g ∙ ap (pushAll now) (under-checked (schemaIn s) (recordIn c) (targetsIn n .scope) (targetIn n at) (foundIn (actionIn s) x) looked-up (sym is-b ∙ h))
+
+  pub target-skipped : b ≡ false → now ≡ pushAll now (breachesUnder (schemaIn s) (recordIn c) (targetsIn n .scope) (targetIn n at))
+  target-skipped h = push-none now ∙ ap (pushAll now) (under-skipped (schemaIn s) (recordIn c) (targetsIn n .scope) (targetIn n at) (foundIn (actionIn s) x) looked-up (sym is-b ∙ h))
+
+pub ruleset one-target = (needs, target-checked, target-skipped)
+
+-- ---- each target
+
+pub record TargetsLeft (f : Target → List Breach) (n : List ℕ) (all now : Sink) (rest at : ℕ) : Type 0 where
+  pub left : List Target
+  pub there : Listed target n left rest at
+  pub reporting : Reporting push f all now left
+
+module _ (f : Target → List Breach) (n : List ℕ) where
+  pub targets-begin : (s : Sink) (list : List Target) (rest at : ℕ) → rest ≡ length list → Listed target n list (length list) at → Sound s → TargetsLeft f n (pushAll s (gather f list)) s rest at
+  targets-begin s list rest at e l p = record { left = list; there = rw e l; reporting = reporting-begins f push s list p }
+
+  module _ (all now : Sink) (rest at : ℕ) (l : TargetsLeft f n all now rest at) where
+    pub targets-over : rest ≤ 0 → now ≡ all
+    targets-over h = reporting-over f (rw (listed-over target n (l .left) rest at h (l .there)) at (l .reporting))
+
+    module _ (h : 0 < rest) where
+      pub targets-stand : isTarget n at ≡ true
+      targets-stand = listed-first target n (record { namespace = []; id = [] }) (l .left) rest at h (l .there) .stands
+
+      pub targets-turn : {next : Sink} → next ≡ pushAll now (f (targetIn n at)) → (m : ℕ) → Read.Next m ≡ ending (target n at) → TargetsLeft f n all next (rest - 1) m
+      targets-turn e m g =
+          let d = listed-first target n (record { namespace = []; id = [] }) (l .left) rest at h (l .there) in
+          record { left = d .others; there = d .on m g; reporting = push-next f (rw (d .value) at (l .reporting)) e }
+
+pub ruleset each-target = (needs, targets-begin, targets-over, targets-stand, targets-turn)
+
+-- ---- the records
+
+pub all-checked : (s : Schema) (c : Condition) (ts : Targets) (b : List ℕ) {t : List ℕ} {st : State} → sink t st ≡ pushAll (start b) (gather (breachesUnder s c (ts .scope)) (ts .list)) → {r : Answer} → Answers st r → outcomeOf r t ≡ checked s c ts b
+unfolding checked
+all-checked s c ts b e a = pushed b (gather (breachesUnder s c (ts .scope)) (ts .list)) e a
+
+pub all-ready : (s c n places : List ℕ) → isSchema s ≡ true → isRecord c ≡ true → areTargets n ≡ true → Index c places → Ready s c n places
+all-ready s c n places a b d x = record { schema = a; condition = b; targets = d; index = x }
+
+pub ruleset indexed = (needs, length-take-le, sound-start, all-ready, all-checked)
+
+refused-by : {A : Type 0} (g : Got A) (x : Read) (r : ℕ) → x ≡ ending g → x ≡ Read.Refused r → g ≡ bad r
+unfolding ending
+refused-by (got a n) x r e f = let z : _≡_ {A = ℕ} 0 1 = cc in absurd (omega arith)
+refused-by (bad k) x r e f = let h : k ≡ r = cc in rw h
+
+refuses : {r k : ℕ} {x : Read} → x ≡ Read.Refused r → k ≡ readNumber x → k ≡ r
+refuses e f = f ∙ rw e
+
+module _ (s c n b : List ℕ) (x : Read) (is-x : x ≡ ending (whole schemaRecord s)) where
+  pub schema-refused : (r : ℕ) → x ≡ Read.Refused r → (k : ℕ) → k ≡ readNumber x → (a : Answer) → Refuses k 1 a → outcomeOf a b ≡ check s c n b
+  unfolding check
+  schema-refused r e k f a i = rw (refused-by (whole schemaRecord s) x r is-x e, ← refuses e f) (i .is b)
+
+  module _ (p : ℕ) (e : x ≡ Read.Next p) where
+    pub schema-read : isSchema s ≡ true
+    schema-read = passes (whole schemaRecord s) is-x e
+
+    module _ (y : Read) (is-y : y ≡ ending (whole conditionRecord c)) where
+      pub condition-refused : (r : ℕ) → y ≡ Read.Refused r → (k : ℕ) → k ≡ readNumber y → (a : Answer) → Refuses k 2 a → outcomeOf a b ≡ check s c n b
+      unfolding check
+      condition-refused r d k f a i =
+          let g = accept (whole schemaRecord s) schema-read in
+          rw (g .read, refused-by (whole conditionRecord c) y r is-y d, ← refuses d f) (i .is b)
+
+      module _ (p′ : ℕ) (e′ : y ≡ Read.Next p′) where
+        pub condition-read : isRecord c ≡ true
+        condition-read = passes (whole conditionRecord c) is-y e′
+
+        module _ (z : Read) (is-z : z ≡ ending (whole targetRecord n)) where
+          pub targets-refused : (r : ℕ) → z ≡ Read.Refused r → (k : ℕ) → k ≡ readNumber z → (a : Answer) → Refuses k 3 a → outcomeOf a b ≡ check s c n b
+          unfolding check
+          targets-refused r d k f a i =
+              let g = accept (whole schemaRecord s) schema-read in
+              let h = accept (whole conditionRecord c) condition-read in
+              rw (g .read, h .read, refused-by (whole targetRecord n) z r is-z d, ← refuses d f) (i .is b)
+
+          module _ (p″ : ℕ) (e″ : z ≡ Read.Next p″) where
+            pub targets-read : areTargets n ≡ true
+            targets-read = passes (whole targetRecord n) is-z e″
+
+            pub records-checked : (a : Answer) (t : List ℕ) → outcomeOf a t ≡ checked (schemaIn s) (recordIn c) (targetsIn n) b → outcomeOf a t ≡ check s c n b
+            unfolding check valueOr recordIn
+            records-checked a t i =
+                let u = accept (whole schemaRecord s) schema-read in
+                let v = accept (whole conditionRecord c) condition-read in
+                let w = accept (whole targetRecord n) targets-read in
+                i ∙ rw (u .read, v .read, w .read)
+
+pub ruleset reading = (needs, schema-refused, schema-read, condition-refused, condition-read, targets-refused, targets-read, records-checked)

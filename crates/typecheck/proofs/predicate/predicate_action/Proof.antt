@@ -1,0 +1,25 @@
+-- `typecheck::predicate::predicate_action` meets its contract. Assumes nothing.
+use Rattle.typecheck.proofs.Namespaces.{named-action}
+use Rattle.typecheck.proofs.predicate.predicate_action.Statement.{statement}
+use Rattle.typecheck.proofs.predicate.predicate_action.Tie as tie
+
+namespace-of-requires : tie.Need-namespace-of-requires
+namespace-of-requires c κs = search named-action
+
+word-requires : tie.Need-word-requires
+word-requires c κs = search named-action
+
+action-requires : tie.Need-action-requires
+action-requires c κs = search named-action
+
+returns : tie.Need-returns
+returns c = search named-action
+
+pub predicate-action-spec : {M : Type 1} → statement M
+predicate-action-spec =
+    tie.close
+    (tie.spec
+    namespace-of-requires
+    word-requires
+    action-requires
+    returns)

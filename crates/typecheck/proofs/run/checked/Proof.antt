@@ -1,0 +1,41 @@
+-- `typecheck::run::checked` meets its contract. Assumes nothing.
+use Rattle.typecheck.proofs.Running.{indexed}
+use Rattle.typecheck.proofs.run.checked.Statement.{statement}
+use Rattle.typecheck.proofs.run.checked.Tie as tie
+
+slice-aggregate-index-record : tie.Need-slice-aggregate-index-record
+slice-aggregate-index-record c = search indexed
+
+index-record-requires : tie.Need-index-record-requires
+index-record-requires c κs = search indexed
+
+array-share-prefix-table : tie.Need-array-share-prefix-table
+array-share-prefix-table c = search indexed
+
+slice-aggregate-all-targets : tie.Need-slice-aggregate-all-targets
+slice-aggregate-all-targets c = search indexed
+
+all-targets-requires : tie.Need-all-targets-requires
+all-targets-requires c κs = search indexed
+
+answer-of-requires : tie.Need-answer-of-requires
+answer-of-requires c κs = search indexed
+
+same-length : tie.Need-same-length
+same-length c = search indexed
+
+returns : tie.Need-returns
+returns c = search indexed
+
+pub checked-spec : {M : Type 1} → statement M
+checked-spec =
+    tie.close
+    (tie.spec
+    slice-aggregate-index-record
+    index-record-requires
+    array-share-prefix-table
+    slice-aggregate-all-targets
+    all-targets-requires
+    answer-of-requires
+    same-length
+    returns)

@@ -1,0 +1,239 @@
+-- Demand 3, of runs of the check. `alone` is about one run, `joined` about lists joined, `alike` about order and repeats; each for every accepted schema,
+-- condition, narrowing and target list with space for all reports, whatever the buffers held before. Assumes nothing.
+use Prim.Native.Nat.{ℕ, _+_, _≤_}
+use native.Mathlib.Omega.{arith}
+use mathlib.Core.Path.{_≡_, refl, sym, ap, subst, _∙_}
+use mathlib.Core.Bool.{Bool, true, false, cond, false≢true}
+use mathlib.Core.Logic.{_⊎_, inl, inr, ⊎-elim, _↔_}
+use mathlib.Core.List.{List, [], _∷_, _++_}
+use mathlib.Core.Option.{Option, none, some}
+use lib.ListN.{length, drop}
+use Rattle.names.specs.Lists.{maybe, gather}
+use Rattle.names.specs.Lists.Laws.{gather-append}
+use Rattle.names.specs.Fields.{whole}
+use Rattle.schema.specs.Schema.{Schema, Action}
+use Rattle.schema.specs.Find.{findAction}
+use Rattle.condition.specs.Condition.{Condition}
+use Rattle.condition.specs.Walk.{reached}
+use Rattle.targets.specs.Targets.{Target, Targets, Scope}
+use Rattle.resolution.specs.Resolution.{admitsAnyEnv}
+use Rattle.reports.specs.Reports.{Breach, Outcome, once, reported}
+use Rattle.reports.specs.Reports.Laws as laws
+use Rattle.reports.specs.Once.{both, both-in, both-nodup}
+use Rattle.reports.specs.Sets.{in-left, in-right, in-append, length-same}
+use Rattle.reports.specs.Pairs.{_∈_, NoDup, Same, Pair, pairOf, pairs, space}
+use Rattle.typecheck.specs.Check.{factsOf, nodeBreaches, breachesUnder, checked, check}
+use Rattle.typecheck.specs.Breaches.{Accepted, isChecked, BreachUnder, BreachOf, PairOf, Different, SpaceForAll, reportedPairs}
+
+-- ---- what is gathered from a list, and the pairs of a list
+
+module _ {A B : Type 0} (f : A → List B) where
+  record Source (list : List A) (b : B) : Type 0 where
+    own : A
+    listed : own ∈ list
+    gives : b ∈ f own
+
+  source : (list : List A) (b : B) → b ∈ gather f list → Source list b
+  unfolding gather
+  source [] b h = absurd h
+  source (x ∷ xs) b h =
+      ⊎-elim (λ i. record { own = x; listed = inl refl; gives = i })
+      (λ i. let r = source xs b i in record { own = r .own; listed = inr (r .listed); gives = r .gives })
+      (in-append b (f x) (gather f xs) h)
+
+  gathered : (list : List A) (b : B) (a : A) → a ∈ list → b ∈ f a → b ∈ gather f list
+  unfolding gather
+  gathered [] b a h i = absurd h
+  gathered (x ∷ xs) b a (inl e) i = in-left b (f x) (gather f xs) (subst (λ (y : A). b ∈ f y) e i)
+  gathered (x ∷ xs) b a (inr h) i = in-right b (f x) (gather f xs) (gathered xs b a h i)
+
+record Of (bs : List Breach) (k : Pair) : Type 0 where
+  breach : Breach
+  listed : breach ∈ bs
+  pair : k ≡ pairOf breach
+
+of-list : (bs : List Breach) (k : Pair) → k ∈ pairs bs → Of bs k
+of-list [] k h = absurd h
+of-list (b ∷ bs) k (inl e) = record { breach = b; listed = inl refl; pair = e }
+of-list (b ∷ bs) k (inr h) = let r = of-list bs k h in record { breach = r .breach; listed = inr (r .listed); pair = r .pair }
+
+in-pairs : (bs : List Breach) (b : Breach) → b ∈ bs → pairOf b ∈ pairs bs
+in-pairs [] b h = absurd h
+in-pairs (x ∷ bs) b (inl e) = inl (ap pairOf e)
+in-pairs (x ∷ bs) b (inr h) = inr (in-pairs bs b h)
+
+-- ---- the breaches of the rules, as a list
+
+module _ (s : Schema) (c : Condition) (scope : Scope) (t : Target) (b : Breach) where
+  under : (action : Option Action) → Type 0
+  under action = Source (nodeBreaches (factsOf s c scope action)) (reached c) b
+
+  -- by what the schema says of the target
+  judged : (o : Option Action) → List Breach
+  judged o = maybe (gather (nodeBreaches (factsOf s c scope none)) (reached c)) (λ a. cond (admitsAnyEnv s scope a) (gather (nodeBreaches (factsOf s c scope (some a))) (reached c)) []) o
+
+  from-rules : (o : Option Action) → b ∈ judged o → (maybe true (admitsAnyEnv s scope) o ≡ true) × under o
+  unfolding judged under
+  from-rules none h = (refl, source _ (reached c) b h)
+  from-rules (some a) h = go (admitsAnyEnv s scope a) h
+    where
+      go : (q : Bool) → b ∈ cond q (gather (nodeBreaches (factsOf s c scope (some a))) (reached c)) [] → (q ≡ true) × Source (nodeBreaches (factsOf s c scope (some a))) (reached c) b
+      go true h = (refl, source _ (reached c) b h)
+      go false h = absurd h
+
+  by-rules : (o : Option Action) → maybe true (admitsAnyEnv s scope) o ≡ true → under o → b ∈ judged o
+  unfolding judged under
+  by-rules none e r = gathered _ (reached c) b (r .own) (r .listed) (r .gives)
+  by-rules (some a) e r = rw e (gathered _ (reached c) b (r .own) (r .listed) (r .gives))
+
+-- all breaches of a run, in its order
+abbrev pub breaches : Schema → Condition → Targets → List Breach
+breaches s c ts = gather (breachesUnder s c (ts .scope)) (ts .list)
+
+module _ (s : Schema) (c : Condition) (ts : Targets) where
+  is-breach : (b : Breach) → b ∈ breaches s c ts → BreachOf s c ts b
+  unfolding breachesUnder isChecked judged under
+  is-breach b h =
+      let r = source (breachesUnder s c (ts .scope)) (ts .list) b h in
+      let t = r .own in
+      let i = from-rules s c (ts .scope) t b (findAction s (t .namespace) (t .id)) (r .gives) in
+      record { target = t; listed = r .listed; checked = i .0; breach = record { node = i .1 .own; isReached = i .1 .listed; breaks = i .1 .gives } }
+
+  breach-in : (b : Breach) → BreachOf s c ts b → b ∈ breaches s c ts
+  unfolding breachesUnder isChecked judged under
+  breach-in b r =
+      let t = r .target in
+      gathered (breachesUnder s c (ts .scope)) (ts .list) b t (r .listed)
+      (by-rules s c (ts .scope) t b (findAction s (t .namespace) (t .id)) (r .checked) (record { own = r .breach .node; listed = r .breach .isReached; gives = r .breach .breaks }))
+
+  pair-of : (k : Pair) → (k ∈ pairs (breaches s c ts)) ↔ PairOf s c ts k
+  pair-of k = (
+    (λ h. let r = of-list (breaches s c ts) k h in record { breach = r .breach; pair = r .pair; isBreach = is-breach (r .breach) (r .listed) }),
+    (λ r. subst (λ (j : Pair). j ∈ pairs (breaches s c ts)) (sym (r .pair)) (in-pairs (breaches s c ts) (r .breach) (breach-in (r .breach) (r .isBreach)))),
+  )
+
+  -- the pairs that a run reports are the different ones
+  different : Different s c ts (pairs (once [] (breaches s c ts)))
+  different =
+      record {
+        each = laws.no-repeats (breaches s c ts);
+        all = λ k. ((λ h. pair-of k .0 (laws.members (breaches s c ts) k .0 h)), (λ h. laws.members (breaches s c ts) k .1 (pair-of k .1 h)));
+      }
+
+-- ---- demand 3
+
+-- a run of the check over accepted records is given by its breaches
+module _ (schemaBytes conditionBytes targetBytes : List ℕ) (s : Schema) (c : Condition) (ts : Targets) (is : Accepted schemaBytes conditionBytes targetBytes s c ts) (buffer : List ℕ) where
+  runs : check schemaBytes conditionBytes targetBytes buffer ≡ reported (once [] (breaches s c ts)) buffer
+  unfolding check checked
+  runs = rw (is .schema, is .condition, is .targets)
+
+  module _ (room : SpaceForAll s c ts buffer) where
+    enough : space (pairs (once [] (breaches s c ts))) ≤ length buffer
+    enough = room .room _ (different s c ts)
+
+-- what demand 3 says of one run
+pub record Exact (s : Schema) (c : Condition) (ts : Targets) (buffer : List ℕ) (o : Outcome) : Type 0 where
+  pub number : o .answer .number ≡ 0
+  -- the reports are exactly the different pairs among the breaches under the targets that are checked, each once
+  pub pairs : Different s c ts (reportedPairs o)
+  -- the count is their number
+  pub count : (ps : List Pair) → Different s c ts ps → o .answer .count ≡ length ps
+  -- 0 exactly where there is no such breach
+  pub none : (o .answer .count ≡ 0) ↔ ((b : Breach) → BreachOf s c ts b → ⊥)
+  -- the bytes behind the reports are as they were
+  pub rest : drop (space (reportedPairs o)) (o .buffer) ≡ drop (space (reportedPairs o)) buffer
+
+no-breach : (s : Schema) (c : Condition) (ts : Targets) → (breaches s c ts ≡ []) ↔ ((b : Breach) → BreachOf s c ts b → ⊥)
+no-breach s c ts = ((λ e b r. subst (λ (l : List Breach). b ∈ l) e (breach-in s c ts b r)), (λ f. go (breaches s c ts) (λ b h. f b (is-breach s c ts b h))))
+  where
+    go : (l : List Breach) → ((b : Breach) → b ∈ l → ⊥) → l ≡ []
+    go [] f = refl
+    go (b ∷ l) f = absurd (f b (inl refl))
+
+module _ (schemaBytes conditionBytes : List ℕ) (s : Schema) (c : Condition) where
+  pub alone : (targetBytes : List ℕ) (ts : Targets) → Accepted schemaBytes conditionBytes targetBytes s c ts → (buffer : List ℕ) → SpaceForAll s c ts buffer
+      → Exact s c ts buffer (check schemaBytes conditionBytes targetBytes buffer)
+  alone targetBytes ts is buffer room =
+      let o = check schemaBytes conditionBytes targetBytes buffer in
+      let bs = breaches s c ts in
+      let run = runs schemaBytes conditionBytes targetBytes s c ts is buffer in
+      let fits = enough schemaBytes conditionBytes targetBytes s c ts is buffer room in
+      let zero = laws.run-none bs buffer o run fits in
+      let empty = no-breach s c ts in
+      record {
+        number = laws.run-zero bs buffer o run fits;
+        pairs =
+            record {
+              each = laws.run-once bs buffer o run fits;
+              all = λ k. ((λ h. pair-of s c ts k .0 (laws.run-members bs buffer o run fits k .0 h)), (λ h. laws.run-members bs buffer o run fits k .1 (pair-of s c ts k .1 h)));
+            };
+        count = λ ps d. laws.run-count bs buffer o run fits ps (d .each) (λ k. ((λ h. pair-of s c ts k .1 (d .all k .0 h)), (λ h. d .all k .1 (pair-of s c ts k .0 h))));
+        none = ((λ e. empty .0 (zero .0 e)), (λ f. zero .1 (empty .1 f)));
+        rest = laws.run-rest bs buffer o run fits;
+      }
+
+  -- lists joined under one narrowing: count(A then B) = count(A) + count(B) - the number of pairs reported both for A and for B
+  pub joined : (bytesA bytesB bytesAB : List ℕ) (scope : Scope) (front behind : List Target)
+      → Accepted schemaBytes conditionBytes bytesA s c (record { scope = scope; list = front })
+      → Accepted schemaBytes conditionBytes bytesB s c (record { scope = scope; list = behind })
+      → Accepted schemaBytes conditionBytes bytesAB s c (record { scope = scope; list = front ++ behind })
+      → (bufferA bufferB bufferAB : List ℕ)
+      → SpaceForAll s c (record { scope = scope; list = front }) bufferA → SpaceForAll s c (record { scope = scope; list = behind }) bufferB
+      → SpaceForAll s c (record { scope = scope; list = front ++ behind }) bufferAB
+      → (shared : List Pair) → NoDup shared
+      → ((k : Pair) → (k ∈ shared) ↔ ((k ∈ reportedPairs (check schemaBytes conditionBytes bytesA bufferA)) × (k ∈ reportedPairs (check schemaBytes conditionBytes bytesB bufferB))))
+      → check schemaBytes conditionBytes bytesAB bufferAB .answer .count + length shared
+      ≡ check schemaBytes conditionBytes bytesA bufferA .answer .count + check schemaBytes conditionBytes bytesB bufferB .answer .count
+  joined bytesA bytesB bytesAB scope front behind isA isB isAB bufferA bufferB bufferAB roomA roomB roomAB shared once-each in-shared =
+      let tsA : Targets = record { scope = scope; list = front } in
+      let tsB : Targets = record { scope = scope; list = behind } in
+      let tsAB : Targets = record { scope = scope; list = front ++ behind } in
+      let xs = breaches s c tsA in
+      let ys = breaches s c tsB in
+      let oA = check schemaBytes conditionBytes bytesA bufferA in
+      let oB = check schemaBytes conditionBytes bytesB bufferB in
+      let oAB = check schemaBytes conditionBytes bytesAB bufferAB in
+      let runA = runs schemaBytes conditionBytes bytesA s c tsA isA bufferA in
+      let runB = runs schemaBytes conditionBytes bytesB s c tsB isB bufferB in
+      let fitA = enough schemaBytes conditionBytes bytesA s c tsA isA bufferA roomA in
+      let fitB = enough schemaBytes conditionBytes bytesB s c tsB isB bufferB roomB in
+      let one : breaches s c tsAB ≡ xs ++ ys = gather-append (breachesUnder s c scope) front behind in
+      let runAB : oAB ≡ reported (once [] (xs ++ ys)) bufferAB =
+      runs schemaBytes conditionBytes bytesAB s c tsAB isAB bufferAB ∙ ap (λ (l : List Breach). reported (once [] l) bufferAB) one in
+      let fitAB : space (pairs (once [] (xs ++ ys))) ≤ length bufferAB =
+      subst (λ (l : List Breach). space (pairs (once [] l)) ≤ length bufferAB) one (enough schemaBytes conditionBytes bytesAB s c tsAB isAB bufferAB roomAB) in
+      let memA = laws.run-members xs bufferA oA runA fitA in
+      let memB = laws.run-members ys bufferB oB runB fitB in
+      let alike : Same shared (both xs ys) =
+      λ k. ((λ h. both-in xs ys k .1 (memA k .0 (in-shared k .0 h .0), memB k .0 (in-shared k .0 h .1))), (λ h. in-shared k .1 (memA k .1 (both-in xs ys k .0 h .0), memB k .1 (both-in xs ys k .0 h .1)))) in
+      ap (λ (n : ℕ). oAB .answer .count + n) (length-same shared (both xs ys) once-each (both-nodup xs ys) alike)
+      ∙ laws.runs-joined xs ys bufferA bufferB bufferAB oA oB oAB runA runB runAB fitA fitB fitAB
+
+  -- two lists with the same targets, whatever their order and repeats, under one narrowing: the same pairs, and front many
+  pub alike : (bytes₁ bytes₂ : List ℕ) (scope : Scope) (front behind : List Target)
+      → Accepted schemaBytes conditionBytes bytes₁ s c (record { scope = scope; list = front })
+      → Accepted schemaBytes conditionBytes bytes₂ s c (record { scope = scope; list = behind })
+      → Same front behind → (buffer₁ buffer₂ : List ℕ)
+      → SpaceForAll s c (record { scope = scope; list = front }) buffer₁ → SpaceForAll s c (record { scope = scope; list = behind }) buffer₂
+      → Same (reportedPairs (check schemaBytes conditionBytes bytes₁ buffer₁)) (reportedPairs (check schemaBytes conditionBytes bytes₂ buffer₂))
+      × (check schemaBytes conditionBytes bytes₁ buffer₁ .answer .count ≡ check schemaBytes conditionBytes bytes₂ buffer₂ .answer .count)
+  alike bytes₁ bytes₂ scope front behind is₁ is₂ same buffer₁ buffer₂ room₁ room₂ =
+      let ts₁ : Targets = record { scope = scope; list = front } in
+      let ts₂ : Targets = record { scope = scope; list = behind } in
+      let e₁ = alone bytes₁ ts₁ is₁ buffer₁ room₁ in
+      let e₂ = alone bytes₂ ts₂ is₂ buffer₂ room₂ in
+      let to : (k : Pair) → PairOf s c ts₁ k → PairOf s c ts₂ k = λ k r. other front behind scope (λ t h. same t .0 h) k r in
+      let back : (k : Pair) → PairOf s c ts₂ k → PairOf s c ts₁ k = λ k r. other behind front scope (λ t h. same t .1 h) k r in (
+        (λ k. ((λ h. e₂ .pairs .all k .1 (to k (e₁ .pairs .all k .0 h))), (λ h. e₁ .pairs .all k .1 (back k (e₂ .pairs .all k .0 h))))),
+        e₁ .count (reportedPairs (check schemaBytes conditionBytes bytes₂ buffer₂)) (record { each = e₂ .pairs .each; all = λ k. ((λ h. back k (e₂ .pairs .all k .0 h)), (λ h. e₂ .pairs .all k .1 (to k h))) })
+            ∙ sym (e₂ .count (reportedPairs (check schemaBytes conditionBytes bytes₂ buffer₂)) (e₂ .pairs)),
+      )
+    where
+      other : (front behind : List Target) (scope : Scope) → ((t : Target) → t ∈ front → t ∈ behind) → (k : Pair) → PairOf s c (record { scope = scope; list = front }) k → PairOf s c (record { scope = scope; list = behind }) k
+      other front behind scope f k r =
+          record {
+            breach = r .breach;
+            pair = r .pair;
+            isBreach = record { target = r .isBreach .target; listed = f (r .isBreach .target) (r .isBreach .listed); checked = r .isBreach .checked; breach = r .isBreach .breach };
+          }

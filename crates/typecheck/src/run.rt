@@ -1,0 +1,166 @@
+// The run: the records read in their order, the condition indexed once, then each target and each reached node under it.
+use crate::node::node;
+use names::Read;
+use reports::Answer;
+use reports::State;
+use reports::refused;
+use schema::Found;
+use schema::Namespace;
+use terms::Facts;
+ghost use mathlib.Core.Path.{_≡_};
+ghost use mathlib.Core.Bool.{true};
+ghost use Rattle.names.specs.Lists.{gather, maybe};
+ghost use Rattle.schema.specs.Places.{isSchema, schemaIn, isAction, actionIn, foundIn, foundStands};
+ghost use Rattle.targets.specs.Places.{areTargets, targetsIn, isTarget, targetIn};
+ghost use Rattle.condition.specs.Places.{isRecord, recordIn};
+ghost use Rattle.condition.specs.Index.{nodesOf};
+ghost use Rattle.resolution.specs.Resolution.{admitsAnyEnv};
+ghost use Rattle.reports.specs.Sink.{sink, Sound, pushAll};
+ghost use Rattle.reports.specs.Answers.{outcomeOf};
+ghost use Rattle.terms.specs.Facts.{factsIn, Known};
+ghost use Rattle.typecheck.specs.Check.{nodeBreaches, factsOf, breachesUnder, checked, check};
+ghost use Rattle.typecheck.specs.Ready.{Ready};
+
+// The reached nodes under the facts of one target.
+fn nodes<'a>(
+    buf: &mut [u8],
+    state: State,
+    schema: &'a [u8],
+    condition: &'a [u8],
+    targets: &[u8],
+    places: &[u16],
+    facts: Facts,
+) -> State
+    requires { ⌜ Sound (sink (now buf) state) ⌝ }
+    requires { ⌜ Known (now schema) (now condition) (now places) facts ⌝ }
+    ensures { λ after. ⌜ sink (now (buf .exit)) after ≡ pushAll (sink (now (buf .entry)) state) (gather (nodeBreaches (factsIn (now (schema .entry)) (now (condition .entry)) (now (targets .entry)) facts)) (nodesOf (now (condition .entry)))) ⌝ }
+{
+    let mut now = state;
+    let mut i = 0;
+    while i < places.len() {
+        let at = condition::reached_at(condition, places, i);
+        now = node(buf, now, schema, condition, targets, places, facts, at);
+        i += 1;
+    }
+    now
+}
+
+// The reached nodes under a target whose action was looked up.
+fn under_action<'a>(
+    buf: &mut [u8],
+    state: State,
+    schema: &'a [u8],
+    condition: &'a [u8],
+    targets: &[u8],
+    places: &[u16],
+    found: Found,
+) -> State
+    requires { ⌜ Sound (sink (now buf) state) ⌝ }
+    requires { ⌜ Ready (now schema) (now condition) (now targets) (now places) ⌝ }
+    requires { ⌜ foundStands (isAction (now schema)) found ≡ true ⌝ }
+    ensures { λ after. ⌜ sink (now (buf .exit)) after ≡ pushAll (sink (now (buf .entry)) state) (gather (nodeBreaches (factsOf (schemaIn (now (schema .entry))) (recordIn (now (condition .entry))) (targetsIn (now (targets .entry)) .scope) (foundIn (actionIn (now (schema .entry))) found))) (nodesOf (now (condition .entry)))) ⌝ }
+{
+    let facts = terms::facts_of(targets, found);
+    nodes(buf, state, schema, condition, targets, places, facts)
+}
+
+// Whether a target is checked: its action is undeclared, or admits an environment.
+fn is_checked(schema: &[u8], targets: &[u8], found: Found) -> bool
+    requires { ⌜ isSchema (now schema) ≡ true ⌝ }
+    requires { ⌜ areTargets (now targets) ≡ true ⌝ }
+    requires { ⌜ foundStands (isAction (now schema)) found ≡ true ⌝ }
+    ensures { λ r. ⌜ r ≡ maybe true (admitsAnyEnv (schemaIn (now (schema .entry))) (targetsIn (now (targets .entry)) .scope)) (foundIn (actionIn (now (schema .entry))) found) ⌝ }
+{
+    let Found::At(action) = found else {
+        return true;
+    };
+    resolution::admits_any_env(schema, targets, action)
+}
+
+// The target at `at`: its action is looked up once.
+fn under_target<'a>(
+    buf: &mut [u8],
+    state: State,
+    schema: &'a [u8],
+    condition: &'a [u8],
+    targets: &[u8],
+    places: &[u16],
+    at: usize,
+) -> State
+    requires { ⌜ Sound (sink (now buf) state) ⌝ }
+    requires { ⌜ Ready (now schema) (now condition) (now targets) (now places) ⌝ }
+    requires { ⌜ isTarget (now targets) at ≡ true ⌝ }
+    ensures { λ after. ⌜ sink (now (buf .exit)) after ≡ pushAll (sink (now (buf .entry)) state) (breachesUnder (schemaIn (now (schema .entry))) (recordIn (now (condition .entry))) (targetsIn (now (targets .entry)) .scope) (targetIn (now (targets .entry)) at)) ⌝ }
+{
+    let found = schema::action(
+        schema,
+        targets::namespace_of(targets, at),
+        Namespace::Whole,
+        targets::id_of(targets, at),
+    );
+    if is_checked(schema, targets, found) {
+        return under_action(buf, state, schema, condition, targets, places, found);
+    }
+    state
+}
+
+// Each target of the record.
+fn all_targets<'a>(
+    buf: &mut [u8],
+    state: State,
+    schema: &'a [u8],
+    condition: &'a [u8],
+    targets: &[u8],
+    places: &[u16],
+) -> State
+    requires { ⌜ Sound (sink (now buf) state) ⌝ }
+    requires { ⌜ Ready (now schema) (now condition) (now targets) (now places) ⌝ }
+    ensures { λ after. ⌜ sink (now (buf .exit)) after ≡ pushAll (sink (now (buf .entry)) state) (gather (breachesUnder (schemaIn (now (schema .entry))) (recordIn (now (condition .entry))) (targetsIn (now (targets .entry)) .scope)) (targetsIn (now (targets .entry)) .list)) ⌝ }
+{
+    let mut now = state;
+    let mut rest = targets::count(targets);
+    let mut at = targets::first_target(targets);
+    while 0 < rest {
+        now = under_target(buf, now, schema, condition, targets, places, at);
+        at = targets::next_target(targets, at);
+        rest -= 1;
+    }
+    now
+}
+
+// The check of three records that were read: the condition is indexed once.
+fn checked<'a>(schema: &'a [u8], condition: &'a [u8], targets: &[u8], buf: &mut [u8]) -> Answer
+    requires { ⌜ isSchema (now schema) ≡ true ⌝ }
+    requires { ⌜ isRecord (now condition) ≡ true ⌝ }
+    requires { ⌜ areTargets (now targets) ≡ true ⌝ }
+    ensures { λ r. ⌜ outcomeOf r (now (buf .exit)) ≡ checked (schemaIn (now (schema .entry))) (recordIn (now (condition .entry))) (targetsIn (now (targets .entry))) (now (buf .entry)) ⌝ }
+{
+    let mut table = [0u16; 3641];
+    let n = condition::index_record(condition, &mut table);
+    let none = State {
+        used: 0,
+        count: 0,
+        full: false,
+    };
+    let state = all_targets(buf, none, schema, condition, targets, &table[..n]);
+    reports::answer_of(state)
+}
+
+// The check of a schema, a condition and a target record, into a lent buffer: the records are read in their order, and the first refusal stands.
+pub fn check<'a>(schema: &'a [u8], condition: &'a [u8], targets: &[u8], buf: &mut [u8]) -> Answer
+    ensures { λ r. ⌜ outcomeOf r (now (buf .exit)) ≡ check (now (schema .entry)) (now (condition .entry)) (now (targets .entry)) (now (buf .entry)) ⌝ }
+{
+    let first = schema::read_schema(schema);
+    let Read::Next(_) = first else {
+        return refused(names::refusal_number(first), 1);
+    };
+    let second = condition::read_condition(condition);
+    let Read::Next(_) = second else {
+        return refused(names::refusal_number(second), 2);
+    };
+    let third = targets::read_targets(targets);
+    let Read::Next(_) = third else {
+        return refused(names::refusal_number(third), 3);
+    };
+    checked(schema, condition, targets, buf)
+}
