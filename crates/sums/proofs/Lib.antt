@@ -1,0 +1,4 @@
+pub mod Composing
+pub mod Judging
+pub mod Visiting
+pub mod Running

@@ -1,0 +1,236 @@
+-- The Sums of terms, arguments and reached conditions, one after the other. Assumes nothing.
+use mathlib.Core.Path.{_≡_, refl, sym, ap, _∙_}
+use mathlib.Core.Bool.{Bool, true, false, cond, _&&_}
+use mathlib.Core.List.{List, [], _∷_, _++_}
+use Prim.Native.Nat.{ℕ, zero, suc, _+_, _-_, _≤_, _<_}
+use native.Mathlib.Omega.{arith}
+use borrow.Author.Needs.{needs}
+use lib.Dec.{leb, eqb}
+use borrow.Author.Tests.{eqb-true, eqb-false}
+use lib.ListN.{length, drop, drop-of-length-le}
+use Rattle.names.specs.Fields.{Got, got, bad, Reader, next, u8, refuse, choose, levels, stringOf}
+use Rattle.names.specs.Names.{plain, pathName}
+use Rattle.names.specs.Paths.{pathOf}
+use Rattle.names.specs.Lists.{gather}
+use Rattle.names.proofs.Laws.{split, got-value, Each, keysUpTo}
+use Rattle.condition.specs.declared.Operands.{Operands}
+use Rattle.condition.specs.declared.ComparisonAt.{ComparisonAt}
+use Rattle.condition.specs.declared.PredicateAt.{PredicateAt}
+use Rattle.condition.specs.declared.ArgumentAt.{ArgumentAt}
+use Rattle.condition.specs.Condition.{Condition, Term, Terms, Aggregate, Arguments, one, two, predicate, comparison, exists, tp, opaque, noArgument, entity, literal, contextField, scopeField, var, wildcard, array, aggregate, sigil, nil, cons, sum, count, call, integer, decimal, string, bool, elements, elementList, arithOf, termKinds, tooDeep, conditionAt, termAt}
+use Rattle.condition.specs.Condition as tree
+use Rattle.condition.specs.Kinds.{kindOf, termKindOf, aggregateKindOf}
+use Rattle.condition.specs.Places.{recordIn, isCondition, conditionIn, isTerm, termIn, isAggregate, aggregateIn, isArguments, argumentsIn}
+use Rattle.condition.specs.Open.{Opened, TermOpened, AggregateOpened, AggregateHere}
+use Rattle.condition.specs.Parts.{ArithHere, ComparisonHere, PredicateHere, ArgumentHere}
+use Rattle.condition.specs.Index.{nodesOf, Index, Reached}
+use Rattle.condition.proofs.Views.{by-kind, no-value, array-view}
+use Rattle.condition.proofs.Opens.{term-stands, raw-term}
+use Rattle.condition.proofs.Pieces.{arguments-over}
+use Rattle.reports.specs.Reports.{Breach}
+use Rattle.reports.specs.Sink.{Sink, Sound, append, appendAll}
+use Rattle.reports.specs.Sink.Laws.{append-none, append-then, append-after, Reporting, reporting-begins, reporting-over, append-next}
+use Rattle.sums.specs.Sums.{aggregateBreaches, termBreaches, termsBreaches, argumentsBreaches, conditionBreaches, breaches}
+
+-- ---- an array holds no aggregate, however deep
+
+-- a term made of one part
+record Made {A : Type 0} (make : A → Term) (t : Term) : Type 0 where
+  part : A
+  whole : t ≡ make part
+
+made : {A : Type 0} (g : Got A) (make : A → Term) {t : Term} {n : ℕ} → next g (λ a m. got (make a) m) ≡ got t n → Made make t
+made g make e = let a = split g _ e in record { part = a .value; whole = sym (got-value (a .rest)) }
+
+-- what is read without an aggregate has no report
+module _ (root : Condition) where
+  part-free : {A : Type 0} (g : Got A) (make : A → Term) {x : Term} {n : ℕ} → ((a : A) → termBreaches root (make a) ≡ []) → next g (λ a m. got (make a) m) ≡ got x n → termBreaches root x ≡ []
+  part-free g make i j = let v = made g make j in ap (termBreaches root) (v .whole) ∙ i (v .part)
+
+  module _ (f : Reader Condition) (t : Bool → Reader Term) (free : (s : List ℕ) (at : ℕ) (x : Term) (n : ℕ) → t true s at ≡ got x n → termBreaches root x ≡ []) where
+    elements-free : (k : ℕ) (s : List ℕ) (at : ℕ) {l : Terms} {n : ℕ} → elements f t k s at ≡ got l n → termsBreaches root l ≡ []
+    unfolding elements termsBreaches
+    elements-free zero s at e = ap (termsBreaches root) (sym (got-value e))
+    elements-free (suc k) s at e =
+        let a = split (t true s at) _ e in
+        let b = split (elements f t k s (a .place)) _ (a .rest) in
+        ap (termsBreaches root) (sym (got-value (b .rest))) ∙ rw (free s at (a .value) (a .place) (a .first), elements-free k s (a .place) (b .first))
+
+    list-free : (s : List ℕ) (at : ℕ) {l : Terms} {n : ℕ} → elementList f t s at ≡ got l n → termsBreaches root l ≡ []
+    unfolding elementList
+    list-free s at e = let a = split (u8 s at) _ e in elements-free (a .value) s (a .place) (a .rest)
+
+    kinds-free : (k : ℕ) (s : List ℕ) (at : ℕ) {x : Term} {n : ℕ} → choose k (termKinds f t true) s at ≡ got x n → termBreaches root x ≡ []
+    unfolding choose termKinds Each keysUpTo termBreaches arithOf
+    kinds-free k s at {x} {n} e =
+        let own : (u : Term) → termBreaches root u ≡ [] → got u at ≡ got x n → termBreaches root x ≡ [] = λ u i j. ap (termBreaches root) (sym (got-value j)) ∙ i in
+        let arrays : next (elementList f t s at) (λ a m. got (array a) m) ≡ got x n → termBreaches root x ≡ [] =
+        λ j. let a = split (elementList f t s at) _ j in ap (termBreaches root) (sym (got-value (a .rest))) ∙ list-free s at (a .first) in
+        let sums : arithOf f t true s at ≡ got x n → termBreaches root x ≡ [] =
+        λ j.
+        let a = split (t true s at) _ j in
+        let b = split (t true s (a .place)) _ (a .rest) in
+        ap (termBreaches root) (sym (got-value (b .rest))) ∙ rw (free s at (a .value) (a .place) (a .first), free s (a .place) (b .value) (b .place) (b .first)) in
+        by-kind s at 14 (termKinds f t true) refl (λ _. termBreaches root x ≡ [])
+        (((((((((((((((tt, no-value), part-free (stringOf pathName s at) entity (λ _. refl)), own (literal integer) refl), own (literal decimal) refl), own (literal string) refl), own (literal bool) refl), part-free (pathOf s at) contextField (λ _. refl)), part-free (pathOf s at) scopeField (λ _. refl)), part-free (stringOf plain s at) var (λ _. refl)), own wildcard refl), arrays), no-value), sums), own sigil refl), own sigil refl)
+        k e
+
+  too-deep : {A : Type 0} (last : ℕ) (s : List ℕ) (at : ℕ) {x : A} {n : ℕ} {P : Type 0} → tooDeep last s at ≡ got x n → P
+  unfolding tooDeep
+  too-deep last s at {x} {n} {P} e =
+      let a = split (u8 s at) _ e in
+      go (leb 1 (a .value) && leb (a .value) last) (a .place) (a .rest)
+    where
+      go : (b : Bool) (p : ℕ) → cond b (refuse 7) (refuse 5) s p ≡ got x n → P
+      go true p i = no-value i
+      go false p i = no-value i
+
+  term-free : (l : ℕ) (s : List ℕ) (at : ℕ) (x : Term) (n : ℕ) → termAt l true s at ≡ got x n → termBreaches root x ≡ []
+  unfolding termAt
+  term-free zero s at x n e = too-deep 14 s at e
+  term-free (suc l) s at x n e = let a = split (u8 s at) _ e in kinds-free (conditionAt l) (λ b. termAt l b) (term-free l) (a .value) s (a .place) (a .rest)
+
+  array-free : (s : List ℕ) (at : ℕ) → isTerm s at ≡ true → termKindOf (termIn s at) ≡ 10 → termBreaches root (termIn s at) ≡ []
+  unfolding termBreaches
+  array-free s at acc is =
+      let v = array-view s at (term-stands s at acc .read) (raw-term s at acc 10 (λ i. omega arith) is) in
+      ap (termBreaches root) (v .whole) ∙ list-free (conditionAt levels) (λ b. termAt levels b) (term-free levels) s (at + 1) (v .reads)
+
+  -- a term of any kind but an aggregate, an arithmetic and an array
+  leaf-free : (x : Term) → (termKindOf x ≡ 12 → ⊥) → (termKindOf x ≡ 11 → ⊥) → (termKindOf x ≡ 10 → ⊥) → termBreaches root x ≡ []
+  unfolding termBreaches
+  leaf-free (entity n) a b c = refl
+  leaf-free (literal l) a b c = refl
+  leaf-free (contextField p) a b c = refl
+  leaf-free (scopeField p) a b c = refl
+  leaf-free (var v) a b c = refl
+  leaf-free wildcard a b c = refl
+  leaf-free (array ts) a b c = absurd (c refl)
+  leaf-free (aggregate x) a b c = absurd (b refl)
+  leaf-free (tree.arith l r) a b c = absurd (a refl)
+  leaf-free sigil a b c = refl
+
+  other-free : (x : Aggregate) → (aggregateKindOf x ≡ 1 → ⊥) → aggregateBreaches root x ≡ []
+  unfolding aggregateBreaches
+  other-free (sum span s bs body) h = absurd (h refl)
+  other-free (count span bs body) h = refl
+  other-free (call span) h = refl
+
+  condition-free : (x : Condition) → (kindOf x ≡ 8 → ⊥) → (kindOf x ≡ 7 → ⊥) → conditionBreaches root x ≡ []
+  unfolding conditionBreaches
+  condition-free (one k span c) a b = refl
+  condition-free (two k span l r) a b = refl
+  condition-free (predicate span own ns act args) a b = absurd (b refl)
+  condition-free (comparison span op l r) a b = absurd (a refl)
+  condition-free (exists span x c) a b = refl
+  condition-free (tp span s) a b = refl
+  condition-free (opaque span) a b = refl
+
+no-report : (a : Sink) (bs : List Breach) → bs ≡ [] → a ≡ appendAll a bs
+no-report a bs e = rw e (append-none a)
+
+-- ---- a term
+
+module _ (s : List ℕ) (at : ℕ) (a : Sink) where
+  module _ (p : Operands) (h : ArithHere s at p) (b : Sink) (first : b ≡ appendAll a (termBreaches (recordIn s) (termIn s (p .left)))) where
+    pub left-sound : Sound a → Sound b
+    left-sound k = append-after _ k first
+
+    pub arith-visited : (r : Sink) → r ≡ appendAll b (termBreaches (recordIn s) (termIn s (p .right))) → r ≡ appendAll a (termBreaches (recordIn s) (termIn s at))
+    unfolding termBreaches
+    arith-visited r second = rw (h .value) (append-then a _ _ first second)
+
+  module _ (p : ℕ) (h : AggregateHere s at p) where
+    pub sum-visited : (r : Sink) → r ≡ appendAll a (aggregateBreaches (recordIn s) (aggregateIn s p)) → r ≡ appendAll a (termBreaches (recordIn s) (termIn s at))
+    unfolding termBreaches
+    sum-visited r e = rw (h .value) e
+
+    pub other-visited : (k : ℕ) → AggregateOpened s p k → (k ≡ 1 → ⊥) → a ≡ appendAll a (termBreaches (recordIn s) (termIn s at))
+    unfolding termBreaches
+    other-visited k o i = rw (h .value) (no-report a _ (other-free (recordIn s) (aggregateIn s p) (λ e. i (o .kind ∙ e))))
+
+  pub leaf-visited : isTerm s at ≡ true → (k : ℕ) → TermOpened s at k → (k ≡ 12 → ⊥) → (k ≡ 11 → ⊥) → a ≡ appendAll a (termBreaches (recordIn s) (termIn s at))
+  leaf-visited acc k o h i = no-report a _ (go (eqb (termKindOf (termIn s at)) 10) refl)
+    where
+      go : (b : Bool) → eqb (termKindOf (termIn s at)) 10 ≡ b → termBreaches (recordIn s) (termIn s at) ≡ []
+      go true e = array-free (recordIn s) s at acc (eqb-true _ _ e)
+      go false e = leaf-free (recordIn s) (termIn s at) (λ q. h (o .kind ∙ q)) (λ q. i (o .kind ∙ q)) (eqb-false _ _ e)
+
+pub is-sum : (s : List ℕ) (p k : ℕ) → AggregateOpened s p k → k ≡ 1 → aggregateKindOf (aggregateIn s p) ≡ 1
+is-sum s p k o e = sym (o .kind) ∙ e
+
+pub ruleset visits = (needs, is-sum, left-sound, arith-visited, sum-visited, other-visited, leaf-visited)
+
+-- ---- arguments: what is left of them, reported, makes the whole
+
+pub record ArgumentsLeft (s : List ℕ) (whole now : Sink) (n at : ℕ) : Type 0 where
+  pub stands : isArguments s n at ≡ true
+  pub sound : Sound now
+  pub same : appendAll now (argumentsBreaches (recordIn s) (argumentsIn s n at)) ≡ whole
+
+module _ (s : List ℕ) where
+  pub arguments-begin : (n at : ℕ) (a : Sink) → isArguments s n at ≡ true → Sound a → ArgumentsLeft s (appendAll a (argumentsBreaches (recordIn s) (argumentsIn s n at))) a n at
+  arguments-begin n at a h k = record { stands = h; sound = k; same = refl }
+
+  module _ (whole now : Sink) (n at : ℕ) (l : ArgumentsLeft s whole now n at) where
+    pub arguments-done : n ≤ 0 → now ≡ whole
+    unfolding argumentsBreaches
+    arguments-done h = append-none now ∙ ap (λ (x : Arguments). appendAll now (argumentsBreaches (recordIn s) x)) (sym (arguments-over s n at h)) ∙ l .same
+
+    pub arguments-turn : (p : ArgumentAt) → ArgumentHere s n at p → (next : Sink) → next ≡ appendAll now (termBreaches (recordIn s) (termIn s (p .term))) → ArgumentsLeft s whole next (n - 1) (p .next)
+    unfolding argumentsBreaches
+    arguments-turn p h next e = record {
+      stands = h .rest;
+      sound = append-after _ (l .sound) e;
+      same = append-then now _ _ e refl ∙ ap (λ (x : Arguments). appendAll now (argumentsBreaches (recordIn s) x)) (sym (h .value)) ∙ l .same;
+    }
+
+pub ruleset arguing = (needs, arguments-begin, arguments-done, arguments-turn)
+
+-- ---- a reached condition
+
+module _ (s : List ℕ) (at : ℕ) (a : Sink) where
+  module _ (p : ComparisonAt) (h : ComparisonHere s at p) (b : Sink) (first : b ≡ appendAll a (termBreaches (recordIn s) (termIn s (p .left)))) where
+    pub operand-sound : Sound a → Sound b
+    operand-sound k = append-after _ k first
+
+    pub comparison-visited : (r : Sink) → r ≡ appendAll b (termBreaches (recordIn s) (termIn s (p .right))) → r ≡ appendAll a (conditionBreaches (recordIn s) (conditionIn s at))
+    unfolding conditionBreaches
+    comparison-visited r second = append-then a _ _ first second ∙ ap (λ (x : Condition). appendAll a (conditionBreaches (recordIn s) x)) (sym (h .value))
+
+  pub predicate-visited : (p : PredicateAt) → PredicateHere s at p → (r : Sink) → r ≡ appendAll a (argumentsBreaches (recordIn s) (argumentsIn s (p .count) (p .first))) → r ≡ appendAll a (conditionBreaches (recordIn s) (conditionIn s at))
+  unfolding conditionBreaches
+  predicate-visited p h r e = e ∙ ap (λ (x : Condition). appendAll a (conditionBreaches (recordIn s) x)) (sym (h .value))
+
+  pub others-visited : (k : ℕ) → Opened s at k → (k ≡ 8 → ⊥) → (k ≡ 7 → ⊥) → a ≡ appendAll a (conditionBreaches (recordIn s) (conditionIn s at))
+  others-visited k o h i = no-report a _ (condition-free (recordIn s) (conditionIn s at) (λ q. h (o .kind ∙ q)) (λ q. i (o .kind ∙ q)))
+
+pub is-comparison : (s : List ℕ) (at k : ℕ) → Opened s at k → k ≡ 8 → kindOf (conditionIn s at) ≡ 8
+is-comparison s at k o e = sym (o .kind) ∙ e
+
+pub ruleset nodes = (needs, is-comparison, operand-sound, comparison-visited, predicate-visited, others-visited)
+
+-- ---- all of them
+
+abbrev pub PlacesLeft : List ℕ → Sink → Sink → ℕ → Type 0
+PlacesLeft s whole now i = Reporting append (conditionBreaches (recordIn s)) whole now (drop i (nodesOf s))
+
+module _ (s : List ℕ) where
+  pub places-begin : (a : Sink) → Sound a → PlacesLeft s (appendAll a (breaches (recordIn s))) a 0
+  unfolding breaches
+  places-begin a k = reporting-begins (conditionBreaches (recordIn s)) append a (nodesOf s) k
+
+  module _ (whole now : Sink) (i : ℕ) (l : PlacesLeft s whole now i) where
+    pub places-sound : Sound now
+    places-sound = l .sound
+
+    pub places-done : (places : List ℕ) → Index s places → length places ≤ i → now ≡ whole
+    places-done places h k =
+        let over : length (nodesOf s) ≤ i = omega (arith, h .size) in
+        let e : drop i (nodesOf s) ≡ [] = drop-of-length-le (nodesOf s) over in
+        reporting-over (conditionBreaches (recordIn s)) (rw e at l)
+
+    pub places-turn : (at : ℕ) → Reached s i at → (next : Sink) → next ≡ appendAll now (conditionBreaches (recordIn s) (conditionIn s at)) → PlacesLeft s whole next (i + 1)
+    places-turn at h next e = append-next (conditionBreaches (recordIn s)) (rw (h .rest) at l) e
+
+pub ruleset placing = (needs, places-begin, places-sound, places-done, places-turn)

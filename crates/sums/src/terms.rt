@@ -1,0 +1,102 @@
+// The Sums of a term, of a predicate's arguments, of a reached condition, in reading order.
+use crate::summand::in_sum;
+use reports::State;
+ghost use mathlib.Core.Path.{_≡_};
+ghost use mathlib.Core.Bool.{true};
+ghost use Prim.Native.Nat.{_≤_};
+ghost use lib.ListN.{length};
+ghost use Rattle.condition.specs.Kinds.{kindOf};
+ghost use Rattle.condition.specs.Places.{recordIn, isCondition, conditionIn, isTerm, termIn, isArguments, argumentsIn};
+ghost use Rattle.condition.specs.Index.{Index};
+ghost use Rattle.reports.specs.Sink.{sink, Sound, appendAll};
+ghost use Rattle.sums.specs.Sums.{termBreaches, argumentsBreaches, conditionBreaches};
+
+// A term is a Sum, or an arithmetic: its left, then its right. (An array holds none, and the bodies of aggregates are conditions of their own.)
+fn in_term(s: &[u8], places: &[u16], at: usize, buf: &mut [u8], state: State) -> State
+    requires { ⌜ isTerm (now s) at ≡ true ⌝ }
+    requires { ⌜ Index (now s) (now places) ⌝ }
+    requires { ⌜ length (now s) ≤ 32768 ⌝ }
+    requires { ⌜ Sound (sink (now buf) state) ⌝ }
+    ensures { λ r. ⌜ sink (now (buf .exit)) r ≡ appendAll (sink (now (buf .entry)) state) (termBreaches (recordIn (now (s .entry))) (termIn (now (s .entry)) at)) ⌝ }
+{
+    let kind = condition::term_kind_at(s, at);
+    if kind == 12 {
+        let p = condition::arith_at(s, at);
+        let left = p.left;
+        let right = p.right;
+        let first = in_term(s, places, left, buf, state);
+        return in_term(s, places, right, buf, first);
+    }
+    if kind == 11 {
+        let aggregate = condition::aggregate_at(s, at);
+        if condition::aggregate_kind_at(s, aggregate) == 1 {
+            return in_sum(s, places, aggregate, buf, state);
+        }
+    }
+    state
+}
+
+// So many arguments of a predicate, one after the other.
+fn in_arguments(
+    s: &[u8],
+    places: &[u16],
+    count: usize,
+    first: usize,
+    buf: &mut [u8],
+    state: State,
+) -> State
+    requires { ⌜ isArguments (now s) count first ≡ true ⌝ }
+    requires { ⌜ Index (now s) (now places) ⌝ }
+    requires { ⌜ length (now s) ≤ 32768 ⌝ }
+    requires { ⌜ Sound (sink (now buf) state) ⌝ }
+    ensures { λ r. ⌜ sink (now (buf .exit)) r ≡ appendAll (sink (now (buf .entry)) state) (argumentsBreaches (recordIn (now (s .entry))) (argumentsIn (now (s .entry)) count first)) ⌝ }
+{
+    let mut now = state;
+    let mut at = first;
+    let mut rest = count;
+    while 0 < rest {
+        let p = condition::argument_at(s, rest, at);
+        let term = p.term;
+        now = in_term(s, places, term, buf, now);
+        at = p.next;
+        rest -= 1;
+    }
+    now
+}
+
+// The operands of a comparison.
+fn in_comparison(s: &[u8], places: &[u16], at: usize, buf: &mut [u8], state: State) -> State
+    requires { ⌜ isCondition (now s) at ≡ true ⌝ }
+    requires { ⌜ kindOf (conditionIn (now s) at) ≡ 8 ⌝ }
+    requires { ⌜ Index (now s) (now places) ⌝ }
+    requires { ⌜ length (now s) ≤ 32768 ⌝ }
+    requires { ⌜ Sound (sink (now buf) state) ⌝ }
+    ensures { λ r. ⌜ sink (now (buf .exit)) r ≡ appendAll (sink (now (buf .entry)) state) (conditionBreaches (recordIn (now (s .entry))) (conditionIn (now (s .entry)) at)) ⌝ }
+{
+    let p = condition::comparison_at(s, at);
+    let left = p.left;
+    let right = p.right;
+    let first = in_term(s, places, left, buf, state);
+    in_term(s, places, right, buf, first)
+}
+
+// One reached condition: a comparison's operands, a predicate's arguments.
+pub fn in_condition(s: &[u8], places: &[u16], at: usize, buf: &mut [u8], state: State) -> State
+    requires { ⌜ isCondition (now s) at ≡ true ⌝ }
+    requires { ⌜ Index (now s) (now places) ⌝ }
+    requires { ⌜ length (now s) ≤ 32768 ⌝ }
+    requires { ⌜ Sound (sink (now buf) state) ⌝ }
+    ensures { λ r. ⌜ sink (now (buf .exit)) r ≡ appendAll (sink (now (buf .entry)) state) (conditionBreaches (recordIn (now (s .entry))) (conditionIn (now (s .entry)) at)) ⌝ }
+{
+    let kind = condition::kind_at(s, at);
+    if kind == 8 {
+        return in_comparison(s, places, at, buf, state);
+    }
+    if kind == 7 {
+        let p = condition::predicate_at(s, at);
+        let count = p.count;
+        let first = p.first;
+        return in_arguments(s, places, count, first, buf, state);
+    }
+    state
+}
