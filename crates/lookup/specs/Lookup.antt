@@ -1,0 +1,64 @@
+-- The lookup of a scope path for one target.
+use Prim.Native.Nat.{ℕ}
+use mathlib.Core.Bool.{cond}
+use mathlib.Core.List.{List, [], _∷_, _++_}
+use lib.ListN.{length, drop}
+use lib.Dec.{leb}
+use Rattle.names.specs.Lists.{maybe, gather}
+use Rattle.names.specs.Fields.{either, whole, digits}
+use Rattle.types.specs.Types.{render}
+use Rattle.schema.specs.Schema.{Schema, Action, schemaRecord}
+use Rattle.schema.specs.Find.{findAction}
+use Rattle.targets.specs.Targets.{Target, Targets, targetRecord}
+use Rattle.targets.specs.PathRecord.{Side, principal, resource, Query, pathRecord, targetAt}
+use Rattle.resolution.specs.Resolution.{ScopePath, resolved, missing, nonRecord, ambiguous, unknown, scopePath}
+use Rattle.reports.specs.Reports.{Outcome, refusal}
+
+-- the asked side's narrowing applies, to the entity types that the action names on that side
+unfoldable pub onSide : Schema → Targets → Query → Action → Side → ScopePath
+onSide s ts q a principal = scopePath s (ts .scope .principal) (a .principals) (q .path)
+onSide s ts q a resource = scopePath s (ts .scope .resource) (a .resources) (q .path)
+
+-- an undeclared target gives `unknown`
+unfoldable pub found : Schema → Targets → Query → Target → ScopePath
+found s ts q t = maybe unknown (λ a. onSide s ts q a (q .side)) (findAction s (t .namespace) (t .id))
+
+-- a string behind its 16-bit length
+abbrev pub sized : List ℕ → List ℕ
+sized w = digits 2 (length w) ++ w
+
+-- a status byte, a 16-bit count of strings, and the strings
+unfoldable pub block : ℕ → List (List ℕ) → List ℕ
+block status ws = status ∷ (digits 2 (length ws) ++ gather sized ws)
+
+-- document 01's numbers and strings of the answers
+unfoldable pub output : ScopePath → List ℕ
+output (resolved t) = block 0 (render t ∷ [])
+output (missing seg entities) = block 1 (seg ∷ entities)
+output (nonRecord seg) = block 2 (seg ∷ [])
+output (ambiguous types) = block 3 types
+output unknown = block 4 []
+
+-- the output at the front of the buffer and how many bytes it has, or 11 and the buffer as it was
+unfoldable pub placed : List ℕ → List ℕ → Outcome
+placed out buffer =
+    cond (leb (length out) (length buffer))
+    (record {
+      answer = record { number = 0; recordNumber = 0; count = length out };
+      buffer = out ++ drop (length out) buffer;
+    })
+    (refusal 11 0 buffer)
+
+-- the lookup of three records that were read: 12 where the list has no such position
+unfoldable pub answered : Schema → Targets → Query → List ℕ → Outcome
+answered s ts q buffer =
+    maybe (refusal 12 3 buffer) (λ t. placed (output (found s ts q t)) buffer) (targetAt (q .position) (ts .list))
+
+-- records 1, 3 and 4 in this order, each to its end
+unfoldable pub lookup : List ℕ → List ℕ → List ℕ → List ℕ → Outcome
+lookup schemaBytes targetBytes queryBytes buffer =
+    either (λ r. refusal r 1 buffer)
+    (λ s. either (λ r. refusal r 3 buffer)
+    (λ ts. either (λ r. refusal r 4 buffer) (λ q. answered s ts q buffer) (whole pathRecord queryBytes))
+    (whole targetRecord targetBytes))
+    (whole schemaRecord schemaBytes)
