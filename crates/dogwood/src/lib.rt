@@ -1,0 +1,79 @@
+// The exported functions of the static library.
+pub use reports::Answer;
+ghost use mathlib.Core.Path.{_≡_};
+ghost use Rattle.names.specs.Fields.{whole};
+ghost use Rattle.names.specs.Read.{refusalNumber};
+ghost use Rattle.schema.specs.Schema.{schemaRecord};
+ghost use Rattle.condition.specs.Condition.{conditionRecord};
+ghost use Rattle.targets.specs.Targets.{targetRecord};
+ghost use Rattle.targets.specs.PathRecord.{pathRecord};
+ghost use Rattle.reports.specs.Answers.{outcomeOf};
+ghost use Rattle.sums.specs.Sums.{sums};
+ghost use Rattle.lookup.specs.Lookup.{lookup};
+ghost use Rattle.typecheck.specs.Check.{check};
+
+// The number with which a schema record is refused, 0 for none.
+#[no_mangle]
+pub extern "C" fn dogwood_read_schema(bytes: &[u8]) -> u8
+    ensures { λ r. ⌜ r ≡ refusalNumber (whole schemaRecord (now (bytes .entry))) ⌝ }
+{
+    names::refusal_number(schema::read_schema(bytes))
+}
+
+// The same of a condition record.
+#[no_mangle]
+pub extern "C" fn dogwood_read_condition(bytes: &[u8]) -> u8
+    ensures { λ r. ⌜ r ≡ refusalNumber (whole conditionRecord (now (bytes .entry))) ⌝ }
+{
+    names::refusal_number(condition::read_condition(bytes))
+}
+
+// The same of a target record.
+#[no_mangle]
+pub extern "C" fn dogwood_read_targets(bytes: &[u8]) -> u8
+    ensures { λ r. ⌜ r ≡ refusalNumber (whole targetRecord (now (bytes .entry))) ⌝ }
+{
+    names::refusal_number(targets::read_targets(bytes))
+}
+
+// The same of a path record.
+#[no_mangle]
+pub extern "C" fn dogwood_read_path(bytes: &[u8]) -> u8
+    ensures { λ r. ⌜ r ≡ refusalNumber (whole pathRecord (now (bytes .entry))) ⌝ }
+{
+    names::refusal_number(targets::read_path(bytes))
+}
+
+// How a path under a scope resolves for one target: the answer, and the output in the lent buffer.
+#[no_mangle]
+pub extern "C" fn dogwood_lookup<'a>(
+    schema: &'a [u8],
+    targets: &[u8],
+    path: &'a [u8],
+    output: &mut [u8],
+) -> Answer
+    ensures { λ r. ⌜ outcomeOf r (now (output .exit)) ≡ lookup (now (schema .entry)) (now (targets .entry)) (now (path .entry)) (now (output .entry)) ⌝ }
+{
+    lookup::lookup(schema, targets, path, output)
+}
+
+// The check of a condition under the targets of a rule: the answer, and the reports in the lent buffer.
+#[no_mangle]
+pub extern "C" fn dogwood_check<'a>(
+    schema: &'a [u8],
+    condition: &'a [u8],
+    targets: &[u8],
+    reports: &mut [u8],
+) -> Answer
+    ensures { λ r. ⌜ outcomeOf r (now (reports .exit)) ≡ check (now (schema .entry)) (now (condition .entry)) (now (targets .entry)) (now (reports .entry)) ⌝ }
+{
+    typecheck::check(schema, condition, targets, reports)
+}
+
+// The sums of a condition: the answer, and a report for each whose summand is not declared Long.
+#[no_mangle]
+pub extern "C" fn dogwood_sums(condition: &[u8], reports: &mut [u8]) -> Answer
+    ensures { λ r. ⌜ outcomeOf r (now (reports .exit)) ≡ sums (now (condition .entry)) (now (reports .entry)) ⌝ }
+{
+    sums::sums(condition, reports)
+}

@@ -1,0 +1,10 @@
+-- `program::printed::report_space` meets its contract: a repeated byte has its length by a law, which costs the same at any number.
+-- Assumes nothing.
+use Prim.Native.Nat.{ℕ}
+use mathlib.Core.Path.{sym}
+use lib.ListN.{length-replicate}
+use Rattle.program.proofs.printed.report_space.Statement.{statement}
+use Rattle.program.proofs.printed.report_space.Tie as tie
+
+pub report-space-spec : {M : Type 1} → statement M
+report-space-spec = tie.close (tie.spec (λ c. sym (length-replicate {0} {A = ℕ} 65536 0)))

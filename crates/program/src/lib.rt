@@ -1,0 +1,80 @@
+// What the programs share: a record read from a file into a lent buffer, words, numbers and reports printed.
+mod printed;
+
+use libc::STDOUT_FILENO;
+pub use printed::print_run;
+pub use printed::report_space;
+ghost use mathlib.Core.Path.{_≡_};
+ghost use lib.ListN.{length};
+ghost use Rattle.program.specs.Program.{within};
+
+// How many bytes of a file were put at the front of a buffer, or that it could not be read.
+pub enum Loaded {
+    Bytes(usize),
+    Unread,
+}
+
+// Room for a record and more: a file that is longer than a record may be is refused as one. The contract gives the length
+// alone, which is what lending the array needs.
+pub fn record_space() -> [u8; 40960]
+    ensures { λ r. ⌜ 40960 ≡ length r ⌝ }
+{
+    [0; 40960]
+}
+
+// What a first read gave, and what more the file has.
+fn read_on(fd: i32, name: &[u8], space: &mut [u8], got: isize) -> Loaded
+    ensures { λ r. ⌜ within (now (space .exit)) r ⌝ }
+{
+    if got < 0 {
+        os::fail(name);
+        return Loaded::Unread;
+    }
+    let n = io::count(got, space);
+    let more = io::read_full(fd, &mut space[n..]);
+    Loaded::Bytes(n + more)
+}
+
+// Reads the file of a name, as far as the space reaches. One that cannot be read is said, with the reason.
+pub fn load(name: &[u8], space: &mut [u8]) -> Loaded
+    ensures { λ r. ⌜ within (now (space .exit)) r ⌝ }
+{
+    let fd = os::open_read(name);
+    if fd < 0 {
+        os::fail(name);
+        return Loaded::Unread;
+    }
+    let got = libc::read(fd, space);
+    let all = read_on(fd, name, space, got);
+    libc::close(fd);
+    all
+}
+
+// The same of the file that an argument names, or of another where there is no such argument.
+pub fn load_argument(i: usize, other: &[u8], space: &mut [u8]) -> Loaded
+    ensures { λ r. ⌜ within (now (space .exit)) r ⌝ }
+{
+    if os::arg_count() <= i {
+        return load(other, space);
+    }
+    let mut name = io::buffer();
+    let n = os::arg(i, &mut name);
+    load(&name[..n], space)
+}
+
+pub fn print(text: &[u8]) {
+    io::write_all(STDOUT_FILENO, text);
+}
+
+pub fn print_number(n: usize) {
+    io::print_decimal(STDOUT_FILENO, n as u64);
+}
+
+// The line of a refusal: its number and the record.
+pub fn print_refusal(number: u8, which: u8) {
+    print(b"refused ");
+    print_number(number as usize);
+    print(b" ");
+    print_number(which as usize);
+    print(b"\n");
+}
