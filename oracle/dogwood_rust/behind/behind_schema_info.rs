@@ -1,0 +1,1 @@
+// ─── Appended by the oracle's build; the text above is as published ───

@@ -1,0 +1,156 @@
+//! Check, Sums and Lookup: records in, an answer and the bytes of a lent buffer out.
+
+use crate::records::{self, Refusal, Scope, TargetsRecord};
+use dogwood_rust::extension::temporal::schema_info::{RichType, SchemaInfo, ScopePath};
+use dogwood_rust::extension::temporal::validate::{self, LeafError};
+
+/// What an operation returns.
+#[derive(Debug, Clone, Copy, PartialEq, Eq)]
+pub struct Answer {
+    pub number: u8,
+    pub record: u8,
+    pub count: usize,
+}
+
+impl Answer {
+    fn done(count: usize) -> Answer {
+        Answer { number: 0, record: 0, count }
+    }
+
+    /// The output is longer than the buffer; `kept` reports are in it.
+    fn full(kept: usize) -> Answer {
+        Answer { number: 11, record: 0, count: kept }
+    }
+
+    fn refused(record: u8, refusal: Refusal) -> Answer {
+        Answer { number: refusal.0, record, count: 0 }
+    }
+}
+
+const SCHEMA: u8 = 1;
+const CONDITION: u8 = 2;
+const TARGETS: u8 = 3;
+const PATH: u8 = 4;
+
+/// The number with which a record is refused by itself, 0 for none.
+pub fn read_number<T>(read: Result<T, Refusal>) -> u8 {
+    read.err().map_or(0, |refusal| refusal.0)
+}
+
+pub fn check(schema: &[u8], condition: &[u8], targets: &[u8], reports: &mut [u8]) -> Answer {
+    match check_errors(schema, condition, targets) {
+        Ok(errors) => write_reports(&errors, reports),
+        Err(answer) => answer,
+    }
+}
+
+/// The reports of a check before they are written, or the answer that refuses a record.
+pub fn check_errors(schema: &[u8], condition: &[u8], targets: &[u8]) -> Result<Vec<LeafError>, Answer> {
+    let schema = records::read_schema(schema).map_err(|r| Answer::refused(SCHEMA, r))?;
+    let read = records::read_condition(condition).map_err(|r| Answer::refused(CONDITION, r))?;
+    let targets = records::read_targets(targets).map_err(|r| Answer::refused(TARGETS, r))?;
+    let info = SchemaInfo::from_validator_schema(&schema);
+    Ok(read
+        .field_paths
+        .in_force(|| validate::oracle_check_types(&read.condition, &info, &targets.targets, targets.narrowing())))
+}
+
+pub fn sums(condition: &[u8], reports: &mut [u8]) -> Answer {
+    match records::read_condition(condition) {
+        Ok(read) => write_reports(&validate::oracle_check_sum_summands(&read.condition), reports),
+        Err(refusal) => Answer::refused(CONDITION, refusal),
+    }
+}
+
+pub fn lookup(schema: &[u8], targets: &[u8], path: &[u8], output: &mut [u8]) -> Answer {
+    match lookup_bytes(schema, targets, path) {
+        Ok(bytes) if bytes.len() > output.len() => Answer::full(0),
+        Ok(bytes) => {
+            output[..bytes.len()].copy_from_slice(&bytes);
+            Answer::done(bytes.len())
+        }
+        Err(answer) => answer,
+    }
+}
+
+fn lookup_bytes(schema: &[u8], targets: &[u8], path: &[u8]) -> Result<Vec<u8>, Answer> {
+    let schema = records::read_schema(schema).map_err(|r| Answer::refused(SCHEMA, r))?;
+    let targets = records::read_targets(targets).map_err(|r| Answer::refused(TARGETS, r))?;
+    let path = records::read_path(path).map_err(|r| Answer::refused(PATH, r))?;
+    let target = targets.targets.get(path.position).ok_or(Answer { number: 12, record: TARGETS, count: 0 })?;
+    let info = SchemaInfo::from_validator_schema(&schema);
+    let found = match info.action(target.namespace.as_deref(), &target.id) {
+        Some(action) => action.resolve_scope_path(path.scope.root(), &path.path, narrowing_of(&targets, path.scope)),
+        None => ScopePath::Unknown,
+    };
+    Ok(lookup_output(found))
+}
+
+fn narrowing_of(targets: &TargetsRecord, scope: Scope) -> Option<&dogwood_rust::api::ScopeConstraint> {
+    match scope {
+        Scope::Principal => targets.principal.as_ref(),
+        Scope::Resource => targets.resource.as_ref(),
+    }
+}
+
+/// A case byte, a 16-bit count of strings, the strings with 16-bit lengths.
+fn lookup_output(found: ScopePath) -> Vec<u8> {
+    let (case, strings) = match found {
+        ScopePath::Resolved(ty) => (0, vec![ty.render()]),
+        ScopePath::Missing { entities, segment } => (1, [vec![segment], entities].concat()),
+        ScopePath::NonRecord { segment } => (2, vec![segment]),
+        ScopePath::Ambiguous { types } => (3, types),
+        ScopePath::Unknown => (4, Vec::new()),
+    };
+    let mut bytes = vec![case];
+    bytes.extend(number16(strings.len()));
+    for text in strings {
+        bytes.extend(number16(text.len()));
+        bytes.extend(text.as_bytes());
+    }
+    bytes
+}
+
+/// The types of a comparison's operands under the target at `position`, rendered, where all three records are read.
+pub fn operand_types(schema: &[u8], condition: &[u8], targets: &[u8], position: usize) -> Option<[Option<String>; 2]> {
+    let schema = records::read_schema(schema).ok()?;
+    let read = records::read_condition(condition).ok()?;
+    let targets = records::read_targets(targets).ok()?;
+    let target = targets.targets.get(position)?;
+    let info = SchemaInfo::from_validator_schema(&schema);
+    let types = validate::oracle_operand_types(&read.condition, &info, target, targets.narrowing())?;
+    Some(types.map(|ty| ty.as_ref().map(RichType::render)))
+}
+
+/// Reports are written whole, in order, until the first that does not fit.
+fn write_reports(errors: &[LeafError], buffer: &mut [u8]) -> Answer {
+    let mut at = 0;
+    for (kept, error) in errors.iter().enumerate() {
+        let report = report_bytes(error);
+        if report.len() > buffer.len() - at {
+            return Answer::full(kept);
+        }
+        buffer[at..at + report.len()].copy_from_slice(&report);
+        at += report.len();
+    }
+    Answer::done(errors.len())
+}
+
+/// Start and end, 32 bits each, the message's length, 16 bits, the message.
+pub fn report_bytes(error: &LeafError) -> Vec<u8> {
+    let span = error.span.expect("each report of these checks has a span");
+    let mut bytes = Vec::with_capacity(10 + error.message.len());
+    bytes.extend(number32(span.start));
+    bytes.extend(number32(span.end));
+    bytes.extend(number16(error.message.len()));
+    bytes.extend(error.message.as_bytes());
+    bytes
+}
+
+fn number16(n: usize) -> [u8; 2] {
+    u16::try_from(n).expect("a record holds nothing that long").to_be_bytes()
+}
+
+fn number32(n: usize) -> [u8; 4] {
+    u32::try_from(n).expect("a span is two 32-bit numbers").to_be_bytes()
+}

@@ -1,0 +1,156 @@
+//! A case: an operation, its records and the size of the lent buffer; what the oracle answers; the line that says both.
+
+use crate::answers::{self, Answer};
+use crate::hex;
+use crate::pieces::Piece;
+use crate::records;
+use crate::rng::Rng;
+
+/// What a lent buffer holds before each call.
+pub const FILL: u8 = 0xA5;
+
+#[derive(Debug, Clone, Copy, PartialEq, Eq)]
+pub enum Operation {
+    ReadSchema,
+    ReadCondition,
+    ReadTargets,
+    ReadPath,
+    Check,
+    Sums,
+    Lookup,
+    Terms,
+}
+
+impl Operation {
+    pub const ALL: [Operation; 8] = [
+        Operation::ReadSchema,
+        Operation::ReadCondition,
+        Operation::ReadTargets,
+        Operation::ReadPath,
+        Operation::Check,
+        Operation::Sums,
+        Operation::Lookup,
+        Operation::Terms,
+    ];
+
+    /// The letter that begins a line.
+    pub fn letter(self) -> char {
+        match self {
+            Operation::ReadSchema => 's',
+            Operation::ReadCondition => 'c',
+            Operation::ReadTargets => 't',
+            Operation::ReadPath => 'p',
+            Operation::Check => 'k',
+            Operation::Sums => 'm',
+            Operation::Lookup => 'l',
+            Operation::Terms => 'e',
+        }
+    }
+}
+
+/// A case whose records are still trees. `size` is the buffer's size; for terms it is the target's position.
+#[derive(Debug, Clone, PartialEq, Eq)]
+pub struct Draft {
+    pub operation: Operation,
+    pub records: Vec<Piece>,
+    pub size: usize,
+}
+
+impl Draft {
+    pub fn case(&self) -> Case {
+        Case { operation: self.operation, records: self.records.iter().map(Piece::bytes).collect(), size: self.size }
+    }
+
+    /// A buffer's size that shows something: large, just large enough, a byte too small, none.
+    pub fn size_from(&self, rng: &mut Rng) -> usize {
+        if matches!(self.operation, Operation::Terms) {
+            return self.size;
+        }
+        let needed = self.case().bytes_needed();
+        match rng.below(8) {
+            0 => needed,
+            1 => needed.saturating_sub(1),
+            2 => rng.below(needed + 1),
+            3 => rng.below(12),
+            4 => 4_096.max(needed),
+            _ => needed + rng.below(40),
+        }
+    }
+}
+
+#[derive(Debug, Clone, PartialEq, Eq)]
+pub struct Case {
+    pub operation: Operation,
+    pub records: Vec<Vec<u8>>,
+    pub size: usize,
+}
+
+/// What comes out of a case.
+#[derive(Debug, Clone, PartialEq, Eq)]
+pub enum Outcome {
+    /// A reader's number.
+    Number(u8),
+    /// An answer, and the whole buffer after the call.
+    Answered(Answer, Vec<u8>),
+    /// The rendered types of a comparison's operands.
+    Types([Option<String>; 2]),
+}
+
+impl Case {
+    /// The oracle's outcome; none for a case about terms whose records are refused.
+    pub fn outcome(&self) -> Option<Outcome> {
+        let r = &self.records;
+        Some(match self.operation {
+            Operation::ReadSchema => Outcome::Number(answers::read_number(records::read_schema(&r[0]))),
+            Operation::ReadCondition => Outcome::Number(answers::read_number(records::read_condition(&r[0]))),
+            Operation::ReadTargets => Outcome::Number(answers::read_number(records::read_targets(&r[0]))),
+            Operation::ReadPath => Outcome::Number(answers::read_number(records::read_path(&r[0]))),
+            Operation::Check => self.in_buffer(|buffer| answers::check(&r[0], &r[1], &r[2], buffer)),
+            Operation::Sums => self.in_buffer(|buffer| answers::sums(&r[0], buffer)),
+            Operation::Lookup => self.in_buffer(|buffer| answers::lookup(&r[0], &r[1], &r[2], buffer)),
+            Operation::Terms => Outcome::Types(answers::operand_types(&r[0], &r[1], &r[2], self.size)?),
+        })
+    }
+
+    /// The outcome of a call with a filled buffer.
+    pub fn in_buffer(&self, call: impl FnOnce(&mut [u8]) -> Answer) -> Outcome {
+        let mut buffer = vec![FILL; self.size];
+        let answer = call(&mut buffer);
+        Outcome::Answered(answer, buffer)
+    }
+
+    /// How long the whole output is: what a buffer needs for it.
+    fn bytes_needed(&self) -> usize {
+        const AMPLE: usize = 1 << 20;
+        let large = Case { size: AMPLE, ..self.clone() };
+        match large.outcome() {
+            Some(Outcome::Answered(_, buffer)) => written(&buffer).len(),
+            _ => 0,
+        }
+    }
+
+    /// The case and its outcome on one line.
+    pub fn line(&self, outcome: &Outcome) -> String {
+        let mut words = vec![self.operation.letter().to_string()];
+        words.extend(self.records.iter().map(|r| hex::encode(r)));
+        match outcome {
+            Outcome::Number(number) => words.push(number.to_string()),
+            Outcome::Answered(answer, buffer) => {
+                words.push(self.size.to_string());
+                words.extend([answer.number as usize, answer.record as usize, answer.count].map(|n| n.to_string()));
+                words.push(hex::encode(written(buffer)));
+            }
+            Outcome::Types(types) => {
+                words.push(self.size.to_string());
+                words.extend(types.iter().map(|t| t.clone().unwrap_or("-".to_string())));
+            }
+        }
+        words.join(" ")
+    }
+}
+
+/// The buffer up to the last byte that is not as it was before.
+fn written(buffer: &[u8]) -> &[u8] {
+    let end = buffer.iter().rposition(|b| *b != FILL).map_or(0, |last| last + 1);
+    &buffer[..end]
+}

@@ -1,0 +1,85 @@
+//! What a run of cases covered: reports by message, lookups by case, refusals by number and record.
+
+use crate::cases::{Case, Operation, Outcome};
+use std::collections::BTreeMap;
+
+/// A message is known by a part that no other has.
+const TEMPLATES: [(&str, &str); 9] = [
+    ("cannot sum: Timepoint", "Timepoints are ordinal"),
+    ("cannot sum: Decimal", "not decimals"),
+    ("cannot sum: another type", "cannot sum `"),
+    ("argument: expects .. but got ..", "` expects `"),
+    ("tp of what is no Timepoint", "to the current timepoint"),
+    ("comparison requires numeric operands", "comparison requires numeric"),
+    ("equality requires the same type", "equality requires"),
+    ("a wildcard in arithmetic", "a wildcard ("),
+    ("arithmetic on what is no Long", "arithmetic operates only"),
+];
+
+const LOOKUP_CASES: [&str; 5] = ["Resolved", "Missing", "NonRecord", "Ambiguous", "Unknown"];
+
+#[derive(Debug, Default)]
+pub struct Coverage {
+    counts: BTreeMap<String, usize>,
+}
+
+impl Coverage {
+    pub fn note(&mut self, case: &Case, outcome: &Outcome) {
+        self.add(format!("cases      {}", case.operation.letter()), 1);
+        match outcome {
+            Outcome::Number(number) => self.add(format!("number     {} {number:2}", case.operation.letter()), 1),
+            Outcome::Answered(answer, buffer) => {
+                let name = format!(
+                    "answer     {} number {:2} record {}",
+                    case.operation.letter(),
+                    answer.number,
+                    answer.record
+                );
+                self.add(name, 1);
+                self.note_output(case.operation, answer.number, answer.count, buffer);
+            }
+            Outcome::Types(types) => types.iter().for_each(|t| self.note_type(t)),
+        }
+    }
+
+    fn add(&mut self, name: String, times: usize) {
+        *self.counts.entry(name).or_default() += times;
+    }
+
+    fn note_output(&mut self, operation: Operation, number: u8, count: usize, buffer: &[u8]) {
+        match operation {
+            Operation::Lookup if number == 0 => self.add(format!("lookup     {}", LOOKUP_CASES[buffer[0] as usize]), 1),
+            Operation::Check | Operation::Sums => self.note_reports(count, buffer),
+            _ => {}
+        }
+    }
+
+    fn note_reports(&mut self, count: usize, buffer: &[u8]) {
+        let mut at = 0;
+        for _ in 0..count {
+            let length = u16::from_be_bytes([buffer[at + 8], buffer[at + 9]]) as usize;
+            let message = String::from_utf8_lossy(&buffer[at + 10..at + 10 + length]).to_string();
+            let known = TEMPLATES.iter().find(|(_, part)| message.contains(part));
+            self.add(format!("report     {}", known.map_or("UNKNOWN", |(name, _)| name)), 1);
+            at += 10 + length;
+        }
+    }
+
+    /// A type by its outermost form and its innermost base.
+    fn note_type(&mut self, ty: &Option<String>) {
+        let name = match ty {
+            None => "none".to_string(),
+            Some(text) => match text.split_once("entity:") {
+                Some((before, _)) => format!("{before}entity:.."),
+                None => text.clone(),
+            },
+        };
+        self.add(format!("type       {name}"), 1);
+    }
+
+    pub fn print(&self) {
+        for (name, count) in &self.counts {
+            println!("{count:7}  {name}");
+        }
+    }
+}

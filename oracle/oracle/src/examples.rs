@@ -1,0 +1,4 @@
+//! The examples of document 01 and of the readings of its open points, in a table of our own.
+
+pub mod bytes;
+pub mod rules;

@@ -1,0 +1,77 @@
+//! Cases made from a seed: valid records in which rules break and repeats occur, damaged copies, and boundaries.
+
+pub mod boundaries;
+pub mod conditions;
+pub mod damage;
+pub mod large;
+pub mod worlds;
+
+use crate::cases::{Draft, Operation};
+use crate::pieces::Piece;
+use crate::rng::Rng;
+use worlds::World;
+
+/// A schema, a condition, targets and a path that share their names.
+pub struct Scene {
+    pub schema: Piece,
+    pub condition: Piece,
+    pub targets: Piece,
+    pub path: Piece,
+    pub targets_count: usize,
+}
+
+/// A scene for an operation: terms want a comparison, sums want many sums.
+pub fn scene(rng: &mut Rng, operation: Operation) -> Scene {
+    let world = World::random(rng);
+    let condition = match operation {
+        Operation::Terms => conditions::comparison_record(rng, &world),
+        Operation::Sums => conditions::summing_record(rng, &world),
+        _ => conditions::condition_record(rng, &world),
+    };
+    scene_with(rng, world, condition)
+}
+
+fn scene_with(rng: &mut Rng, world: World, condition: Piece) -> Scene {
+    let (targets, targets_count) = world.targets(rng);
+    let path = world.path(rng, targets_count);
+    Scene { schema: world.schema(), condition, targets, path, targets_count }
+}
+
+/// A fresh draft for one operation; every fourth has a damaged record.
+pub fn draft(rng: &mut Rng, operation: Operation) -> Draft {
+    let scene = scene(rng, operation);
+    let mut draft = draft_of(rng, operation, scene);
+    if operation != Operation::Terms && rng.chance(1, 4) {
+        let which = rng.below(draft.records.len());
+        draft.records[which] = Piece::Field(damage::damaged(rng, &draft.records[which]));
+    }
+    draft.size = draft.size_from(rng);
+    draft
+}
+
+/// A fresh draft with a large condition, undamaged.
+pub fn large_draft(rng: &mut Rng, operation: Operation) -> Draft {
+    let world = World::random(rng);
+    let condition = conditions::large_record(rng, &world);
+    let scene = scene_with(rng, world, condition);
+    let mut draft = draft_of(rng, operation, scene);
+    draft.size = draft.size_from(rng);
+    draft
+}
+
+fn draft_of(rng: &mut Rng, operation: Operation, scene: Scene) -> Draft {
+    let Scene { schema, condition, targets, path, targets_count } = scene;
+    let records = match operation {
+        Operation::ReadSchema => vec![schema],
+        Operation::ReadCondition | Operation::Sums => vec![condition],
+        Operation::ReadTargets => vec![targets],
+        Operation::ReadPath => vec![path],
+        Operation::Check | Operation::Terms => vec![schema, condition, targets],
+        Operation::Lookup => vec![schema, targets, path],
+    };
+    let size = match operation {
+        Operation::Terms => rng.below(targets_count.max(1)),
+        _ => 0,
+    };
+    Draft { operation, records, size }
+}

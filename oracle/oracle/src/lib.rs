@@ -1,0 +1,16 @@
+//! The oracle: the four records read into the Rust's trees, and Check, Sums and Lookup answered by the published Rust.
+//!
+//! The reader is written from document 01 and the readings of its open points, and from nothing else.
+
+pub mod answers;
+pub mod cases;
+pub mod coverage;
+pub mod examples;
+pub mod generate;
+pub mod hex;
+pub mod lists;
+pub mod pieces;
+pub mod records;
+pub mod rng;
+pub mod shrink;
+pub mod workloads;

@@ -1,0 +1,122 @@
+//! The static library of the proved crates, called from Rust. A slice crosses the border as its address and its length,
+//! an `Answer` as a C struct by value. A function that the library does not have answers `None`.
+
+use oracle::answers::Answer;
+use oracle::cases::{Case, Operation, Outcome};
+
+/// The struct as the library returns it.
+#[repr(C)]
+#[derive(Clone, Copy)]
+#[allow(dead_code)]
+struct Returned {
+    number: u8,
+    record: u8,
+    count: usize,
+}
+
+#[allow(dead_code)]
+impl Returned {
+    fn answer(self) -> Answer {
+        Answer { number: self.number, record: self.record, count: self.count }
+    }
+}
+
+#[allow(dead_code)]
+extern "C" {
+    fn dogwood_read_schema(bytes: *const u8, length: usize) -> u8;
+    fn dogwood_read_condition(bytes: *const u8, length: usize) -> u8;
+    fn dogwood_read_targets(bytes: *const u8, length: usize) -> u8;
+    fn dogwood_read_path(bytes: *const u8, length: usize) -> u8;
+    fn dogwood_check(
+        schema: *const u8,
+        schema_length: usize,
+        condition: *const u8,
+        condition_length: usize,
+        targets: *const u8,
+        targets_length: usize,
+        reports: *mut u8,
+        reports_length: usize,
+    ) -> Returned;
+    fn dogwood_sums(condition: *const u8, condition_length: usize, reports: *mut u8, reports_length: usize)
+        -> Returned;
+    fn dogwood_lookup(
+        schema: *const u8,
+        schema_length: usize,
+        targets: *const u8,
+        targets_length: usize,
+        path: *const u8,
+        path_length: usize,
+        output: *mut u8,
+        output_length: usize,
+    ) -> Returned;
+}
+
+/// Calls a function of the library with the bytes of slices, where the library has it.
+macro_rules! called {
+    ($present:meta, $function:ident, [$($read:expr),*], [$($lent:expr),*]) => {{
+        #[cfg($present)]
+        {
+            // SAFETY: each address and length is that of a slice that lives through the call, and the lent one is ours alone.
+            Some(unsafe { $function($($read.as_ptr(), $read.len(),)* $($lent.as_mut_ptr(), $lent.len(),)*) })
+        }
+        #[cfg(not($present))]
+        {
+            $(let _ = &$read;)*
+            $(let _ = &$lent;)*
+            None
+        }
+    }};
+}
+
+pub fn read(operation: Operation, bytes: &[u8]) -> Option<u8> {
+    match operation {
+        Operation::ReadSchema => called!(has_dogwood_read_schema, dogwood_read_schema, [bytes], []),
+        Operation::ReadCondition => called!(has_dogwood_read_condition, dogwood_read_condition, [bytes], []),
+        Operation::ReadTargets => called!(has_dogwood_read_targets, dogwood_read_targets, [bytes], []),
+        Operation::ReadPath => called!(has_dogwood_read_path, dogwood_read_path, [bytes], []),
+        _ => None,
+    }
+}
+
+pub fn check(schema: &[u8], condition: &[u8], targets: &[u8], reports: &mut [u8]) -> Option<Answer> {
+    let returned: Option<Returned> = called!(has_dogwood_check, dogwood_check, [schema, condition, targets], [reports]);
+    returned.map(Returned::answer)
+}
+
+pub fn sums(condition: &[u8], reports: &mut [u8]) -> Option<Answer> {
+    let returned: Option<Returned> = called!(has_dogwood_sums, dogwood_sums, [condition], [reports]);
+    returned.map(Returned::answer)
+}
+
+pub fn lookup(schema: &[u8], targets: &[u8], path: &[u8], output: &mut [u8]) -> Option<Answer> {
+    let returned: Option<Returned> = called!(has_dogwood_lookup, dogwood_lookup, [schema, targets, path], [output]);
+    returned.map(Returned::answer)
+}
+
+/// The library's outcome of a case; none where it lacks the function.
+#[allow(dead_code)]
+pub fn outcome(case: &Case) -> Option<Outcome> {
+    let r = &case.records;
+    let mut answer = None;
+    let outcome = match case.operation {
+        Operation::Check => case.in_buffer(|buffer| noted(&mut answer, check(&r[0], &r[1], &r[2], buffer))),
+        Operation::Sums => case.in_buffer(|buffer| noted(&mut answer, sums(&r[0], buffer))),
+        Operation::Lookup => case.in_buffer(|buffer| noted(&mut answer, lookup(&r[0], &r[1], &r[2], buffer))),
+        Operation::Terms => return None,
+        reading => return read(reading, &r[0]).map(Outcome::Number),
+    };
+    answer.map(|_| outcome)
+}
+
+/// Keeps whether there was an answer, and hands on one in any case.
+fn noted(kept: &mut Option<Answer>, answer: Option<Answer>) -> Answer {
+    *kept = answer;
+    answer.unwrap_or(Answer { number: 0, record: 0, count: 0 })
+}
+
+/// The operations whose functions the library has.
+#[allow(dead_code)]
+pub fn operations() -> Vec<Operation> {
+    let empty = |operation: Operation| Case { operation, records: vec![Vec::new(); 3], size: 0 };
+    Operation::ALL.into_iter().filter(|operation| outcome(&empty(*operation)).is_some()).collect()
+}

@@ -1,0 +1,184 @@
+//! The stored lists of cases, with the oracle's answers. The same seed gives the same bytes.
+
+use crate::cases::{Case, Operation, Outcome};
+use crate::coverage::Coverage;
+use crate::examples::{bytes, rules};
+use crate::generate::{self, boundaries};
+use crate::pieces::Piece;
+use crate::rng::Rng;
+
+/// The seed of the stored lists.
+pub const SEED: u64 = 20_261_115;
+
+/// One stored file.
+pub struct List {
+    pub file: &'static str,
+    /// The line's form, for the file's heading.
+    pub form: &'static str,
+    pub cases: Vec<Case>,
+}
+
+pub fn all() -> Vec<List> {
+    vec![
+        List {
+            file: "readers.txt",
+            form: "s|c|t|p RECORD NUMBER (schema, condition, targets, path)",
+            cases: readers(),
+        },
+        List { file: "check.txt", form: "k SCHEMA CONDITION TARGETS SIZE NUMBER RECORD COUNT BUFFER", cases: checks() },
+        List { file: "sums.txt", form: "m CONDITION SIZE NUMBER RECORD COUNT BUFFER", cases: sums() },
+        List { file: "lookup.txt", form: "l SCHEMA TARGETS PATH SIZE NUMBER RECORD COUNT BUFFER", cases: lookups() },
+        List {
+            file: "terms.txt",
+            form:
+                "e SCHEMA CONDITION TARGETS POSITION LEFT RIGHT (rendered types of a comparison's operands, - for none)",
+            cases: terms(),
+        },
+    ]
+}
+
+impl List {
+    /// The file's whole text; what it covers is noted on the way.
+    pub fn text(&self, coverage: &mut Coverage) -> String {
+        let mut text = self.heading();
+        for case in &self.cases {
+            let Some(outcome) = case.outcome() else { continue };
+            coverage.note(case, &outcome);
+            text.push_str(&case.line(&outcome));
+            text.push('\n');
+        }
+        text
+    }
+
+    fn heading(&self) -> String {
+        format!(
+            "# Cases with the answers of the published Rust (repository dogwood-policy/dogwood 929f49e730) over a reader of\n\
+             # the records. Made by `oracle/run replay-list`, seed {SEED}; made again it has the same bytes.\n\
+             # A line: {}\n\
+             # Bytes are hexadecimal, [..]*n; is a part n times, - is nothing. SIZE is the lent buffer's size in bytes; the\n\
+             # buffer is filled with A5 before the call, and BUFFER is what its first bytes are after it, all others being A5.\n",
+            self.form
+        )
+    }
+}
+
+fn case(operation: Operation, records: Vec<Vec<u8>>, size: usize) -> Case {
+    Case { operation, records, size }
+}
+
+/// Random cases of an operation. Of those that show little only every fourth is kept.
+fn random(seed: u64, operation: Operation, count: usize) -> Vec<Case> {
+    let mut rng = Rng::new(seed ^ operation.letter() as u64);
+    let mut cases = Vec::new();
+    while cases.len() < count {
+        let case = generate::draft(&mut rng, operation).case();
+        if !shows_little(&case) || rng.chance(1, 4) {
+            cases.push(case);
+        }
+    }
+    cases
+}
+
+/// An accepted input that gives no report, a lookup that is Unknown, an operand without a type.
+fn shows_little(case: &Case) -> bool {
+    match case.outcome() {
+        Some(Outcome::Answered(answer, buffer)) if answer.number == 0 => match case.operation {
+            Operation::Lookup => buffer[0] == 4,
+            _ => answer.count == 0,
+        },
+        Some(Outcome::Types(types)) => types.contains(&None),
+        _ => false,
+    }
+}
+
+/// Each case once, in the order of its first place.
+fn once(cases: Vec<Case>) -> Vec<Case> {
+    let mut seen = std::collections::HashSet::new();
+    cases.into_iter().filter(|c| seen.insert(format!("{c:?}"))).collect()
+}
+
+fn readers() -> Vec<Case> {
+    let mut cases = Vec::new();
+    for e in bytes::all() {
+        cases.push(case(Operation::ReadSchema, vec![e.schema], 0));
+        cases.push(case(Operation::ReadCondition, vec![e.condition], 0));
+        cases.push(case(Operation::ReadTargets, vec![e.targets], 0));
+        cases.extend(e.path.map(|path| case(Operation::ReadPath, vec![path], 0)));
+    }
+    cases.extend(boundaries::all());
+    for (operation, count) in [
+        (Operation::ReadSchema, 60),
+        (Operation::ReadCondition, 120),
+        (Operation::ReadTargets, 60),
+        (Operation::ReadPath, 40),
+    ] {
+        cases.extend(random(SEED, operation, count));
+    }
+    once(cases)
+}
+
+fn checks() -> Vec<Case> {
+    let mut cases = Vec::new();
+    for e in bytes::all().into_iter().filter(|e| e.path.is_none()) {
+        cases.push(case(Operation::Check, vec![e.schema, e.condition, e.targets], 300));
+    }
+    for e in rules::checked() {
+        let records = [&e.schema, &e.condition, &e.targets].map(Piece::bytes).to_vec();
+        cases.extend(at_three_sizes(Operation::Check, records, &e.reports));
+    }
+    cases.extend(random(SEED, Operation::Check, 520));
+    once(cases)
+}
+
+fn sums() -> Vec<Case> {
+    let mut cases = Vec::new();
+    for e in bytes::all() {
+        cases.push(case(Operation::Sums, vec![e.condition], 100));
+    }
+    for e in rules::summed() {
+        cases.extend(at_three_sizes(Operation::Sums, vec![e.condition.bytes()], &e.reports));
+    }
+    cases.push(long_annotation());
+    cases.extend(random(SEED, Operation::Sums, 330));
+    once(cases)
+}
+
+/// A summand whose annotation is longer than any message of Check can be.
+fn long_annotation() -> Case {
+    use crate::pieces::*;
+    let segments: Vec<String> = (0..120).map(|i| format!("S{i:03}")).collect();
+    let total = sum((1, 2), slot(Some("v"), 0), vec![named("v", &segments)], condition(11, (0, 0), vec![]));
+    case(Operation::Sums, vec![condition_record(comparison((0, 9), 1, total, integer())).bytes()], 4_000)
+}
+
+fn lookups() -> Vec<Case> {
+    let mut cases = Vec::new();
+    for e in bytes::all() {
+        let path = e.path.unwrap_or_else(|| crate::pieces::path(0, &["id"], 0).bytes());
+        cases.push(case(Operation::Lookup, vec![e.schema, e.targets, path], 40));
+    }
+    for e in rules::looked() {
+        let records = [&e.schema, &e.targets, &e.path].map(Piece::bytes).to_vec();
+        let needed = 3 + e.strings.iter().map(|s| 2 + s.len()).sum::<usize>();
+        cases.extend([200, needed, needed - 1, 0].map(|size| case(Operation::Lookup, records.clone(), size)));
+    }
+    cases.extend(random(SEED, Operation::Lookup, 340));
+    once(cases)
+}
+
+fn terms() -> Vec<Case> {
+    let mut cases = Vec::new();
+    for e in rules::checked() {
+        cases.push(case(Operation::Terms, [&e.schema, &e.condition, &e.targets].map(Piece::bytes).to_vec(), 0));
+    }
+    cases.extend(random(SEED, Operation::Terms, 320));
+    once(cases.into_iter().filter(|c| c.outcome().is_some()).collect())
+}
+
+/// A large buffer, one just large enough, one a byte too small.
+fn at_three_sizes(operation: Operation, records: Vec<Vec<u8>>, reports: &[(u32, u32, String)]) -> Vec<Case> {
+    let needed: usize = reports.iter().map(|(_, _, message)| 10 + message.len()).sum();
+    let mut sizes = vec![needed + 500, needed];
+    sizes.extend(needed.checked_sub(1));
+    sizes.into_iter().map(|size| case(operation, records.clone(), size)).collect()
+}

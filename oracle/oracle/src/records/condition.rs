@@ -1,0 +1,184 @@
+//! Record 2: one condition, which holds terms; an aggregate term holds a condition again.
+
+use super::fields::{Class, Fields};
+use super::*;
+use dogwood_rust::error::Span;
+use dogwood_rust::extension::temporal::ast::*;
+use dogwood_rust::field_paths::FieldPaths;
+
+/// A condition, and the field paths of its arguments.
+pub struct ConditionRecord {
+    pub condition: Condition,
+    pub field_paths: FieldPaths,
+}
+
+pub fn read_condition(bytes: &[u8]) -> Result<ConditionRecord, Refusal> {
+    let fields = Fields::open(bytes, b"DWC")?;
+    let mut reader = Reader { fields, field_paths: FieldPaths::default() };
+    let condition = reader.condition(1)?;
+    reader.fields.close()?;
+    Ok(ConditionRecord { condition, field_paths: reader.field_paths })
+}
+
+struct Reader<'a> {
+    fields: Fields<'a>,
+    field_paths: FieldPaths,
+}
+
+/// Where a term stands: below an array no aggregate is let in.
+#[derive(Clone, Copy)]
+struct Place {
+    level: u32,
+    below_array: bool,
+}
+
+impl Place {
+    fn of_operand(condition_level: u32) -> Place {
+        Place { level: condition_level + 1, below_array: false }
+    }
+
+    fn inner(self) -> Place {
+        Place { level: self.level + 1, ..self }
+    }
+
+    fn element(self) -> Place {
+        Place { level: self.level + 1, below_array: true }
+    }
+}
+
+/// The record holds no window; the check of types looks at none.
+fn some_window() -> WithinSpec {
+    WithinSpec::Concrete(Interval { amount: 1, unit: TimeUnit::Hours })
+}
+
+fn some_call(span: Span) -> Call {
+    Call { span, name: "macro".to_string(), args: Vec::new() }
+}
+
+impl Reader<'_> {
+    fn span(&mut self) -> Result<Span, Refusal> {
+        let start = self.fields.number32()? as usize;
+        let end = self.fields.number32()? as usize;
+        Ok(Span { start, end })
+    }
+
+    fn boxed(&mut self, level: u32) -> Result<Box<Condition>, Refusal> {
+        Ok(Box::new(self.condition(level)?))
+    }
+
+    fn condition(&mut self, level: u32) -> Result<Condition, Refusal> {
+        let kind = self.fields.choice_at(1, 13, level)?;
+        let span = self.span()?;
+        let inner = level + 1;
+        let kind = match kind {
+            1 => ConditionKind::And { left: self.boxed(inner)?, right: self.boxed(inner)? },
+            2 => ConditionKind::Or { left: self.boxed(inner)?, right: self.boxed(inner)? },
+            3 => ConditionKind::Not { inner: self.boxed(inner)? },
+            4 => ConditionKind::Formerly { within: some_window(), body: self.boxed(inner)? },
+            5 => ConditionKind::Previous { within: some_window(), body: self.boxed(inner)? },
+            6 => ConditionKind::Since { left: self.boxed(inner)?, within: some_window(), right: self.boxed(inner)? },
+            7 => ConditionKind::Predicate(self.predicate(level)?),
+            8 => self.comparison(level)?,
+            9 => ConditionKind::Exists { var: self.binder()?, body: self.boxed(inner)? },
+            10 => ConditionKind::Tp { var: self.slot()? },
+            11 => ConditionKind::Call(some_call(span)),
+            12 => ConditionKind::SigilRef { sigil: Sigil::Param, name: "p".to_string() },
+            _ => ConditionKind::Refine { base: self.boxed(inner)?, fields: Vec::new(), span },
+        };
+        Ok(Condition { span, kind })
+    }
+
+    fn predicate(&mut self, level: u32) -> Result<Predicate, Refusal> {
+        let span = self.span()?;
+        let namespace = self.fields.strings(Class::PathName)?;
+        let action = self.fields.string(Class::Plain)?;
+        let count = self.fields.byte()?;
+        let args = (0..count).map(|_| self.argument(level)).collect::<Result<_, _>>()?;
+        Ok(Predicate { span, namespace, action, kind: "request".to_string(), args })
+    }
+
+    fn argument(&mut self, level: u32) -> Result<NamedArg, Refusal> {
+        let name = self.fields.string(Class::Plain)?;
+        let path = self.fields.path()?;
+        let value = self.term(Place::of_operand(level))?;
+        Ok(NamedArg { name: self.field_paths.named(&name, &path), value })
+    }
+
+    fn comparison(&mut self, level: u32) -> Result<ConditionKind, Refusal> {
+        const OPERATORS: [CmpOp; 6] = [CmpOp::Le, CmpOp::Lt, CmpOp::Ge, CmpOp::Gt, CmpOp::Eq, CmpOp::NotEq];
+        let op = OPERATORS[self.fields.choice(0, 5)? as usize];
+        let left = self.term(Place::of_operand(level))?;
+        let right = self.term(Place::of_operand(level))?;
+        Ok(ConditionKind::Comparison { op, left, right })
+    }
+
+    fn slot(&mut self) -> Result<BinderSlot, Refusal> {
+        Ok(match self.fields.choice(0, 2)? {
+            0 => BinderSlot::Name(self.fields.string(Class::Plain)?),
+            1 => BinderSlot::ParamRef("p".to_string()),
+            _ => BinderSlot::BinderRef("b".to_string()),
+        })
+    }
+
+    /// The annotation's byte is 0 for `Timepoint`, else a count of segments; it is no choice byte.
+    fn binder(&mut self) -> Result<TypedBinder, Refusal> {
+        let slot = self.slot()?;
+        let ty = match self.fields.byte()? {
+            0 => Type::Timepoint,
+            count => Type::Named(self.fields.strings_counted(count, Class::Identifier)?),
+        };
+        Ok(TypedBinder { slot, ty })
+    }
+
+    fn binders(&mut self) -> Result<Vec<TypedBinder>, Refusal> {
+        let count = self.fields.byte()?;
+        (0..count).map(|_| self.binder()).collect()
+    }
+
+    fn term(&mut self, place: Place) -> Result<Term, Refusal> {
+        let kind = self.fields.choice_at(1, 14, place.level)?;
+        if kind == 11 && place.below_array {
+            return Err(AGGREGATE_BELOW_ARRAY);
+        }
+        Ok(match kind {
+            1 => Term::Entity { ty: self.fields.string(Class::PathName)?, id: "id".to_string() },
+            2 => Term::Integer(1),
+            3 => Term::Decimal("1.0".to_string()),
+            4 => Term::String("text".to_string()),
+            5 => Term::Bool(true),
+            6 => Term::ContextField(self.fields.path()?),
+            7 => Term::ScopeField(self.fields.path()?),
+            8 => Term::Var(self.fields.string(Class::Plain)?),
+            9 => Term::Wildcard,
+            10 => Term::Array(self.elements(place)?),
+            11 => Term::Agg(Box::new(self.aggregate(place)?)),
+            12 => {
+                let left = Box::new(self.term(place.inner())?);
+                let right = Box::new(self.term(place.inner())?);
+                Term::Arith { op: ArithOp::Add, left, right }
+            }
+            13 => Term::ParamRef("p".to_string()),
+            _ => Term::BinderRef("b".to_string()),
+        })
+    }
+
+    fn elements(&mut self, place: Place) -> Result<Vec<Term>, Refusal> {
+        let count = self.fields.byte()?;
+        (0..count).map(|_| self.term(place.element())).collect()
+    }
+
+    fn aggregate(&mut self, place: Place) -> Result<AggExpr, Refusal> {
+        let kind = self.fields.choice(1, 3)?;
+        let span = self.span()?;
+        let kind = match kind {
+            1 => AggExprKind::Sum {
+                bound_var: self.slot()?,
+                for_vars: self.binders()?,
+                body: self.boxed(place.level + 1)?,
+            },
+            2 => AggExprKind::Count { for_vars: self.binders()?, body: self.boxed(place.level + 1)? },
+            _ => AggExprKind::Call(some_call(span)),
+        };
+        Ok(AggExpr { span, kind })
+    }
+}

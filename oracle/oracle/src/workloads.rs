@@ -1,0 +1,182 @@
+//! Records for the benchmark: small everyday ones, a condition of 32 KB with 255 targets, a schema of hundreds of names,
+//! deep arrays.
+
+use crate::cases::{Case, Operation};
+use crate::pieces::*;
+use crate::records::LONGEST;
+
+const NONE: [&str; 0] = [];
+
+/// The records of one row of the table.
+pub struct Workload {
+    pub name: String,
+    /// Whether its rows are those of reading, sums and lookup too, or of the check alone.
+    pub reads: bool,
+    pub schema: Vec<u8>,
+    pub condition: Vec<u8>,
+    pub targets: Vec<u8>,
+    pub path: Vec<u8>,
+}
+
+fn workload(name: &str, reads: bool, schema: Piece, condition: Piece, targets: Piece, path: Piece) -> Workload {
+    Workload {
+        name: name.to_string(),
+        reads,
+        schema: schema.bytes(),
+        condition: condition.bytes(),
+        targets: targets.bytes(),
+        path: path.bytes(),
+    }
+}
+
+pub fn all() -> Vec<Workload> {
+    let age = || path(0, &["profile", "age"], 0);
+    let mut all = vec![
+        workload("everyday", true, shop(2, 4), condition_record(everyday()), view_targets(2), age()),
+        workload("everyday, 3 reports", false, shop(2, 4), condition_record(mistaken()), view_targets(2), age()),
+        workload("32 KB condition, 1 target", false, shop(2, 4), large_condition(), view_targets(1), age()),
+        workload("32 KB condition, 255 targets", true, shop(2, 255), large_condition(), view_targets(255), age()),
+        workload(
+            "hundreds of names, 1 target",
+            false,
+            shop(300, 280),
+            condition_record(everyday()),
+            view_targets(1),
+            age(),
+        ),
+        workload(
+            "hundreds of names, 255 targets",
+            true,
+            shop(300, 280),
+            condition_record(everyday()),
+            view_targets(255),
+            age(),
+        ),
+    ];
+    for depth in [2, 4, 8, 12, 16] {
+        let name = format!("array of depth {depth}");
+        all.push(workload(&name, false, shop(2, 4), condition_record(deep_array(depth)), view_targets(1), age()));
+    }
+    all
+}
+
+impl Workload {
+    /// The same records as cases, with a buffer that holds all and one that does not.
+    pub fn cases(&self) -> Vec<Case> {
+        let (s, c, t, p) = (self.schema.clone(), self.condition.clone(), self.targets.clone(), self.path.clone());
+        let runs = [
+            (Operation::Check, vec![s.clone(), c.clone(), t.clone()]),
+            (Operation::Sums, vec![c]),
+            (Operation::Lookup, vec![s, t, p]),
+        ];
+        let sized = |(operation, records): (Operation, Vec<Vec<u8>>)| {
+            [65_536, 200, 5].map(|size| Case { operation, records: records.clone(), size })
+        };
+        runs.into_iter().flat_map(sized).collect()
+    }
+}
+
+// ─── Schema ───
+
+/// Entity types `App::User` and others, and actions `view000` and on, all with the same context.
+fn shop(entities: usize, actions: usize) -> Piece {
+    let user = || record_type(vec![("age", ty(0, vec![])), ("name", ty(1, vec![]))]);
+    let mut types = vec![entity_type("App::Bot", &NONE, attributes(vec![("owner", ty(7, vec![text("App::User")]))]))];
+    types.extend(
+        (2..entities).map(|i| entity_type(&format!("App::Kind{i:03}"), &NONE, attributes(vec![("x", ty(0, vec![]))]))),
+    );
+    types.push(entity_type("App::User", &["App::Group"], attributes(vec![("profile", user())])));
+    let input = || {
+        record_type(vec![("amount", ty(0, vec![])), ("mode", ty(1, vec![])), ("who", ty(7, vec![text("App::User")]))])
+    };
+    let actions = (0..actions).map(|i| {
+        action(
+            "App::Action",
+            &format!("view{i:03}"),
+            &["App::User"],
+            &["App::Bot"],
+            record_type(vec![("input", input())]),
+        )
+    });
+    schema(types, actions.collect())
+}
+
+fn view_targets(count: usize) -> Piece {
+    targets(narrowing(2, "App::User"), byte(1), (0..count).map(|i| target("App", &format!("view{i:03}"))).collect())
+}
+
+// ─── Conditions ───
+
+fn both(left: Piece, right: Piece) -> Piece {
+    condition(1, (0, 90), vec![left, right])
+}
+
+/// All of these joined as a tree of little depth.
+fn joined(mut all: Vec<Piece>) -> Piece {
+    while all.len() > 1 {
+        let mut pairs = all.into_iter();
+        let mut next = Vec::new();
+        while let Some(left) = pairs.next() {
+            next.push(match pairs.next() {
+                Some(right) => both(left, right),
+                None => left,
+            });
+        }
+        all = next;
+    }
+    all.pop().expect("at least one condition")
+}
+
+fn view(arguments: Vec<Piece>) -> Piece {
+    predicate((5, 30), (5, 28), &["App", "Action"], "view000", arguments)
+}
+
+/// `exists (n: Long). view{ amount: n, who: principal } && n < 1000 && principal.profile.age >= 18 && ...`
+fn everyday() -> Piece {
+    let seen = view(vec![
+        argument("input.amount", &["input", "amount"], var("n")),
+        argument("input.who", &["input", "who"], scope_field(&["principal"])),
+    ]);
+    let cheap = comparison((31, 40), 1, var("n"), integer());
+    let adult = comparison((41, 60), 2, scope_field(&["principal", "profile", "age"]), integer());
+    let rows = both(condition(10, (61, 65), vec![slot(Some("t"), 0)]), condition(4, (66, 80), vec![seen.clone()]));
+    let few = comparison((81, 99), 1, count((82, 90), vec![named("t", &NONE)], rows), integer());
+    exists((0, 99), named("n", &["Long"]), joined(vec![seen, cheap, adult, few]))
+}
+
+/// The same with three mistakes.
+fn mistaken() -> Piece {
+    let wrong = comparison((1, 9), 1, scope_field(&["principal", "profile", "name"]), integer());
+    let also = view(vec![argument("input.mode", &["input", "mode"], integer())]);
+    let third = comparison((10, 19), 4, arith(context_field(&["input", "mode"]), integer()), integer());
+    joined(vec![wrong, everyday(), also, third])
+}
+
+/// As many small conditions as fit into 32 KB; one in a hundred breaks a rule.
+fn large_condition() -> Piece {
+    let of =
+        |count: usize| condition_record(exists((0, 9), named("n", &["Long"]), joined((0..count).map(small).collect())));
+    let mut count = 1;
+    while of(count + 1).bytes().len() <= LONGEST {
+        count += 1;
+    }
+    of(count)
+}
+
+fn small(i: usize) -> Piece {
+    let at = (i as u32, i as u32 + 9);
+    match i % 100 {
+        99 => comparison(at, 1, context_field(&["input", "mode"]), integer()),
+        k if k % 4 == 0 => {
+            predicate(at, at, &["App"], "view001", vec![argument("input.amount", &["input", "amount"], var("n"))])
+        }
+        k if k % 4 == 1 => comparison(at, 1, arith(context_field(&["input", "amount"]), var("n")), integer()),
+        k if k % 4 == 2 => comparison(at, 4, scope_field(&["principal", "profile", "age"]), var("amount")),
+        _ => comparison(at, 4, context_field(&["input", "who"]), scope_field(&["principal"])),
+    }
+}
+
+fn deep_array(depth: usize) -> Piece {
+    let nested = |inner| (0..depth).fold(inner, |piece, _| array(vec![piece]));
+    comparison((0, 9), 4, nested(integer()), nested(integer()))
+}
