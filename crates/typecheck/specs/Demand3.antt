@@ -1,5 +1,5 @@
--- Demand 3, of runs of the check. `alone` is about one run, `joined` about lists joined, `alike` about order and repeats; each for every accepted schema,
--- condition, narrowing and target list with space for all reports, whatever the buffers held before. Assumes nothing.
+-- Demand 3, of runs of the check: `demand3` is the claim of `Breaches.antt`. `alone` is about one run, `joined` about lists joined, `alike` about order
+-- and repeats. Assumes nothing.
 use Prim.Native.Nat.{ℕ, _+_, _≤_}
 use native.Mathlib.Omega.{arith}
 use mathlib.Core.Path.{_≡_, refl, sym, ap, subst, _∙_}
@@ -23,7 +23,7 @@ use Rattle.reports.specs.Once.{both, both-in, both-nodup}
 use Rattle.reports.specs.Sets.{in-left, in-right, in-append, length-same}
 use Rattle.reports.specs.Pairs.{_∈_, NoDup, Same, Pair, pairOf, pairs, space}
 use Rattle.typecheck.specs.Check.{factsOf, nodeBreaches, breachesUnder, checked, check}
-use Rattle.typecheck.specs.Breaches.{Accepted, isChecked, BreachUnder, BreachOf, PairOf, Different, SpaceForAll, reportedPairs}
+use Rattle.typecheck.specs.Breaches.{Accepted, isChecked, BreachUnder, BreachOf, PairOf, Different, SpaceForAll, reportedPairs, Exact, under, Alone, Joined, Alike, Claim}
 
 -- ---- what is gathered from a list, and the pairs of a list
 
@@ -65,15 +65,15 @@ in-pairs (x ∷ bs) b (inr h) = inr (in-pairs bs b h)
 -- ---- the breaches of the rules, as a list
 
 module _ (s : Schema) (c : Condition) (scope : Scope) (t : Target) (b : Breach) where
-  under : (action : Option Action) → Type 0
-  under action = Source (nodeBreaches (factsOf s c scope action)) (reached c) b
+  underAction : (action : Option Action) → Type 0
+  underAction action = Source (nodeBreaches (factsOf s c scope action)) (reached c) b
 
   -- by what the schema says of the target
   judged : (o : Option Action) → List Breach
   judged o = maybe (gather (nodeBreaches (factsOf s c scope none)) (reached c)) (λ a. cond (admitsAnyEnv s scope a) (gather (nodeBreaches (factsOf s c scope (some a))) (reached c)) []) o
 
-  from-rules : (o : Option Action) → b ∈ judged o → (maybe true (admitsAnyEnv s scope) o ≡ true) × under o
-  unfolding judged under
+  from-rules : (o : Option Action) → b ∈ judged o → (maybe true (admitsAnyEnv s scope) o ≡ true) × underAction o
+  unfolding judged underAction
   from-rules none h = (refl, source _ (reached c) b h)
   from-rules (some a) h = go (admitsAnyEnv s scope a) h
     where
@@ -81,8 +81,8 @@ module _ (s : Schema) (c : Condition) (scope : Scope) (t : Target) (b : Breach) 
       go true h = (refl, source _ (reached c) b h)
       go false h = absurd h
 
-  by-rules : (o : Option Action) → maybe true (admitsAnyEnv s scope) o ≡ true → under o → b ∈ judged o
-  unfolding judged under
+  by-rules : (o : Option Action) → maybe true (admitsAnyEnv s scope) o ≡ true → underAction o → b ∈ judged o
+  unfolding judged underAction
   by-rules none e r = gathered _ (reached c) b (r .own) (r .listed) (r .gives)
   by-rules (some a) e r = rw e (gathered _ (reached c) b (r .own) (r .listed) (r .gives))
 
@@ -92,7 +92,7 @@ breaches s c ts = gather (breachesUnder s c (ts .scope)) (ts .list)
 
 module _ (s : Schema) (c : Condition) (ts : Targets) where
   is-breach : (b : Breach) → b ∈ breaches s c ts → BreachOf s c ts b
-  unfolding breachesUnder isChecked judged under
+  unfolding breachesUnder isChecked judged underAction
   is-breach b h =
       let r = source (breachesUnder s c (ts .scope)) (ts .list) b h in
       let t = r .own in
@@ -100,7 +100,7 @@ module _ (s : Schema) (c : Condition) (ts : Targets) where
       record { target = t; listed = r .listed; checked = i .0; breach = record { node = i .1 .own; isReached = i .1 .listed; breaks = i .1 .gives } }
 
   breach-in : (b : Breach) → BreachOf s c ts b → b ∈ breaches s c ts
-  unfolding breachesUnder isChecked judged under
+  unfolding breachesUnder isChecked judged underAction
   breach-in b r =
       let t = r .target in
       gathered (breachesUnder s c (ts .scope)) (ts .list) b t (r .listed)
@@ -132,18 +132,6 @@ module _ (schemaBytes conditionBytes targetBytes : List ℕ) (s : Schema) (c : C
     enough : space (pairs (once [] (breaches s c ts))) ≤ length buffer
     enough = room .room _ (different s c ts)
 
--- what demand 3 says of one run
-pub record Exact (s : Schema) (c : Condition) (ts : Targets) (buffer : List ℕ) (o : Outcome) : Type 0 where
-  pub number : o .answer .number ≡ 0
-  -- the reports are exactly the different pairs among the breaches under the targets that are checked, each once
-  pub pairs : Different s c ts (reportedPairs o)
-  -- the count is their number
-  pub count : (ps : List Pair) → Different s c ts ps → o .answer .count ≡ length ps
-  -- 0 exactly where there is no such breach
-  pub none : (o .answer .count ≡ 0) ↔ ((b : Breach) → BreachOf s c ts b → ⊥)
-  -- the bytes behind the reports are as they were
-  pub rest : drop (space (reportedPairs o)) (o .buffer) ≡ drop (space (reportedPairs o)) buffer
-
 no-breach : (s : Schema) (c : Condition) (ts : Targets) → (breaches s c ts ≡ []) ↔ ((b : Breach) → BreachOf s c ts b → ⊥)
 no-breach s c ts = ((λ e b r. subst (λ (l : List Breach). b ∈ l) e (breach-in s c ts b r)), (λ f. go (breaches s c ts) (λ b h. f b (is-breach s c ts b h))))
   where
@@ -152,8 +140,7 @@ no-breach s c ts = ((λ e b r. subst (λ (l : List Breach). b ∈ l) e (breach-i
     go (b ∷ l) f = absurd (f b (inl refl))
 
 module _ (schemaBytes conditionBytes : List ℕ) (s : Schema) (c : Condition) where
-  pub alone : (targetBytes : List ℕ) (ts : Targets) → Accepted schemaBytes conditionBytes targetBytes s c ts → (buffer : List ℕ) → SpaceForAll s c ts buffer
-      → Exact s c ts buffer (check schemaBytes conditionBytes targetBytes buffer)
+  pub alone : Alone schemaBytes conditionBytes s c
   alone targetBytes ts is buffer room =
       let o = check schemaBytes conditionBytes targetBytes buffer in
       let bs = breaches s c ts in
@@ -173,22 +160,11 @@ module _ (schemaBytes conditionBytes : List ℕ) (s : Schema) (c : Condition) wh
         rest = laws.run-rest bs buffer o run fits;
       }
 
-  -- lists joined under one narrowing: count(A then B) = count(A) + count(B) - the number of pairs reported both for A and for B
-  pub joined : (bytesA bytesB bytesAB : List ℕ) (scope : Scope) (front behind : List Target)
-      → Accepted schemaBytes conditionBytes bytesA s c (record { scope = scope; list = front })
-      → Accepted schemaBytes conditionBytes bytesB s c (record { scope = scope; list = behind })
-      → Accepted schemaBytes conditionBytes bytesAB s c (record { scope = scope; list = front ++ behind })
-      → (bufferA bufferB bufferAB : List ℕ)
-      → SpaceForAll s c (record { scope = scope; list = front }) bufferA → SpaceForAll s c (record { scope = scope; list = behind }) bufferB
-      → SpaceForAll s c (record { scope = scope; list = front ++ behind }) bufferAB
-      → (shared : List Pair) → NoDup shared
-      → ((k : Pair) → (k ∈ shared) ↔ ((k ∈ reportedPairs (check schemaBytes conditionBytes bytesA bufferA)) × (k ∈ reportedPairs (check schemaBytes conditionBytes bytesB bufferB))))
-      → check schemaBytes conditionBytes bytesAB bufferAB .answer .count + length shared
-      ≡ check schemaBytes conditionBytes bytesA bufferA .answer .count + check schemaBytes conditionBytes bytesB bufferB .answer .count
+  pub joined : Joined schemaBytes conditionBytes s c
   joined bytesA bytesB bytesAB scope front behind isA isB isAB bufferA bufferB bufferAB roomA roomB roomAB shared once-each in-shared =
-      let tsA : Targets = record { scope = scope; list = front } in
-      let tsB : Targets = record { scope = scope; list = behind } in
-      let tsAB : Targets = record { scope = scope; list = front ++ behind } in
+      let tsA : Targets = under scope front in
+      let tsB : Targets = under scope behind in
+      let tsAB : Targets = under scope (front ++ behind) in
       let xs = breaches s c tsA in
       let ys = breaches s c tsB in
       let oA = check schemaBytes conditionBytes bytesA bufferA in
@@ -210,17 +186,10 @@ module _ (schemaBytes conditionBytes : List ℕ) (s : Schema) (c : Condition) wh
       ap (λ (n : ℕ). oAB .answer .count + n) (length-same shared (both xs ys) once-each (both-nodup xs ys) alike)
       ∙ laws.runs-joined xs ys bufferA bufferB bufferAB oA oB oAB runA runB runAB fitA fitB fitAB
 
-  -- two lists with the same targets, whatever their order and repeats, under one narrowing: the same pairs, and front many
-  pub alike : (bytes₁ bytes₂ : List ℕ) (scope : Scope) (front behind : List Target)
-      → Accepted schemaBytes conditionBytes bytes₁ s c (record { scope = scope; list = front })
-      → Accepted schemaBytes conditionBytes bytes₂ s c (record { scope = scope; list = behind })
-      → Same front behind → (buffer₁ buffer₂ : List ℕ)
-      → SpaceForAll s c (record { scope = scope; list = front }) buffer₁ → SpaceForAll s c (record { scope = scope; list = behind }) buffer₂
-      → Same (reportedPairs (check schemaBytes conditionBytes bytes₁ buffer₁)) (reportedPairs (check schemaBytes conditionBytes bytes₂ buffer₂))
-      × (check schemaBytes conditionBytes bytes₁ buffer₁ .answer .count ≡ check schemaBytes conditionBytes bytes₂ buffer₂ .answer .count)
+  pub alike : Alike schemaBytes conditionBytes s c
   alike bytes₁ bytes₂ scope front behind is₁ is₂ same buffer₁ buffer₂ room₁ room₂ =
-      let ts₁ : Targets = record { scope = scope; list = front } in
-      let ts₂ : Targets = record { scope = scope; list = behind } in
+      let ts₁ : Targets = under scope front in
+      let ts₂ : Targets = under scope behind in
       let e₁ = alone bytes₁ ts₁ is₁ buffer₁ room₁ in
       let e₂ = alone bytes₂ ts₂ is₂ buffer₂ room₂ in
       let to : (k : Pair) → PairOf s c ts₁ k → PairOf s c ts₂ k = λ k r. other front behind scope (λ t h. same t .0 h) k r in
@@ -230,10 +199,13 @@ module _ (schemaBytes conditionBytes : List ℕ) (s : Schema) (c : Condition) wh
             ∙ sym (e₂ .count (reportedPairs (check schemaBytes conditionBytes bytes₂ buffer₂)) (e₂ .pairs)),
       )
     where
-      other : (front behind : List Target) (scope : Scope) → ((t : Target) → t ∈ front → t ∈ behind) → (k : Pair) → PairOf s c (record { scope = scope; list = front }) k → PairOf s c (record { scope = scope; list = behind }) k
+      other : (front behind : List Target) (scope : Scope) → ((t : Target) → t ∈ front → t ∈ behind) → (k : Pair) → PairOf s c (under scope front) k → PairOf s c (under scope behind) k
       other front behind scope f k r =
           record {
             breach = r .breach;
             pair = r .pair;
             isBreach = record { target = r .isBreach .target; listed = f (r .isBreach .target) (r .isBreach .listed); checked = r .isBreach .checked; breach = r .isBreach .breach };
           }
+
+  pub demand3 : Claim schemaBytes conditionBytes s c
+  demand3 = record { alone = alone; joined = joined; alike = alike }
