@@ -34,8 +34,9 @@ pub fn all() -> Vec<Workload> {
     let mut all = vec![
         workload("everyday", true, shop(2, 4), condition_record(everyday()), view_targets(2), age()),
         workload("everyday, 3 reports", false, shop(2, 4), condition_record(mistaken()), view_targets(2), age()),
-        workload("32 KB condition, 1 target", false, shop(2, 4), large_condition(), view_targets(1), age()),
-        workload("32 KB condition, 255 targets", true, shop(2, 255), large_condition(), view_targets(255), age()),
+        workload("32 KB condition, 1 target", false, shop(2, 4), condition_of(LONGEST), view_targets(1), age()),
+        workload("32 KB condition, 255 targets", true, shop(2, 255), condition_of(LONGEST), view_targets(255), age()),
+        workload("32 KB of binders, 255 targets", false, shop(2, 255), bound_condition(), view_targets(255), age()),
         workload(
             "hundreds of names, 1 target",
             false,
@@ -58,6 +59,43 @@ pub fn all() -> Vec<Workload> {
         all.push(workload(&name, false, shop(2, 4), condition_record(deep_array(depth)), view_targets(1), age()));
     }
     all
+}
+
+/// Conditions of growing size under one target.
+pub fn sizes() -> Vec<Workload> {
+    let sized = |power: u32| {
+        let condition = condition_of(LONGEST >> (7 - power));
+        workload("size", false, shop(2, 4), condition, view_targets(1), path(0, &NONE, 0))
+    };
+    (0..8).map(sized).collect()
+}
+
+/// Target lists of growing length, for a condition of 4 KB.
+pub fn target_counts() -> Vec<(usize, Workload)> {
+    let counts = [1, 2, 4, 8, 16, 32, 64, 128, 255];
+    let counted =
+        |count| workload("targets", false, shop(2, 255), condition_of(4096), view_targets(count), path(0, &NONE, 0));
+    counts.into_iter().map(|count| (count, counted(count))).collect()
+}
+
+/// What takes the most stack: 32 levels of conditions, of terms and of types.
+pub fn deep() -> Vec<Workload> {
+    let nested =
+        |outer: &dyn Fn(Piece) -> Piece, inner: Piece, times: usize| (0..times).fold(inner, |piece, _| outer(piece));
+    let age = || path(0, &["profile", "age"], 0);
+    let sum = |body: Piece| comparison((0, 9), 1, count((1, 2), vec![named("t", &NONE)], body), integer());
+    let typed = |t: Piece| schema(vec![], vec![action("App::Action", "view000", &NONE, &NONE, t)]);
+    let sets = nested(&set_type, ty(0, vec![]), 31);
+    let arrays = nested(&|t| array(vec![t]), integer(), 30);
+    let sums = nested(&|t| arith(t, var("v")), var("v"), 30);
+    let record = |root| condition_record(root);
+    let all = [
+        ("conditions in conditions", shop(2, 4), record(nested(&|c| condition(3, (0, 9), vec![c]), deep_array(0), 30))),
+        ("counts in counts", shop(2, 4), record(nested(&sum, condition(11, (0, 9), vec![]), 15))),
+        ("arithmetic and an array literal", shop(2, 4), record(comparison((0, 9), 4, sums, arrays))),
+        ("sets in sets", typed(sets), record(everyday())),
+    ];
+    all.into_iter().map(|(name, s, c)| workload(name, false, s, c, view_targets(2), age())).collect()
 }
 
 impl Workload {
@@ -152,15 +190,29 @@ fn mistaken() -> Piece {
     joined(vec![wrong, everyday(), also, third])
 }
 
-/// As many small conditions as fit into 32 KB; one in a hundred breaks a rule.
-fn large_condition() -> Piece {
+/// As many small conditions as fit into so many bytes; one in a hundred breaks a rule.
+fn condition_of(bytes: usize) -> Piece {
     let of =
         |count: usize| condition_record(exists((0, 9), named("n", &["Long"]), joined((0..count).map(small).collect())));
-    let mut count = 1;
-    while of(count + 1).bytes().len() <= LONGEST {
-        count += 1;
+    of(most(bytes, of))
+}
+
+/// A record of 32 KB in which every second condition declares a name, and the others ask for the first one.
+fn bound_condition() -> Piece {
+    let bound =
+        |i: usize| exists((0, 9), named(&format!("v{i}"), &["Long"]), comparison((0, 9), 1, var("v0"), integer()));
+    let of = |count: usize| condition_record(joined((0..count).map(bound).collect()));
+    of(most(LONGEST, of))
+}
+
+/// The largest count whose record has no more than so many bytes.
+fn most(bytes: usize, of: impl Fn(usize) -> Piece) -> usize {
+    let fits = |count: &usize| of(*count).bytes().len() <= bytes;
+    let mut above = 2;
+    while fits(&above) {
+        above *= 2;
     }
-    of(count)
+    (1..above).collect::<Vec<_>>().partition_point(fits)
 }
 
 fn small(i: usize) -> Piece {

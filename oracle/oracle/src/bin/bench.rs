@@ -1,7 +1,8 @@
-//! The benchmark: both sides on the same bytes in the same run, in a table.
+//! The benchmark: both sides on the same bytes in the same run, in a table; the stack that the library takes; a plot.
 //!
 //! For each row: the published Rust alone, on trees that are read already; the Rust with the oracle's reading of the
-//! records into its trees; ours, which always reads. The ratio is of the last two.
+//! records into its trees; ours, which always reads. The ratio is of the last two. With `--write FOLDER` the table and the
+//! stack go into the marked parts of BENCHMARKS.md of that folder, and the plot into benchmark.svg beside it.
 
 #[path = "../library.rs"]
 mod library;
@@ -10,66 +11,75 @@ use dogwood_rust::extension::temporal::schema_info::SchemaInfo;
 use dogwood_rust::extension::temporal::validate;
 use oracle::answers;
 use oracle::cases::Operation;
+use oracle::plot::{self, Line, Panel};
 use oracle::records;
+use oracle::stack;
+use oracle::timing::{shown, time};
 use oracle::workloads::{self, Workload};
 use std::hint::black_box;
-
-/// Each figure is the best of this many turns.
-const TURNS: usize = 15;
-
-/// A turn takes about this long, in seconds.
-const TURN: f64 = 0.01;
-
-/// The processor time of this thread, so that other work on the machine does not count.
-mod clock {
-    #[repr(C)]
-    struct Time {
-        seconds: i64,
-        nanoseconds: i64,
-    }
-
-    extern "C" {
-        fn clock_gettime(clock: i32, time: *mut Time) -> i32;
-    }
-
-    /// `CLOCK_THREAD_CPUTIME_ID` of Linux.
-    const THREAD: i32 = 3;
-
-    pub fn seconds() -> f64 {
-        let mut time = Time { seconds: 0, nanoseconds: 0 };
-        // SAFETY: the C library fills the struct that it is handed.
-        unsafe { clock_gettime(THREAD, &mut time) };
-        time.seconds as f64 + time.nanoseconds as f64 * 1e-9
-    }
-}
+use std::path::Path;
+use std::process::Command;
+use std::{env, fs};
 
 fn main() {
-    println!("| input | operation | Rust alone | Rust with reading | ours | Rust with reading / ours |");
-    println!("|---|---|---:|---:|---:|---:|");
+    let words: Vec<String> = env::args().skip(1).collect();
+    let table = table();
+    let stacks = stacks();
+    println!("{table}\n{stacks}");
+    if let [flag, folder] = &words[..] {
+        assert_eq!(flag, "--write");
+        write(Path::new(folder), &[("table", &table), ("stack", &stacks)]);
+    }
+}
+
+// ─── The table ───
+
+/// The times of one row, in seconds.
+struct Times {
+    alone: Option<f64>,
+    with_reading: f64,
+    ours: Option<f64>,
+}
+
+fn table() -> String {
+    let mut out = format!("{}\n\n", machine());
+    out += "| input | operation | Rust alone | Rust with reading | ours | Rust with reading / ours |\n";
+    out += "|---|---|---:|---:|---:|---:|\n";
     for w in workloads::all() {
-        rows_of(&w);
+        for (input, operation, times) in rows_of(&w) {
+            out += &row(&input, operation, &times);
+        }
     }
+    out
 }
 
-fn rows_of(w: &Workload) {
+fn rows_of(w: &Workload) -> Vec<(String, &'static str, Times)> {
+    let mut rows = vec![(w.name.clone(), "check", check(w))];
     if w.reads {
-        read_row(w, "read schema", Operation::ReadSchema, &w.schema, |b| used(records::read_schema(b)));
-        read_row(w, "read condition", Operation::ReadCondition, &w.condition, |b| used(records::read_condition(b)));
-        read_row(w, "read targets", Operation::ReadTargets, &w.targets, |b| used(records::read_targets(b)));
+        let sized = |bytes: &[u8]| format!("{} ({} bytes)", w.name, bytes.len());
+        let reading = [
+            ("read schema", Operation::ReadSchema, &w.schema),
+            ("read condition", Operation::ReadCondition, &w.condition),
+            ("read targets", Operation::ReadTargets, &w.targets),
+        ];
+        rows.extend(reading.map(|(what, operation, bytes)| (sized(bytes), what, read(operation, bytes))));
+        rows.push((w.name.clone(), "sums", sums(w)));
+        rows.push((w.name.clone(), "lookup", lookup(w)));
     }
-    check_row(w);
-    if w.reads {
-        sums_row(w);
-        lookup_row(w);
-    }
+    rows
 }
 
-fn read_row(w: &Workload, what: &str, operation: Operation, bytes: &[u8], rust: impl Fn(&[u8])) {
+fn read(operation: Operation, bytes: &[u8]) -> Times {
+    let rust = || match operation {
+        Operation::ReadSchema => used(records::read_schema(black_box(bytes))),
+        Operation::ReadCondition => used(records::read_condition(black_box(bytes))),
+        _ => used(records::read_targets(black_box(bytes))),
+    };
     let ours = library::read(operation, bytes).map(|_| time(|| used(library::read(operation, black_box(bytes)))));
-    row(&format!("{} ({} bytes)", w.name, bytes.len()), what, None, time(|| rust(black_box(bytes))), ours);
+    Times { alone: None, with_reading: time(rust), ours }
 }
 
-fn check_row(w: &Workload) {
+fn check(w: &Workload) -> Times {
     let mut buffer = vec![0; 65_536];
     let (s, c, t) = (&w.schema[..], &w.condition[..], &w.targets[..]);
     let read = (
@@ -88,45 +98,42 @@ fn check_row(w: &Workload) {
     let with_reading = time(|| used(answers::check(black_box(s), c, t, &mut buffer)));
     let ours =
         library::check(s, c, t, &mut buffer).map(|_| time(|| used(library::check(black_box(s), c, t, &mut buffer))));
-    row(&w.name, "check", Some(alone), with_reading, ours);
+    Times { alone: Some(alone), with_reading, ours }
 }
 
-fn sums_row(w: &Workload) {
+fn sums(w: &Workload) -> Times {
     let mut buffer = vec![0; 65_536];
     let read = records::read_condition(&w.condition).ok().unwrap();
     let alone = time(|| used(validate::oracle_check_sum_summands(&read.condition)));
     let with_reading = time(|| used(answers::sums(black_box(&w.condition), &mut buffer)));
     let ours = library::sums(&w.condition, &mut buffer)
         .map(|_| time(|| used(library::sums(black_box(&w.condition), &mut buffer))));
-    row(&w.name, "sums", Some(alone), with_reading, ours);
+    Times { alone: Some(alone), with_reading, ours }
 }
 
-fn lookup_row(w: &Workload) {
+fn lookup(w: &Workload) -> Times {
     let mut output = vec![0; 4_096];
     let (s, t, p) = (&w.schema[..], &w.targets[..], &w.path[..]);
     let with_reading = time(|| used(answers::lookup(black_box(s), t, p, &mut output)));
     let ours =
         library::lookup(s, t, p, &mut output).map(|_| time(|| used(library::lookup(black_box(s), t, p, &mut output))));
-    row(&w.name, "lookup", None, with_reading, ours);
+    Times { alone: None, with_reading, ours }
 }
 
-fn row(input: &str, operation: &str, alone: Option<f64>, with_reading: f64, ours: Option<f64>) {
-    let ratio = ours.map_or("–".to_string(), |ours| format!("{:.1}", with_reading / ours));
-    println!(
-        "| {input} | {operation} | {} | {} | {} | {ratio} |",
-        shown(alone),
-        shown(Some(with_reading)),
-        shown(ours)
-    );
+fn row(input: &str, operation: &str, times: &Times) -> String {
+    let ratio = times.ours.map_or("–".to_string(), |ours| format!("{:.2}", times.with_reading / ours));
+    let cells = [times.alone, Some(times.with_reading), times.ours].map(shown);
+    format!("| {input} | {operation} | {} | {ratio} |\n", cells.join(" | "))
 }
 
-fn shown(seconds: Option<f64>) -> String {
-    match seconds {
-        None => "–".to_string(),
-        Some(s) if s < 1e-6 => format!("{:.0} ns", s * 1e9),
-        Some(s) if s < 1e-3 => format!("{:.2} µs", s * 1e6),
-        Some(s) => format!("{:.2} ms", s * 1e3),
-    }
+/// What the figures were taken on.
+fn machine() -> String {
+    let cpus = fs::read_to_string("/proc/cpuinfo").unwrap_or_default();
+    let names: Vec<_> = cpus.lines().filter_map(|line| line.strip_prefix("model name\t: ")).collect();
+    let compiler =
+        Command::new("rustc").arg("--version").output().map(|o| String::from_utf8_lossy(&o.stdout).to_string());
+    let words: Vec<_> = compiler.as_deref().unwrap_or("rustc").split_whitespace().take(2).collect();
+    format!("{}, {} cores, {}.", names.first().unwrap_or(&"An unknown processor"), names.len(), words.join(" "))
 }
 
 /// A result that the compiler must not leave out.
@@ -134,17 +141,69 @@ fn used<T>(result: T) {
     black_box(result);
 }
 
-/// Seconds for one call: the best of several turns, each of as many calls as fill its time.
-fn time(mut call: impl FnMut()) -> f64 {
-    let once = turn(&mut call, 1).max(20e-9);
-    let calls = (TURN / once).clamp(1.0, 200_000.0) as usize;
-    (0..TURNS).map(|_| turn(&mut call, calls)).fold(f64::INFINITY, f64::min)
+// ─── The stack ───
+
+fn stacks() -> String {
+    let mut out = String::from("| input | operation | bytes of stack |\n|---|---|---:|\n");
+    for w in workloads::all().iter().filter(|w| w.reads).chain(&workloads::deep()) {
+        for (operation, bytes) in stacks_of(w) {
+            out += &format!("| {} | {operation} | {bytes} |\n", w.name);
+        }
+    }
+    out
 }
 
-fn turn(call: &mut impl FnMut(), calls: usize) -> f64 {
-    let start = clock::seconds();
-    for _ in 0..calls {
-        call();
+fn stacks_of(w: &Workload) -> [(&'static str, usize); 3] {
+    let mut buffer = vec![0; 65_536];
+    let (s, c, t, p) = (&w.schema[..], &w.condition[..], &w.targets[..], &w.path[..]);
+    [
+        ("check", stack::taken(|| used(library::check(s, c, t, &mut buffer)))),
+        ("sums", stack::taken(|| used(library::sums(c, &mut buffer)))),
+        ("lookup", stack::taken(|| used(library::lookup(s, t, p, &mut buffer)))),
+    ]
+}
+
+// ─── The plot ───
+
+fn panels() -> [Panel; 2] {
+    let sizes = workloads::sizes().into_iter().map(|w| (w.condition.len() as f64, check(&w))).collect();
+    let counts = workloads::target_counts().into_iter().map(|(count, w)| (count as f64, check(&w))).collect();
+    [
+        panel("Check, one target", "bytes of the condition", sizes),
+        panel("Check, a condition of 4 KB", "targets", counts),
+    ]
+}
+
+fn panel(title: &str, across: &'static str, measured: Vec<(f64, Times)>) -> Panel {
+    let line = |name, colour, pick: &dyn Fn(&Times) -> Option<f64>| Line {
+        name,
+        colour,
+        points: measured.iter().filter_map(|(x, times)| pick(times).map(|y| (*x, y))).collect(),
+    };
+    let lines = vec![
+        line("Rust alone", "#8a8a8a", &|t| t.alone),
+        line("Rust with reading", "#c8641e", &|t| Some(t.with_reading)),
+        line("ours", "#1f6fb4", &|t| t.ours),
+    ];
+    Panel { title: title.to_string(), across, lines }
+}
+
+// ─── The page ───
+
+/// Puts each text between its marks in BENCHMARKS.md, and the plot beside it.
+fn write(folder: &Path, parts: &[(&str, &String)]) {
+    let page = folder.join("BENCHMARKS.md");
+    let mut text = fs::read_to_string(&page).expect("BENCHMARKS.md stands in the folder");
+    for (name, part) in parts {
+        text = replaced(&text, name, part);
     }
-    (clock::seconds() - start) / calls as f64
+    fs::write(page, text).expect("BENCHMARKS.md can be written");
+    fs::write(folder.join("benchmark.svg"), plot::svg(&panels())).expect("the plot can be written");
+}
+
+fn replaced(text: &str, name: &str, part: &str) -> String {
+    let (begin, end) = (format!("<!-- {name}: begin -->\n"), format!("<!-- {name}: end -->"));
+    let (before, rest) = text.split_once(&begin).expect("a mark where the part begins");
+    let (_, after) = rest.split_once(&end).expect("a mark where the part ends");
+    format!("{before}{begin}{}\n{end}{after}", part.trim_end())
 }
