@@ -5,3 +5,4 @@ pub mod Breaches
 pub mod Demand3
 pub mod Examples
 pub mod Ready
+pub mod WholeRun
