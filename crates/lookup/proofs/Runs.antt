@@ -4,15 +4,14 @@ use mathlib.Core.Bool.{true}
 use mathlib.Core.List.{List}
 use mathlib.Core.Option.{Option, none, some}
 use Prim.Native.Nat.{ℕ}
-use native.Mathlib.Omega.{arith}
 use borrow.Author.Needs.{needs}
 use lib.ListN.{length}
-use Rattle.names.specs.Fields.{Got, got, bad, whole, stringOf}
+use Rattle.names.specs.Fields.{whole, stringOf}
 use Rattle.names.specs.Names.{plain}
 use Rattle.names.specs.Read.{ending, readNumber, valueOr, Listed}
 use Rattle.names.specs.declared.Read.{Read}
 use Rattle.names.specs.declared.Read.the-variants as Read
-use Rattle.names.proofs.Laws.{accept, passes}
+use Rattle.names.proofs.Laws.{accept, passes, refused-by, refuses}
 use Rattle.names.proofs.Row.{row-stands, row-value}
 use Rattle.reports.specs.Answers.{outcomeOf, Refuses}
 use Rattle.reports.specs.declared.Answer.{Answer}
@@ -105,14 +104,6 @@ module _ (s n c : List ℕ) (position : ℕ) (is : position ≡ queryIn c .posit
 pub ruleset positions = (needs, position-stands, position-absent, position-found)
 
 -- ---- the records
-
-refused-by : {A : Type 0} (g : Got A) (x : Read) (r : ℕ) → x ≡ ending g → x ≡ Read.Refused r → g ≡ bad r
-unfolding ending
-refused-by (got a n) x r e f = let z : _≡_ {A = ℕ} 0 1 = cc in absurd (omega arith)
-refused-by (bad k) x r e f = let h : k ≡ r = cc in rw h
-
-refuses : {r k : ℕ} {x : Read} → x ≡ Read.Refused r → k ≡ readNumber x → k ≡ r
-refuses e f = f ∙ rw e
 
 module _ (s n c b : List ℕ) (x : Read) (is-x : x ≡ ending (whole schemaRecord s)) where
   pub schema-refused : (r : ℕ) → x ≡ Read.Refused r → (k : ℕ) → k ≡ readNumber x → (a : Answer) → Refuses k 1 a → outcomeOf a b ≡ lookup s n c b

@@ -147,6 +147,15 @@ unfolding ending accepted
 passes (got a m) e f = refl
 passes (bad r) {x} {n} e f = let z : _≡_ {A = ℕ} 0 1 = cc in absurd (omega arith)
 
+-- what the code was refused by is what the reader gives, and its number
+pub refused-by : {A : Type 0} (g : Got A) (x : Read) (r : ℕ) → x ≡ ending g → x ≡ Refused r → g ≡ bad r
+unfolding ending
+refused-by (got a n) x r e f = let z : _≡_ {A = ℕ} 0 1 = cc in absurd (omega arith)
+refused-by (bad k) x r e f = let h : k ≡ r = cc in rw h
+
+pub refuses : {r k : ℕ} {x : Read} → x ≡ Refused r → k ≡ readNumber x → k ≡ r
+refuses e f = f ∙ rw e
+
 -- the number of a reader's answer
 pub number-of : {A : Type 0} (g : Got A) (x : Read) (n : ℕ) → x ≡ ending g → n ≡ readNumber x → n ≡ refusalNumber g
 unfolding ending refusalNumber

@@ -12,7 +12,7 @@ use Rattle.types.specs.Types.Texts.{numbers-small}
 use Rattle.types.specs.Meaning.{layered}
 use Rattle.types.specs.declared.Scalar.the-variants as Scalar
 use Rattle.types.specs.declared.Rich.{Rich}
-use Rattle.schema.specs.Places.{actionIn, foundIn}
+use Rattle.schema.specs.Places.{schemaIn, actionIn, foundIn}
 use Rattle.schema.specs.declared.Found.{Found}
 use Rattle.schema.specs.declared.Found.the-variants as Found
 use Rattle.schema.specs.declared.Row.{Row}
@@ -32,7 +32,7 @@ use Rattle.resolution.specs.Places.{typedOf, smallType}
 use Rattle.resolution.specs.Places as resolution
 use Rattle.resolution.specs.declared.Typed.{Typed}
 use Rattle.resolution.specs.declared.Typed.the-variants.{As, Nothing}
-use Rattle.terms.specs.Terms.{annotationType, inputType, varType, termType, rootType, scopeFieldType}
+use Rattle.terms.specs.Terms.{factsOf, annotationType, inputType, varType, termType, rootType, scopeFieldType}
 use Rattle.terms.specs.Terms as Terms
 use Rattle.terms.specs.Bounds.{Within}
 use Rattle.terms.specs.Facts.{factsIn, FactsOf, NameTyped}
@@ -48,6 +48,10 @@ pub facts-made : (n : List ℕ) (found : Found) (p r : Narrowed) → narrowed n 
 facts-made n found p r e f = record { action = refl; scope = rw (e, f) }
 
 pub ruleset making = (needs, facts-made)
+
+-- what they are in the definitions
+pub facts-mean : (s c n : List ℕ) (found : Found) (f : Facts) → FactsOf n found f → factsIn s c n f ≡ factsOf (schemaIn s) (recordIn c) (targetsIn n .scope) (foundIn (actionIn s) found)
+facts-mean s c n found f k = λ i. record { schema = schemaIn s; scope = k .scope i; action = foundIn (actionIn s) (k .action i); whole = recordIn c }
 
 -- Under a declared action, and under none.
 module _ (s c : List ℕ) (at : ℕ) (facts : Facts) where

@@ -37,6 +37,10 @@ pub record Facts : Type 0 where
   pub action : Option Action
   pub whole : Condition
 
+-- those of a target whose action is this one, or undeclared
+abbrev pub factsOf : Schema → Condition → Scope → Option Action → Facts
+factsOf s c scope a = record { schema = s; scope = scope; action = a; whole = c }
+
 -- the type of an attribute of a record
 unfoldable pub fieldType : List ℕ → Declared → Option Ty
 fieldType name t = maybe none (λ fields. maybe none (λ u. some (richType u)) (findAttribute fields name)) (fieldsOf t)

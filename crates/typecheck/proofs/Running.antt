@@ -9,11 +9,11 @@ use borrow.Author.Needs.{needs}
 use lib.ListN.{length, drop, length-drop}
 use lib.Seq.{length-take-le}
 use Rattle.names.specs.Lists.{maybe, gather}
-use Rattle.names.specs.Fields.{Got, got, bad, whole}
+use Rattle.names.specs.Fields.{whole}
 use Rattle.names.specs.Read.{ending, readNumber, valueOr, Listed}
 use Rattle.names.specs.declared.Read.{Read}
 use Rattle.names.specs.declared.Read.the-variants as Read
-use Rattle.names.proofs.Laws.{accept, passes}
+use Rattle.names.proofs.Laws.{accept, passes, refused-by, refuses}
 use Rattle.names.proofs.Row.{listed-first, listed-over}
 use Rattle.schema.specs.Schema.{Schema, Action, schemaRecord}
 use Rattle.schema.specs.Find.{findAction}
@@ -34,8 +34,10 @@ use Rattle.reports.specs.Sink.{Sink, sink, start, Sound, push, pushAll}
 use Rattle.reports.specs.Sink.Laws.{Reporting, reporting-begins, reporting-over, push-next, push-none, sound-start}
 use Rattle.reports.specs.Answers.{outcomeOf, Answers, Refuses, pushed}
 use Rattle.terms.specs.declared.Facts.{Facts}
+use Rattle.terms.specs.Terms.{factsOf}
 use Rattle.terms.specs.Facts.{factsIn, Known, FactsOf}
-use Rattle.typecheck.specs.Check.{nodeBreaches, factsOf, breachesUnder, checked, check}
+use Rattle.terms.proofs.Under.{facts-mean}
+use Rattle.typecheck.specs.Check.{nodeBreaches, breachesUnder, checked, check}
 use Rattle.typecheck.specs.Ready.{Ready}
 
 -- ---- the reached nodes
@@ -67,10 +69,7 @@ module _ (s c n places : List ℕ) (found : Found) (f : Facts) (k : FactsOf n fo
 
   pub under-facts : (now : Sink) {next : Sink} → next ≡ pushAll now (gather (nodeBreaches (factsIn s c n f)) (nodesOf c))
       → next ≡ pushAll now (gather (nodeBreaches (factsOf (schemaIn s) (recordIn c) (targetsIn n .scope) (foundIn (actionIn s) found))) (nodesOf c))
-  under-facts now g =
-      let e : factsIn s c n f ≡ factsOf (schemaIn s) (recordIn c) (targetsIn n .scope) (foundIn (actionIn s) found) =
-      λ i. record { schema = schemaIn s; scope = k .scope i; action = foundIn (actionIn s) (k .action i); whole = recordIn c } in
-      rw e at g
+  under-facts now g = rw (facts-mean s c n found f k) at g
 
 pub ruleset by-action = (needs, facts-known, under-facts)
 
@@ -145,14 +144,6 @@ pub all-ready : (s c n places : List ℕ) → isSchema s ≡ true → isRecord c
 all-ready s c n places a b d x = record { schema = a; condition = b; targets = d; index = x }
 
 pub ruleset indexed = (needs, length-take-le, sound-start, all-ready, all-checked)
-
-refused-by : {A : Type 0} (g : Got A) (x : Read) (r : ℕ) → x ≡ ending g → x ≡ Read.Refused r → g ≡ bad r
-unfolding ending
-refused-by (got a n) x r e f = let z : _≡_ {A = ℕ} 0 1 = cc in absurd (omega arith)
-refused-by (bad k) x r e f = let h : k ≡ r = cc in rw h
-
-refuses : {r k : ℕ} {x : Read} → x ≡ Read.Refused r → k ≡ readNumber x → k ≡ r
-refuses e f = f ∙ rw e
 
 module _ (s c n b : List ℕ) (x : Read) (is-x : x ≡ ending (whole schemaRecord s)) where
   pub schema-refused : (r : ℕ) → x ≡ Read.Refused r → (k : ℕ) → k ≡ readNumber x → (a : Answer) → Refuses k 1 a → outcomeOf a b ≡ check s c n b

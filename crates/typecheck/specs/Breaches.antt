@@ -17,7 +17,8 @@ use Rattle.resolution.specs.Resolution.{admitsAnyEnv}
 use Rattle.reports.specs.Reports.{Breach, Outcome}
 use Rattle.reports.specs.Decode.{reports}
 use Rattle.reports.specs.Pairs.{_∈_, NoDup, Same, Pair, pairOf, pairs, space}
-use Rattle.typecheck.specs.Check.{factsOf, nodeBreaches, check}
+use Rattle.terms.specs.Terms.{factsOf}
+use Rattle.typecheck.specs.Check.{nodeBreaches, check}
 
 -- three records that are accepted, and what they hold
 pub record Accepted (schemaBytes conditionBytes targetBytes : List ℕ) (s : Schema) (c : Condition) (ts : Targets) : Type 0 where

@@ -19,7 +19,7 @@ use Rattle.resolution.specs.Resolution.{contextType, admitsAnyEnv}
 use Rattle.condition.specs.Condition as condition
 use Rattle.condition.specs.Condition.{Condition, Term, Arguments, Span, Slot, named, paramRef, binderRef, Operator, le, lt, ge, gt, eq, notEq, one, two, predicate, comparison, exists, tp, opaque, noArgument, argument, entity, literal, contextField, scopeField, var, wildcard, array, aggregate, arith, sigil}
 use Rattle.condition.specs.Walk.{reached}
-use Rattle.terms.specs.Terms.{Facts, termType, varType}
+use Rattle.terms.specs.Terms.{Facts, factsOf, termType, varType}
 use Rattle.reports.specs.Reports.{Breach, Outcome, once, refusal, reported}
 
 abbrev pub breachIf : Bool → Span → List ℕ → List Breach
@@ -126,10 +126,6 @@ module _ (f : Facts) where
   nodeBreaches (exists at b c) = []
   nodeBreaches (tp at slot) = timepointBreaches at slot
   nodeBreaches (opaque at) = []
-
--- the facts of a target whose action is this one, or undeclared
-abbrev pub factsOf : Schema → Condition → Scope → Option Action → Facts
-factsOf s c scope a = record { schema = s; scope = scope; action = a; whole = c }
 
 -- `check_types_for_action`: the breaches of document 01 under one target, from schema, condition, narrowing and that target alone: none where its action is declared and admits no environment
 unfoldable pub breachesUnder : Schema → Condition → Scope → Target → List Breach

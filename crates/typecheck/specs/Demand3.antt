@@ -22,7 +22,8 @@ use Rattle.reports.specs.Reports.Laws as laws
 use Rattle.reports.specs.Once.{both, both-in, both-nodup}
 use Rattle.reports.specs.Sets.{in-left, in-right, in-append, length-same}
 use Rattle.reports.specs.Pairs.{_∈_, NoDup, Same, Pair, pairOf, pairs, space}
-use Rattle.typecheck.specs.Check.{factsOf, nodeBreaches, breachesUnder, checked, check}
+use Rattle.terms.specs.Terms.{factsOf}
+use Rattle.typecheck.specs.Check.{nodeBreaches, breachesUnder, checked, check}
 use Rattle.typecheck.specs.Breaches.{Accepted, isChecked, BreachUnder, BreachOf, PairOf, Different, SpaceForAll, reportedPairs, Exact, under, Alone, Joined, Alike, Claim}
 
 -- ---- what is gathered from a list, and the pairs of a list

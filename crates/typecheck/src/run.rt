@@ -17,8 +17,9 @@ ghost use Rattle.condition.specs.Index.{nodesOf};
 ghost use Rattle.resolution.specs.Resolution.{admitsAnyEnv};
 ghost use Rattle.reports.specs.Sink.{sink, Sound, pushAll};
 ghost use Rattle.reports.specs.Answers.{outcomeOf};
+ghost use Rattle.terms.specs.Terms.{factsOf};
 ghost use Rattle.terms.specs.Facts.{factsIn, Known};
-ghost use Rattle.typecheck.specs.Check.{nodeBreaches, factsOf, breachesUnder, checked, check};
+ghost use Rattle.typecheck.specs.Check.{nodeBreaches, breachesUnder, checked, check};
 ghost use Rattle.typecheck.specs.Ready.{Ready};
 
 // The reached nodes under the facts of one target.
