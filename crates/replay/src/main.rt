@@ -9,6 +9,7 @@ mod lists;
 mod lookups;
 mod readers;
 mod sums;
+mod terms;
 mod text;
 
 fn main() {
@@ -16,4 +17,5 @@ fn main() {
     lists::replay(b"check", b"check.txt");
     lists::replay(b"sums", b"sums.txt");
     lists::replay(b"lookup", b"lookup.txt");
+    lists::replay(b"terms", b"terms.txt");
 }

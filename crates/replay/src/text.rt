@@ -112,6 +112,15 @@ fn with_digit(number: usize, byte: u8) -> usize {
     std::num::wrapping_add_usize(number * 10, wide(digit(byte)))
 }
 
+// The bytes of the word at a position.
+pub fn word<'a>(text: &'a [u8], at: usize) -> &'a [u8] {
+    let end = run_end(text, at, Run::Word);
+    if at <= end && end <= text.len() {
+        return &text[at..end];
+    }
+    text
+}
+
 // The decimal number at a position.
 pub fn decimal(text: &[u8], at: usize) -> usize {
     let mut number: usize = 0;
