@@ -1,0 +1,161 @@
+/*
+ * The temporal type check of Dogwood, proved: the functions of libdogwood.a (`rt staticlib dogwood`).
+ *
+ * A function takes byte records, each as an address and a length, and some also a lent buffer for what they answer.
+ * docs/RECORDS.md says what the bytes of a record mean. Any bytes may be given: what is no record is refused by a number.
+ *
+ * What the caller sees to:
+ *   - an address leads to as many bytes as the length says; where the length is 0 it may be NULL;
+ *   - nothing writes to a record or touches the lent buffer while the call runs;
+ *   - the lent buffer overlaps no record. Records may overlap each other.
+ *
+ * The functions use no heap, no global state and no file, call nothing back and always return. They may run in any number
+ * of threads at a time. A call stays below DOGWOOD_STACK bytes of stack (measured: docs/BENCHMARKS.md).
+ */
+#ifndef DOGWOOD_H
+#define DOGWOOD_H
+
+#include <stddef.h>
+#include <stdint.h>
+
+#ifdef __cplusplus
+extern "C" {
+#endif
+
+/* A record has at most so many bytes. */
+#define DOGWOOD_MOST_BYTES 32768
+
+/* Conditions, terms and types are nested at most so deep; the root is level 1. */
+#define DOGWOOD_MOST_LEVELS 32
+
+/* A string in a record has at most so many bytes, and a list with an 8-bit count so many entries. */
+#define DOGWOOD_MOST_TEXT 255
+
+/* Stack that is enough for any call; what was measured is less than half of it. */
+#define DOGWOOD_STACK 65536
+
+/* Why there is no answer. The numbers 1 to 10 are met while a record is read, the first one from the left counts. */
+enum dogwood_cause {
+    DOGWOOD_ACCEPTED = 0,              /* no refusal */
+    DOGWOOD_TOO_LONG = 1,              /* the record is above 32,768 bytes */
+    DOGWOOD_CUT = 2,                   /* the bytes end before a field does */
+    DOGWOOD_OTHER_MARK = 3,            /* the record is of another sort, or no record */
+    DOGWOOD_OTHER_VERSION = 4,         /* another version of the record */
+    DOGWOOD_UNDEFINED_CHOICE = 5,      /* an undefined kind, type, operator or other choice byte */
+    DOGWOOD_OUTSIDE_CLASS = 6,         /* a string with bytes that may not stand there */
+    DOGWOOD_TOO_DEEP = 7,              /* level 33 */
+    DOGWOOD_NOT_ASCENDING = 8,         /* names that do not ascend, or one given twice */
+    DOGWOOD_AGGREGATE_BELOW_ARRAY = 9, /* an aggregate anywhere below an array */
+    DOGWOOD_BYTES_AFTER = 10,          /* bytes after the record's end */
+    DOGWOOD_NO_SPACE = 11,             /* the output is longer than the lent buffer */
+    DOGWOOD_NO_SUCH_TARGET = 12        /* the path's position is not in the list of targets */
+};
+
+/* The record that a refusal is about. */
+enum dogwood_record {
+    DOGWOOD_NO_RECORD = 0, /* success, or DOGWOOD_NO_SPACE */
+    DOGWOOD_SCHEMA = 1,
+    DOGWOOD_CONDITION = 2,
+    DOGWOOD_TARGETS = 3,
+    DOGWOOD_PATH = 4
+};
+
+/*
+ * What a call answers: a number of enum dogwood_cause and one of enum dogwood_record, both 0 on success, and a count. The
+ * count is of the reports (check, sums) or of the output's bytes (lookup); a refusal's is 0, but for DOGWOOD_NO_SPACE of check
+ * and sums, which counts the reports that were kept.
+ */
+struct dogwood_answer {
+    uint8_t number;
+    uint8_t record;
+    size_t count;
+};
+
+/*
+ * Whether bytes are a schema, condition, targets or path record: 0, or the number (1 to 10) of what is wrong with them first.
+ */
+uint8_t dogwood_read_schema(const uint8_t *bytes, size_t length);
+uint8_t dogwood_read_condition(const uint8_t *bytes, size_t length);
+uint8_t dogwood_read_targets(const uint8_t *bytes, size_t length);
+uint8_t dogwood_read_path(const uint8_t *bytes, size_t length);
+
+/*
+ * Checks the types of a condition under each target of a rule. Every different pair of message and start is reported once.
+ *
+ * Number 0: the buffer begins with `count` reports, one after the other (struct dogwood_report); bytes behind them are as
+ * they were. A count of 0 means that the condition breaks no rule.
+ * DOGWOOD_NO_SPACE: the buffer begins with the `count` reports that come before the first that does not fit; bytes behind
+ * them are as they were. Call again with more space for all of them.
+ * Any other number: `record` says which record was refused (they are read in the order given here, each to its end), and the
+ * buffer is as it was.
+ */
+struct dogwood_answer dogwood_check(const uint8_t *schema, size_t schema_length,
+                                    const uint8_t *condition, size_t condition_length,
+                                    const uint8_t *targets, size_t targets_length,
+                                    uint8_t *reports, size_t reports_length);
+
+/*
+ * Reports each sum of a condition whose summand is declared as something else than Long. It needs no schema and no targets;
+ * a report may stand there twice. Numbers and buffer as for dogwood_check, the refused record being the condition.
+ */
+struct dogwood_answer dogwood_sums(const uint8_t *condition, size_t condition_length,
+                                   uint8_t *reports, size_t reports_length);
+
+/* The first byte of what dogwood_lookup writes. */
+enum dogwood_status {
+    DOGWOOD_RESOLVED = 0,   /* one string: the type */
+    DOGWOOD_MISSING = 1,    /* the segment that is missing, then the entity types that lack it */
+    DOGWOOD_NON_RECORD = 2, /* one string: the segment below which there is nothing */
+    DOGWOOD_AMBIGUOUS = 3,  /* the types, which differ */
+    DOGWOOD_UNKNOWN = 4     /* no string: the target or an entity type is not declared, or the path is empty */
+};
+
+/*
+ * Says how a path under principal or resource resolves for one target: the path record holds the target's position.
+ *
+ * Number 0: the buffer begins with `count` bytes: a byte of enum dogwood_status, a 16-bit count of strings, and each string
+ * with a 16-bit length before it (big-endian, not ended by 0); bytes behind them are as they were.
+ * Any other number, DOGWOOD_NO_SPACE too: the buffer is as it was. The records are read in the order given here; then
+ * DOGWOOD_NO_SUCH_TARGET (record DOGWOOD_TARGETS), then DOGWOOD_NO_SPACE.
+ */
+struct dogwood_answer dogwood_lookup(const uint8_t *schema, size_t schema_length,
+                                     const uint8_t *targets, size_t targets_length,
+                                     const uint8_t *path, size_t path_length,
+                                     uint8_t *output, size_t output_length);
+
+/*
+ * One report: the span in the rule's text, from the condition record, and a message in UTF-8 that is not ended by 0.
+ * In the buffer it has DOGWOOD_REPORT_HEAD bytes, start and end (32 bits each) and the message's length (16 bits), all
+ * big-endian, and then the message.
+ */
+struct dogwood_report {
+    uint32_t start;
+    uint32_t end;
+    uint16_t length;
+    const char *message;
+};
+
+#define DOGWOOD_REPORT_HEAD 10
+
+/* A big-endian number of 32 bits. */
+static inline uint32_t dogwood_number32(const uint8_t *at) {
+    return (uint32_t)at[0] << 24 | (uint32_t)at[1] << 16 | (uint32_t)at[2] << 8 | at[3];
+}
+
+/*
+ * Takes a report apart, and gives the address of the next one. It is for the `count` reports at the beginning of a buffer
+ * that dogwood_check or dogwood_sums has filled; the message stays in the buffer.
+ */
+static inline const uint8_t *dogwood_next_report(const uint8_t *at, struct dogwood_report *report) {
+    report->start = dogwood_number32(at);
+    report->end = dogwood_number32(at + 4);
+    report->length = (uint16_t)(at[8] << 8 | at[9]);
+    report->message = (const char *)(at + DOGWOOD_REPORT_HEAD);
+    return at + DOGWOOD_REPORT_HEAD + report->length;
+}
+
+#ifdef __cplusplus
+}
+#endif
+
+#endif

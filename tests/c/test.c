@@ -1,0 +1,257 @@
+/*
+ * Calls each function of the library, for an answer and for refusals, and says what is not as include/dogwood.h has it.
+ * It is both C99 and C++. It prints one line; the exit status is 1 where a test failed.
+ */
+#include "dogwood.h"
+
+#include <stdio.h>
+#include <string.h>
+
+/* A string literal's bytes without the last 0, as an address and a length. */
+#define BYTES(text) (const uint8_t *)(text), sizeof(text) - 1
+
+static int tests = 0;
+static int failures = 0;
+
+#define TEST(claim) test((claim) ? 1 : 0, #claim, __LINE__)
+
+static void test(int holds, const char *claim, int line) {
+    tests++;
+    if (!holds) {
+        failures++;
+        fprintf(stderr, "test.c:%d: %s\n", line, claim);
+    }
+}
+
+/* ─── Records ─── */
+
+#define ZERO_SPAN "\0\0\0\0\0\0\0\0"
+
+/* No entity types, no actions. */
+#define EMPTY_SCHEMA "DWS\0\1\0\0\0\0"
+
+/* User with the attribute name: String, and Action::"view" of a User on anything. */
+#define SCHEMA "DWS\0\1" "\0\1" "\4User" "\0" "\1\4name\1" "\0\1" "\6Action" "\4view" "\1\4User" "\0" "\6\0"
+
+/* `true < 1` at 0 to 8. */
+#define WRONG_COMPARISON "\10" "\0\0\0\0\0\0\0\10" "\1\5\2"
+
+/* `true < 1` at 9 to 17. */
+#define NEXT_COMPARISON "\10" "\0\0\0\11\0\0\0\21" "\1\5\2"
+
+#define CONDITION "DWC\0\1" WRONG_COMPARISON
+#define TWO_COMPARISONS "DWC\0\1" "\1" ZERO_SPAN WRONG_COMPARISON NEXT_COMPARISON
+#define CLEAN_CONDITION "DWC\0\1" "\13" ZERO_SPAN
+
+/* `exists (v: String). (sum v for . ..) == 1`, the sum at 3 to 258. */
+#define SUM "\13\1" "\0\0\0\3\0\0\1\2" "\0\1v" "\0" "\13" ZERO_SPAN
+#define WRONG_SUM "DWC\0\1" "\11" ZERO_SPAN "\0\1v\1\6String" "\10" ZERO_SPAN "\4" SUM "\2"
+
+/* No narrowing, the target "view". */
+#define TARGETS "DWT\0\1" "\0\0" "\1" "\0\4view"
+
+/* principal.name, and principal.none, of the target at position 0. */
+#define PATH "DWP\0\1" "\0" "\1\4name" "\0"
+#define MISSING_PATH "DWP\0\1" "\0" "\1\4none" "\0"
+#define FAR_PATH "DWP\0\1" "\0" "\1\4name" "\1"
+
+#define MESSAGE "comparison requires numeric operands on both sides, got `boolean` and `int`"
+#define SUM_MESSAGE "cannot sum `v`: sum requires a `Long` summand, but `v` is `String`."
+
+/* ─── The lent buffer ─── */
+
+#define SPACE 4096
+#define UNTOUCHED 0xA5
+
+static uint8_t buffer[SPACE];
+
+/* The whole buffer, with a byte in it that no test writes. */
+static uint8_t *fresh(void) {
+    memset(buffer, UNTOUCHED, SPACE);
+    return buffer;
+}
+
+static int untouched_from(size_t at) {
+    while (at < SPACE && buffer[at] == UNTOUCHED) {
+        at++;
+    }
+    return at == SPACE;
+}
+
+static int answers(struct dogwood_answer answer, int number, int record, size_t count) {
+    return answer.number == number && answer.record == record && answer.count == count;
+}
+
+/* A refusal leaves the buffer alone. */
+static int refuses(struct dogwood_answer answer, int number, int record) {
+    return answers(answer, number, record, 0) && untouched_from(0);
+}
+
+static int reports(const struct dogwood_report *report, uint32_t start, uint32_t end, const char *message) {
+    return report->start == start && report->end == end && report->length == strlen(message) &&
+           memcmp(report->message, message, report->length) == 0;
+}
+
+/* ─── The four readers ─── */
+
+static void test_readers(void) {
+    static uint8_t large[DOGWOOD_MOST_BYTES + 1];
+
+    TEST(dogwood_read_schema(BYTES(SCHEMA)) == DOGWOOD_ACCEPTED);
+    TEST(dogwood_read_schema(BYTES(SCHEMA "\0")) == DOGWOOD_BYTES_AFTER);
+    TEST(dogwood_read_schema(BYTES("DWS\0\1\0\2\1b\0\0\1a\0\0\0\0")) == DOGWOOD_NOT_ASCENDING);
+    TEST(dogwood_read_schema(large, DOGWOOD_MOST_BYTES) == DOGWOOD_OTHER_MARK);
+    TEST(dogwood_read_schema(large, DOGWOOD_MOST_BYTES + 1) == DOGWOOD_TOO_LONG);
+
+    TEST(dogwood_read_condition(BYTES(CONDITION)) == DOGWOOD_ACCEPTED);
+    TEST(dogwood_read_condition(BYTES("DWC\0\2")) == DOGWOOD_OTHER_VERSION);
+    TEST(dogwood_read_condition(BYTES("DWC\0\1\16")) == DOGWOOD_UNDEFINED_CHOICE);
+    TEST(dogwood_read_condition(BYTES("DWC\0\1\10" ZERO_SPAN "\4\12\1\13")) == DOGWOOD_AGGREGATE_BELOW_ARRAY);
+
+    TEST(dogwood_read_targets(BYTES(TARGETS)) == DOGWOOD_ACCEPTED);
+    TEST(dogwood_read_targets(BYTES("DWT\0\1\2\0")) == DOGWOOD_OUTSIDE_CLASS);
+
+    TEST(dogwood_read_path(BYTES(PATH)) == DOGWOOD_ACCEPTED);
+    TEST(dogwood_read_path(BYTES("DWP\0")) == DOGWOOD_CUT);
+}
+
+/* `!!..!true`: a condition at as many levels. */
+static size_t nested(uint8_t *bytes, int levels) {
+    uint8_t *at = bytes;
+    memcpy(at, "DWC\0\1", 5);
+    at += 5;
+    for (; levels > 0; levels--) {
+        *at++ = levels == 1 ? 11 : 3;
+        memset(at, 0, 8);
+        at += 8;
+    }
+    return (size_t)(at - bytes);
+}
+
+static void test_levels(void) {
+    static uint8_t bytes[5 + 9 * (DOGWOOD_MOST_LEVELS + 1)];
+
+    TEST(dogwood_read_condition(bytes, nested(bytes, DOGWOOD_MOST_LEVELS)) == DOGWOOD_ACCEPTED);
+    TEST(dogwood_read_condition(bytes, nested(bytes, DOGWOOD_MOST_LEVELS + 1)) == DOGWOOD_TOO_DEEP);
+}
+
+/* Where the length is 0 the address may be NULL. */
+static void test_nothing(void) {
+    TEST(dogwood_read_schema(NULL, 0) == DOGWOOD_CUT);
+    TEST(dogwood_read_condition(NULL, 0) == DOGWOOD_CUT);
+    TEST(dogwood_read_targets(NULL, 0) == DOGWOOD_CUT);
+    TEST(dogwood_read_path(NULL, 0) == DOGWOOD_CUT);
+    TEST(answers(dogwood_check(NULL, 0, NULL, 0, NULL, 0, NULL, 0), DOGWOOD_CUT, DOGWOOD_SCHEMA, 0));
+    TEST(answers(dogwood_check(BYTES(SCHEMA), BYTES(CLEAN_CONDITION), BYTES(TARGETS), NULL, 0), 0, 0, 0));
+    TEST(answers(dogwood_check(BYTES(SCHEMA), BYTES(CONDITION), BYTES(TARGETS), NULL, 0), DOGWOOD_NO_SPACE, 0, 0));
+    TEST(answers(dogwood_sums(NULL, 0, NULL, 0), DOGWOOD_CUT, DOGWOOD_CONDITION, 0));
+    TEST(answers(dogwood_sums(BYTES(WRONG_SUM), NULL, 0), DOGWOOD_NO_SPACE, 0, 0));
+    TEST(answers(dogwood_lookup(NULL, 0, NULL, 0, NULL, 0, NULL, 0), DOGWOOD_CUT, DOGWOOD_SCHEMA, 0));
+    TEST(answers(dogwood_lookup(BYTES(SCHEMA), BYTES(TARGETS), BYTES(PATH), NULL, 0), DOGWOOD_NO_SPACE, 0, 0));
+}
+
+/* ─── Check ─── */
+
+static void test_check(void) {
+    struct dogwood_answer answer = dogwood_check(BYTES(EMPTY_SCHEMA), BYTES(CONDITION), BYTES(TARGETS), fresh(), SPACE);
+    struct dogwood_report report;
+    const uint8_t *next = dogwood_next_report(buffer, &report);
+
+    TEST(answers(answer, DOGWOOD_ACCEPTED, DOGWOOD_NO_RECORD, 1));
+    TEST(reports(&report, 0, 8, MESSAGE));
+    TEST(next == buffer + DOGWOOD_REPORT_HEAD + strlen(MESSAGE));
+    TEST(untouched_from((size_t)(next - buffer)));
+
+    answer = dogwood_check(BYTES(SCHEMA), BYTES(CLEAN_CONDITION), BYTES(TARGETS), fresh(), SPACE);
+    TEST(answers(answer, DOGWOOD_ACCEPTED, DOGWOOD_NO_RECORD, 0) && untouched_from(0));
+
+    answer = dogwood_check(BYTES("XXX"), BYTES(""), BYTES(""), fresh(), SPACE);
+    TEST(refuses(answer, DOGWOOD_OTHER_MARK, DOGWOOD_SCHEMA));
+    answer = dogwood_check(BYTES(SCHEMA), BYTES("DWC\0\1\16"), BYTES(""), fresh(), SPACE);
+    TEST(refuses(answer, DOGWOOD_UNDEFINED_CHOICE, DOGWOOD_CONDITION));
+    answer = dogwood_check(BYTES(SCHEMA), BYTES(CONDITION), BYTES("DWT\0\1\2\0"), fresh(), SPACE);
+    TEST(refuses(answer, DOGWOOD_OUTSIDE_CLASS, DOGWOOD_TARGETS));
+}
+
+/* Number 11 keeps the whole reports that fit, and a buffer that is just full is large enough. */
+static void test_check_space(void) {
+    const size_t one = DOGWOOD_REPORT_HEAD + strlen(MESSAGE);
+    struct dogwood_answer answer;
+    struct dogwood_report report;
+
+    answer = dogwood_check(BYTES(SCHEMA), BYTES(TWO_COMPARISONS), BYTES(TARGETS), fresh(), 2 * one);
+    TEST(answers(answer, DOGWOOD_ACCEPTED, DOGWOOD_NO_RECORD, 2));
+    dogwood_next_report(dogwood_next_report(buffer, &report), &report);
+    TEST(reports(&report, 9, 17, MESSAGE));
+    TEST(untouched_from(2 * one));
+
+    answer = dogwood_check(BYTES(SCHEMA), BYTES(TWO_COMPARISONS), BYTES(TARGETS), fresh(), 2 * one - 1);
+    TEST(answers(answer, DOGWOOD_NO_SPACE, DOGWOOD_NO_RECORD, 1));
+    dogwood_next_report(buffer, &report);
+    TEST(reports(&report, 0, 8, MESSAGE));
+    TEST(untouched_from(one));
+
+    answer = dogwood_check(BYTES(SCHEMA), BYTES(TWO_COMPARISONS), BYTES(TARGETS), fresh(), one - 1);
+    TEST(refuses(answer, DOGWOOD_NO_SPACE, DOGWOOD_NO_RECORD));
+}
+
+/* ─── Sums ─── */
+
+static void test_sums(void) {
+    const size_t one = DOGWOOD_REPORT_HEAD + strlen(SUM_MESSAGE);
+    struct dogwood_answer answer = dogwood_sums(BYTES(WRONG_SUM), fresh(), SPACE);
+    struct dogwood_report report;
+
+    dogwood_next_report(buffer, &report);
+    TEST(answers(answer, DOGWOOD_ACCEPTED, DOGWOOD_NO_RECORD, 1));
+    TEST(reports(&report, 3, 258, SUM_MESSAGE));
+    TEST(untouched_from(one));
+
+    answer = dogwood_sums(BYTES(CONDITION), fresh(), SPACE);
+    TEST(answers(answer, DOGWOOD_ACCEPTED, DOGWOOD_NO_RECORD, 0) && untouched_from(0));
+    answer = dogwood_sums(BYTES(SCHEMA), fresh(), SPACE);
+    TEST(refuses(answer, DOGWOOD_OTHER_MARK, DOGWOOD_CONDITION));
+    answer = dogwood_sums(BYTES(WRONG_SUM), fresh(), one - 1);
+    TEST(refuses(answer, DOGWOOD_NO_SPACE, DOGWOOD_NO_RECORD));
+}
+
+/* ─── Lookup ─── */
+
+/* Whether the output is these bytes, and what is behind them as it was. */
+static int writes(struct dogwood_answer answer, const uint8_t *bytes, size_t length) {
+    return answers(answer, DOGWOOD_ACCEPTED, DOGWOOD_NO_RECORD, length) && memcmp(buffer, bytes, length) == 0 &&
+           untouched_from(length);
+}
+
+static void test_lookup(void) {
+    struct dogwood_answer answer = dogwood_lookup(BYTES(SCHEMA), BYTES(TARGETS), BYTES(PATH), fresh(), SPACE);
+
+    TEST(buffer[0] == DOGWOOD_RESOLVED && writes(answer, BYTES("\0" "\0\1" "\0\6string")));
+    answer = dogwood_lookup(BYTES(SCHEMA), BYTES(TARGETS), BYTES(MISSING_PATH), fresh(), SPACE);
+    TEST(buffer[0] == DOGWOOD_MISSING && writes(answer, BYTES("\1" "\0\2" "\0\4none" "\0\4User")));
+    answer = dogwood_lookup(BYTES(EMPTY_SCHEMA), BYTES(TARGETS), BYTES(PATH), fresh(), SPACE);
+    TEST(buffer[0] == DOGWOOD_UNKNOWN && writes(answer, BYTES("\4" "\0\0")));
+
+    answer = dogwood_lookup(BYTES("DWS\0\2"), BYTES(TARGETS), BYTES(PATH), fresh(), SPACE);
+    TEST(refuses(answer, DOGWOOD_OTHER_VERSION, DOGWOOD_SCHEMA));
+    answer = dogwood_lookup(BYTES(SCHEMA), BYTES(""), BYTES(PATH), fresh(), SPACE);
+    TEST(refuses(answer, DOGWOOD_CUT, DOGWOOD_TARGETS));
+    answer = dogwood_lookup(BYTES(SCHEMA), BYTES(TARGETS), BYTES(PATH "\0"), fresh(), SPACE);
+    TEST(refuses(answer, DOGWOOD_BYTES_AFTER, DOGWOOD_PATH));
+    answer = dogwood_lookup(BYTES(SCHEMA), BYTES(TARGETS), BYTES(FAR_PATH), fresh(), 0);
+    TEST(refuses(answer, DOGWOOD_NO_SUCH_TARGET, DOGWOOD_TARGETS));
+    answer = dogwood_lookup(BYTES(SCHEMA), BYTES(TARGETS), BYTES(PATH), fresh(), 10);
+    TEST(refuses(answer, DOGWOOD_NO_SPACE, DOGWOOD_NO_RECORD));
+}
+
+int main(void) {
+    test_readers();
+    test_levels();
+    test_nothing();
+    test_check();
+    test_check_space();
+    test_sums();
+    test_lookup();
+    printf("the library from C: %d tests, %d failed\n", tests, failures);
+    return failures != 0;
+}
