@@ -1,0 +1,99 @@
+//! The functions of `libdogwood.a`, each behind a safe one. All of this crate's unsafe code stands here.
+//!
+//! A slice crosses the border as its address and its length. The library reads only the records' bytes, writes only the lent
+//! buffer's, keeps no address, and asks nothing of the bytes: it is proved for all of them.
+
+/// What the library returns, as `struct dogwood_answer` of `include/dogwood.h`.
+#[repr(C)]
+pub(crate) struct Returned {
+    pub number: u8,
+    pub record: u8,
+    pub count: usize,
+}
+
+extern "C" {
+    fn dogwood_read_schema(bytes: *const u8, length: usize) -> u8;
+    fn dogwood_read_condition(bytes: *const u8, length: usize) -> u8;
+    fn dogwood_read_targets(bytes: *const u8, length: usize) -> u8;
+    fn dogwood_read_path(bytes: *const u8, length: usize) -> u8;
+    fn dogwood_check(
+        schema: *const u8,
+        schema_length: usize,
+        condition: *const u8,
+        condition_length: usize,
+        targets: *const u8,
+        targets_length: usize,
+        reports: *mut u8,
+        reports_length: usize,
+    ) -> Returned;
+    fn dogwood_sums(condition: *const u8, condition_length: usize, reports: *mut u8, reports_length: usize)
+        -> Returned;
+    fn dogwood_lookup(
+        schema: *const u8,
+        schema_length: usize,
+        targets: *const u8,
+        targets_length: usize,
+        path: *const u8,
+        path_length: usize,
+        output: *mut u8,
+        output_length: usize,
+    ) -> Returned;
+}
+
+pub(crate) fn read_schema(bytes: &[u8]) -> u8 {
+    // SAFETY: the address and the length are those of a slice that is borrowed through the call.
+    unsafe { dogwood_read_schema(bytes.as_ptr(), bytes.len()) }
+}
+
+pub(crate) fn read_condition(bytes: &[u8]) -> u8 {
+    // SAFETY: as for `read_schema`.
+    unsafe { dogwood_read_condition(bytes.as_ptr(), bytes.len()) }
+}
+
+pub(crate) fn read_targets(bytes: &[u8]) -> u8 {
+    // SAFETY: as for `read_schema`.
+    unsafe { dogwood_read_targets(bytes.as_ptr(), bytes.len()) }
+}
+
+pub(crate) fn read_path(bytes: &[u8]) -> u8 {
+    // SAFETY: as for `read_schema`.
+    unsafe { dogwood_read_path(bytes.as_ptr(), bytes.len()) }
+}
+
+pub(crate) fn check(schema: &[u8], condition: &[u8], targets: &[u8], reports: &mut [u8]) -> Returned {
+    // SAFETY: each address and length are those of a slice that is borrowed through the call, and the buffer, borrowed
+    // mutably, overlaps none of the others.
+    unsafe {
+        dogwood_check(
+            schema.as_ptr(),
+            schema.len(),
+            condition.as_ptr(),
+            condition.len(),
+            targets.as_ptr(),
+            targets.len(),
+            reports.as_mut_ptr(),
+            reports.len(),
+        )
+    }
+}
+
+pub(crate) fn sums(condition: &[u8], reports: &mut [u8]) -> Returned {
+    // SAFETY: as for `check`.
+    unsafe { dogwood_sums(condition.as_ptr(), condition.len(), reports.as_mut_ptr(), reports.len()) }
+}
+
+pub(crate) fn lookup(schema: &[u8], targets: &[u8], path: &[u8], output: &mut [u8]) -> Returned {
+    // SAFETY: as for `check`.
+    unsafe {
+        dogwood_lookup(
+            schema.as_ptr(),
+            schema.len(),
+            targets.as_ptr(),
+            targets.len(),
+            path.as_ptr(),
+            path.len(),
+            output.as_mut_ptr(),
+            output.len(),
+        )
+    }
+}

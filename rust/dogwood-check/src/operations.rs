@@ -1,0 +1,163 @@
+//! The library's operations: in a lent buffer, and with space of their own.
+
+use crate::{ffi, Answer, Cause, Refusal, Report, Reports, ScopePath};
+
+/// The space that [`check`], [`sums`] and [`lookup`] begin with.
+const FIRST_SPACE: usize = 4096;
+
+/// The most space that [`check`], [`sums`] and [`lookup`] take for an answer: 16 MiB. Whoever wants another bound lends a buffer
+/// to [`check_into`], [`sums_into`] or [`lookup_into`].
+pub const MOST_SPACE: usize = 16 << 20;
+
+fn read(number: u8) -> Result<(), Cause> {
+    Cause::answered(number).map_or(Ok(()), Err)
+}
+
+/// Whether bytes are a schema record, or the first thing that is wrong with them.
+///
+/// ```
+/// use dogwood_check::{read_schema, Cause};
+///
+/// assert_eq!(read_schema(b"DWS\0\x01\0\0\0\0"), Ok(()));
+/// assert_eq!(read_schema(b"DWS\0\x01"), Err(Cause::Cut));
+/// ```
+pub fn read_schema(bytes: &[u8]) -> Result<(), Cause> {
+    read(ffi::read_schema(bytes))
+}
+
+/// Whether bytes are a condition record, or the first thing that is wrong with them.
+pub fn read_condition(bytes: &[u8]) -> Result<(), Cause> {
+    read(ffi::read_condition(bytes))
+}
+
+/// Whether bytes are a targets record, or the first thing that is wrong with them.
+pub fn read_targets(bytes: &[u8]) -> Result<(), Cause> {
+    read(ffi::read_targets(bytes))
+}
+
+/// Whether bytes are a path record, or the first thing that is wrong with them.
+pub fn read_path(bytes: &[u8]) -> Result<(), Cause> {
+    read(ffi::read_path(bytes))
+}
+
+/// Checks the types of a condition under each target of a rule, with a lent buffer for the reports.
+///
+/// Without refusal the buffer begins with [`count`](Answer::count) reports, which [`Reports`] decodes. After [`Cause::NoSpace`] it
+/// begins with the `count` reports before the first that does not fit. After any other refusal, and behind the reports, the
+/// buffer is as it was. Nothing is allocated.
+///
+/// ```
+/// use dogwood_check::{check_into, Reports};
+///
+/// let schema = b"DWS\0\x01\0\0\0\0";
+/// let condition = b"DWC\0\x01\x08\0\0\0\0\0\0\0\x08\x01\x05\x02"; // `true < 1`
+/// let targets = b"DWT\0\x01\0\0\x01\0\x04view";
+/// let mut buffer = [0; 1024];
+/// let answer = check_into(schema, condition, targets, &mut buffer);
+/// assert_eq!((answer.refusal, answer.count), (None, 1));
+/// for report in Reports::new(&buffer, answer.count)? {
+///     assert_eq!((report.start, report.end), (0, 8));
+/// }
+/// # Ok::<(), dogwood_check::DecodeError>(())
+/// ```
+pub fn check_into(schema: &[u8], condition: &[u8], targets: &[u8], reports: &mut [u8]) -> Answer {
+    Answer::new(ffi::check(schema, condition, targets, reports))
+}
+
+/// Checks the sums of a condition, with a lent buffer for the reports. The buffer is filled as by [`check_into`].
+pub fn sums_into(condition: &[u8], reports: &mut [u8]) -> Answer {
+    Answer::new(ffi::sums(condition, reports))
+}
+
+/// Looks a path up for one target, with a lent buffer for the output.
+///
+/// Without refusal the buffer begins with [`count`](Answer::count) bytes, which [`ScopePath::decode`] takes apart, and is as it
+/// was behind them. After any refusal the whole buffer is as it was.
+pub fn lookup_into(schema: &[u8], targets: &[u8], path: &[u8], output: &mut [u8]) -> Answer {
+    Answer::new(ffi::lookup(schema, targets, path, output))
+}
+
+/// Checks the types of a condition under each target of a rule: a report for each different pair of message and start. An
+/// empty list means that the condition breaks no rule.
+///
+/// The call begins with a few kilobytes for the reports and, where they do not fit, is repeated with twice the space, up to
+/// [`MOST_SPACE`]. Only a condition made to have very many reports needs more, and is refused by [`Cause::NoSpace`].
+///
+/// ```
+/// use dogwood_check::{check, Condition, Operator, Schema, Target, Targets, Term};
+///
+/// let schema = Schema::new().encode()?;
+/// let condition = Condition::comparison(0..8, Operator::Lt, Term::Bool, Term::Integer).encode()?;
+/// let targets = Targets::new().target(Target::new("view")).encode()?;
+/// let reports = check(&schema, &condition, &targets)?;
+/// assert_eq!(
+///     reports[0].to_string(),
+///     "0..8: comparison requires numeric operands on both sides, got `boolean` and `int`"
+/// );
+/// # Ok::<(), Box<dyn std::error::Error>>(())
+/// ```
+pub fn check(schema: &[u8], condition: &[u8], targets: &[u8]) -> Result<Vec<Report>, Refusal> {
+    in_space(|buffer| check_into(schema, condition, targets, buffer), reports)
+}
+
+/// Checks the sums of a condition: a report for each whose summand is declared as something else than `Long`.
+///
+/// Space is taken as by [`check`]; no condition needs more than [`MOST_SPACE`].
+///
+/// ```
+/// use dogwood_check::{sums, Aggregate, Binder, Condition, Operator, Term};
+///
+/// // sum v for (v: String). where ..
+/// let sum = Aggregate::sum(0..20, "v", [Binder::new("v", "String")], Condition::call(15..20));
+/// let condition = Condition::comparison(0..25, Operator::Gt, Term::aggregate(sum), Term::Integer);
+/// let reports = sums(&condition.encode()?)?;
+/// assert_eq!(reports[0].message, "cannot sum `v`: sum requires a `Long` summand, but `v` is `String`.");
+/// # Ok::<(), Box<dyn std::error::Error>>(())
+/// ```
+pub fn sums(condition: &[u8]) -> Result<Vec<Report>, Refusal> {
+    in_space(|buffer| sums_into(condition, buffer), reports)
+}
+
+/// Says how a path under principal or resource resolves for one target.
+///
+/// ```
+/// use dogwood_check::{lookup, Action, EntityType, Path, Schema, ScopePath, Target, Targets, Type};
+///
+/// let schema = Schema::new()
+///     .entity_type(EntityType::new("User").attribute("born", Type::Long))
+///     .action(Action::new("Action", "view").principal("User"))
+///     .encode()?;
+/// let targets = Targets::new().target(Target::new("view")).encode()?;
+/// let born = lookup(&schema, &targets, &Path::principal(["born"], 0).encode()?)?;
+/// assert_eq!(born, ScopePath::Resolved("int".to_string()));
+/// # Ok::<(), Box<dyn std::error::Error>>(())
+/// ```
+pub fn lookup(schema: &[u8], targets: &[u8], path: &[u8]) -> Result<ScopePath, Refusal> {
+    in_space(|buffer| lookup_into(schema, targets, path, buffer), scope_path)
+}
+
+/// Runs a call in more and more space until its output fits, and decodes the output by its count.
+fn in_space<T>(
+    mut call: impl FnMut(&mut [u8]) -> Answer,
+    decode: impl FnOnce(&[u8], usize) -> T,
+) -> Result<T, Refusal> {
+    let mut buffer = vec![0; FIRST_SPACE];
+    loop {
+        match call(&mut buffer).into_result() {
+            Err(Refusal { cause: Cause::NoSpace, .. }) if buffer.len() < MOST_SPACE => {
+                let twice = buffer.len() * 2;
+                buffer.resize(twice, 0);
+            }
+            answer => return answer.map(|count| decode(&buffer, count)),
+        }
+    }
+}
+
+fn reports(buffer: &[u8], count: usize) -> Vec<Report> {
+    let reports = Reports::new(buffer, count).expect("the library writes whole reports");
+    reports.map(|report| report.to_report()).collect()
+}
+
+fn scope_path(buffer: &[u8], count: usize) -> ScopePath {
+    ScopePath::decode(&buffer[..count]).expect("the library writes a whole output")
+}
