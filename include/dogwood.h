@@ -105,9 +105,9 @@ struct dogwood_answer dogwood_sums(const uint8_t *condition, size_t condition_le
 enum dogwood_status {
     DOGWOOD_RESOLVED = 0,   /* one string: the type */
     DOGWOOD_MISSING = 1,    /* the segment that is missing, then the entity types that lack it */
-    DOGWOOD_NON_RECORD = 2, /* one string: the segment below which there is nothing */
+    DOGWOOD_NON_RECORD = 2, /* one string: the segment that would go into something that is no record */
     DOGWOOD_AMBIGUOUS = 3,  /* the types, which differ */
-    DOGWOOD_UNKNOWN = 4     /* no string: the target or an entity type is not declared, or the path is empty */
+    DOGWOOD_UNKNOWN = 4     /* no string: an empty path, an undeclared target or entity type, or no type is admitted */
 };
 
 /*

@@ -36,9 +36,9 @@ fn folder() -> Result<PathBuf, String> {
 
 fn neither(folder: &str, kit: &str) -> String {
     format!(
-        "dogwood-check needs {ARCHIVE}, and neither way to it works:\n\
-         - the folder with the archive, named by {VARIABLE} (an absolute path): {folder};\n\
-         - `rt staticlib dogwood` at the root of the repository, where {VARIABLE} is not set: {kit}."
+        "dogwood-check needs {ARCHIVE}, and neither way to it works.\n\
+         1. A folder with the archive, whose absolute path is in the variable {VARIABLE}: {folder}.\n\
+         2. Without that variable, `rt staticlib dogwood` at the root of the repository: {kit}."
     )
 }
 
@@ -77,9 +77,7 @@ fn run_kit(root: &Path) -> Result<(), String> {
     }
     let said = [output.stdout, output.stderr].concat();
     let said = String::from_utf8_lossy(&said);
-    let lines: Vec<&str> = said.lines().collect();
-    let last = lines[lines.len().saturating_sub(5)..].join("\n    ");
-    Err(format!("it failed ({}), and said at the end\n    {last}\n ", output.status))
+    Err(format!("it failed ({}) and said last: {}", output.status, said.lines().last().unwrap_or("nothing")))
 }
 
 fn crate_folder() -> PathBuf {

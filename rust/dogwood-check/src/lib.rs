@@ -79,3 +79,8 @@ pub use scope_path::ScopePath;
 pub use span::Span;
 pub use targets::{Narrowing, Target, Targets};
 pub use term::{Aggregate, AggregateKind, Term};
+
+/// The example of README.md runs with the documentation's.
+#[cfg(doctest)]
+#[doc = include_str!("../README.md")]
+struct Readme;

@@ -14,11 +14,11 @@ pub enum ScopePath {
         /// The entity types that lack it.
         entities: Vec<String>,
     },
-    /// The path goes on below this segment, which is no record.
+    /// This segment would go into something that is no record.
     NonRecord(String),
     /// To unlike types, by entity type.
     Ambiguous(Vec<String>),
-    /// Nothing can be said: the target or an entity type is not declared, or the path is empty.
+    /// There is nothing to look at: the path is empty, the target or an entity type is not declared, or the scope admits none.
     Unknown,
 }
 
