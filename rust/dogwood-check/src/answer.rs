@@ -15,7 +15,7 @@ pub struct Answer {
 
 impl Answer {
     pub(crate) fn new(returned: Returned) -> Answer {
-        let record = RecordKind::from_number(returned.record);
+        let record = RecordKind::answered(returned.record);
         let refusal = Cause::answered(returned.number).map(|cause| Refusal { cause, record });
         Answer { refusal, count: returned.count }
     }

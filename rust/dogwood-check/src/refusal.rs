@@ -71,15 +71,7 @@ impl Cause {
 
     /// What the library's number means, 0 being no refusal.
     pub(crate) fn answered(number: u8) -> Option<Cause> {
-        if number == 0 {
-            return None;
-        }
-        let cause = Cause::from_number(number);
-        Some(
-            cause.unwrap_or_else(|| {
-                panic!("libdogwood.a answers {number}, a number of another version than this crate's")
-            }),
-        )
+        known(number, Cause::from_number)
     }
 
     /// The sentence about a record, which `subject` names.
@@ -147,6 +139,11 @@ impl RecordKind {
     pub fn from_number(number: u8) -> Option<RecordKind> {
         RecordKind::ALL.into_iter().find(|record| record.number() == number)
     }
+
+    /// What the library's number means, 0 being no record.
+    pub(crate) fn answered(number: u8) -> Option<RecordKind> {
+        known(number, RecordKind::from_number)
+    }
 }
 
 impl fmt::Display for RecordKind {
@@ -158,6 +155,16 @@ impl fmt::Display for RecordKind {
             RecordKind::Path => "the path",
         })
     }
+}
+
+/// The meaning of a number that the library returns; 0 has none. Any other number without one is of another version.
+fn known<T>(number: u8, meaning: fn(u8) -> Option<T>) -> Option<T> {
+    let meant = meaning(number);
+    assert!(
+        number == 0 || meant.is_some(),
+        "libdogwood.a answers {number}, and is of another version than dogwood-check"
+    );
+    meant
 }
 
 /// A refusal: its cause, and the record that it is about.

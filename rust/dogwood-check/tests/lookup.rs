@@ -38,6 +38,34 @@ fn resolved() {
     assert_eq!(born, ScopePath::Resolved("int".to_string()));
 }
 
+/// Each type of the schema, in the words of the check.
+#[test]
+fn resolved_types() {
+    let cases = [
+        (Type::Long, "int"),
+        (Type::String, "string"),
+        (Type::Bool, "boolean"),
+        (Type::extension("decimal"), "decimal"),
+        (Type::extension("ipaddr"), "string"),
+        (Type::set(Type::set(Type::Long)), "array<array<int>>"),
+        (Type::AnySet, "array"),
+        (Type::record([("a", Type::Long)]), "object"),
+        (Type::entity("App::Reader"), "entity:Reader"),
+        (Type::SeveralEntities, "entity"),
+        (Type::AnyEntity, "entity"),
+        (Type::Never, "never"),
+    ];
+    for (ty, word) in cases {
+        let schema = Schema::new()
+            .entity_type(EntityType::new("User").attribute("it", ty))
+            .action(Action::new("App::Action", "view").resource("User"));
+        let targets = Targets::new().target(Target::in_namespace("App", "view"));
+        let path = Path::resource(["it"], 0);
+        let answer = lookup(&schema.encode().unwrap(), &targets.encode().unwrap(), &path.encode().unwrap());
+        assert_eq!(answer, Ok(ScopePath::Resolved(word.to_string())));
+    }
+}
+
 #[test]
 fn missing() {
     let answer = found(Narrowing::None, Path::principal(["age"], 0));
