@@ -62,8 +62,8 @@ enum dogwood_record {
 
 /*
  * What a call answers: a number of enum dogwood_cause and one of enum dogwood_record, both 0 on success, and a count. The
- * count is of the reports (check, sums) or of the output's bytes (lookup); a refusal's is 0, but for DOGWOOD_NO_SPACE of check
- * and sums, which counts the reports that were kept.
+ * count is of the reports (check, sums) or of the output's bytes (lookup); a refusal's is 0, but for DOGWOOD_NO_SPACE of
+ * check and sums, which counts the reports that were kept.
  */
 struct dogwood_answer {
     uint8_t number;
@@ -72,7 +72,8 @@ struct dogwood_answer {
 };
 
 /*
- * Whether bytes are a schema, condition, targets or path record: 0, or the number (1 to 10) of what is wrong with them first.
+ * Whether bytes are a schema, condition, targets or path record: 0, or the number (1 to 10) of the first thing that is
+ * wrong with them.
  */
 uint8_t dogwood_read_schema(const uint8_t *bytes, size_t length);
 uint8_t dogwood_read_condition(const uint8_t *bytes, size_t length);

@@ -16,8 +16,8 @@ use crate::{Binder, Slot, Span, Term};
 /// # Ok::<(), dogwood_check::EncodeError>(())
 /// ```
 ///
-/// A tree is dropped recursively, as any tree of boxes. Whoever builds one from a rule's text bounds its depth while parsing;
-/// [`MOST_LEVELS`](crate::MOST_LEVELS) are enough for every tree that can be encoded.
+/// A tree is dropped recursively, as any tree of boxes. Whoever builds one from a rule's text bounds its depth while
+/// parsing; [`MOST_LEVELS`](crate::MOST_LEVELS) are enough for every tree that can be encoded.
 #[derive(Clone, Debug, PartialEq, Eq)]
 pub struct Condition {
     /// Its place in the rule's text.

@@ -1,9 +1,10 @@
 //! The temporal type check of Dogwood, as proved in Rattle, for Rust servers.
 //!
-//! A server that takes rules in asks [`check`] whether a rule's condition compares what can be compared, and [`sums`] whether
-//! it adds up numbers alone; [`lookup`] says what a path under `principal` or `resource` is. All three work on records, byte
-//! strings in a format that `docs/RECORDS.md` of the repository describes. [`Schema`], [`Condition`], [`Targets`] and [`Path`] build them from trees:
-//! what the format cannot hold is an [`EncodeError`] and never a wrong record.
+//! A server that takes rules in asks [`check`] whether a rule's condition compares what can be compared, and [`sums`]
+//! whether it adds up numbers alone; [`lookup`] says what a path under `principal` or `resource` is. All three work
+//! on records, byte strings in a format that `docs/RECORDS.md` of the repository describes. [`Schema`],
+//! [`Condition`], [`Targets`] and [`Path`] build them from trees: what the format cannot hold is an [`EncodeError`]
+//! and never a wrong record.
 //!
 //! ```
 //! use dogwood_check::{check, Action, Condition, Operator, Schema, Target, Targets, Term, Type};
@@ -29,15 +30,17 @@
 //!
 //! # Two layers
 //!
-//! [`check_into`], [`sums_into`] and [`lookup_into`] take a lent buffer and allocate nothing; [`Reports`] and [`ScopePath::decode`]
-//! read what they write. [`check`], [`sums`] and [`lookup`] take the space they need, up to [`MOST_SPACE`], and give owned values.
-//! Any bytes may be given as records: what is no record is refused, with a [`Cause`] and the record that it is about. A record in
-//! another one's place is refused too, by its mark. [`read_schema`] and its like say beforehand whether bytes are a record.
+//! [`check_into`], [`sums_into`] and [`lookup_into`] take a lent buffer and allocate nothing; [`Reports`] and
+//! [`ScopePath::decode`] read what they write. [`check`], [`sums`] and [`lookup`] take the space they need, up to
+//! [`MOST_SPACE`], and give owned values. Any bytes may be given as records: what is no record is refused, with a
+//! [`Cause`] and the record that it is about. A record in another one's place is refused too, by its mark.
+//! [`read_schema`] and its like say beforehand whether bytes are a record.
 //!
 //! # What is proved, and what is not
 //!
-//! The library behind these functions is proved to answer as the typing rules say, for all bytes. This crate is not proved: it is
-//! tested against the proved readers. All of its unsafe code stands in one module, which passes slices over the C interface.
+//! The library behind these functions is proved to answer as the typing rules say, for all bytes. This crate is not
+//! proved: it is tested against the proved readers. All of its unsafe code stands in one module, which passes slices
+//! over the C interface.
 //!
 //! The functions may be called from any number of threads; a call stays below 64 KiB of stack.
 

@@ -5,8 +5,8 @@ use crate::{ffi, Answer, Cause, Refusal, Report, Reports, ScopePath};
 /// The space that [`check`], [`sums`] and [`lookup`] begin with.
 const FIRST_SPACE: usize = 4096;
 
-/// The most space that [`check`], [`sums`] and [`lookup`] take for an answer: 16 MiB. Whoever wants another bound lends a buffer
-/// to [`check_into`], [`sums_into`] or [`lookup_into`].
+/// The most space that [`check`], [`sums`] and [`lookup`] take for an answer: 16 MiB. Whoever wants another bound
+/// lends a buffer to [`check_into`], [`sums_into`] or [`lookup_into`].
 pub const MOST_SPACE: usize = 16 << 20;
 
 fn read(number: u8) -> Result<(), Cause> {
@@ -42,9 +42,9 @@ pub fn read_path(bytes: &[u8]) -> Result<(), Cause> {
 
 /// Checks the types of a condition under each target of a rule, with a lent buffer for the reports.
 ///
-/// Without refusal the buffer begins with [`count`](Answer::count) reports, which [`Reports`] decodes. After [`Cause::NoSpace`] it
-/// begins with the `count` reports before the first that does not fit. After any other refusal, and behind the reports, the
-/// buffer is as it was. Nothing is allocated.
+/// Without refusal the buffer begins with [`count`](Answer::count) reports, which [`Reports`] decodes. After
+/// [`Cause::NoSpace`] it begins with the `count` reports before the first that does not fit. After any other refusal,
+/// and behind the reports, the buffer is as it was. Nothing is allocated.
 ///
 /// ```
 /// use dogwood_check::{check_into, Reports};
@@ -71,8 +71,8 @@ pub fn sums_into(condition: &[u8], reports: &mut [u8]) -> Answer {
 
 /// Looks a path up for one target, with a lent buffer for the output.
 ///
-/// Without refusal the buffer begins with [`count`](Answer::count) bytes, which [`ScopePath::decode`] takes apart, and is as it
-/// was behind them. After any refusal the whole buffer is as it was.
+/// Without refusal the buffer begins with [`count`](Answer::count) bytes, which [`ScopePath::decode`] takes apart,
+/// and is as it was behind them. After any refusal the whole buffer is as it was.
 pub fn lookup_into(schema: &[u8], targets: &[u8], path: &[u8], output: &mut [u8]) -> Answer {
     Answer::new(ffi::lookup(schema, targets, path, output))
 }
@@ -80,8 +80,9 @@ pub fn lookup_into(schema: &[u8], targets: &[u8], path: &[u8], output: &mut [u8]
 /// Checks the types of a condition under each target of a rule: a report for each different pair of message and start. An
 /// empty list means that the condition breaks no rule.
 ///
-/// The call begins with a few kilobytes for the reports and, where they do not fit, is repeated with twice the space, up to
-/// [`MOST_SPACE`]. Only a condition made to have very many reports needs more, and is refused by [`Cause::NoSpace`].
+/// The call begins with a few kilobytes for the reports and, where they do not fit, is repeated with twice the space,
+/// up to [`MOST_SPACE`]. Only a condition made to have very many reports needs more, and is refused by
+/// [`Cause::NoSpace`].
 ///
 /// ```
 /// use dogwood_check::{check, Condition, Operator, Schema, Target, Targets, Term};

@@ -57,8 +57,9 @@ pub struct Reports<'a> {
 }
 
 impl<'a> Reports<'a> {
-    /// The first `count` reports of a buffer that [`check_into`](crate::check_into) or [`sums_into`](crate::sums_into) has
-    /// filled. Bytes that are not as many whole reports are an error; the library leaves no such buffer.
+    /// The first `count` reports of a buffer that [`check_into`](crate::check_into) or
+    /// [`sums_into`](crate::sums_into) has filled. Bytes that are not as many whole reports are an error; the library
+    /// leaves no such buffer.
     pub fn new(buffer: &'a [u8], count: usize) -> Result<Reports<'a>, DecodeError> {
         let mut rest = buffer;
         for index in 0..count {
@@ -87,7 +88,8 @@ impl ExactSizeIterator for Reports<'_> {}
 
 impl std::iter::FusedIterator for Reports<'_> {}
 
-/// The report at the front, and what stands behind it: start and end in 32 bits each, the message's length in 16, the message.
+/// The report at the front, and what stands behind it: start and end in 32 bits each, the message's length in 16, the
+/// message.
 fn first(bytes: &[u8]) -> Option<(ReportRef<'_>, &[u8])> {
     let (start, rest) = bytes.split_first_chunk()?;
     let (end, rest) = rest.split_first_chunk()?;

@@ -18,7 +18,8 @@ pub enum ScopePath {
     NonRecord(String),
     /// To unlike types, by entity type.
     Ambiguous(Vec<String>),
-    /// There is nothing to look at: the path is empty, the target or an entity type is not declared, or the scope admits none.
+    /// There is nothing to look at: the path is empty, the target or an entity type is not declared, or the scope
+    /// admits none.
     Unknown,
 }
 

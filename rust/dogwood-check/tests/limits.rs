@@ -160,6 +160,8 @@ fn errors_name_the_offender() {
     let error = Condition::predicate(1..2, ["Action"], "view", [argument]).encode().unwrap_err();
     let start = "at 1..2: in argument `input.größe`: `input.größe` is not a plain string";
     assert!(error.to_string().starts_with(start), "{error}");
+    let error = Path::principal(["two\nlines"], 0).encode().unwrap_err();
+    assert!(error.to_string().starts_with("in the segments: `two\\nlines` is not a plain string"), "{error}");
     let error = Path::principal([name(300)], 0).encode().unwrap_err();
     let sentence = format!("in the segments: `{}…` has 300 bytes, and a text has at most 255", name(60));
     assert_eq!(error.to_string(), sentence);

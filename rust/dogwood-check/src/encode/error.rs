@@ -132,13 +132,18 @@ impl fmt::Display for Problem {
     }
 }
 
-/// A text as a sentence quotes it: its beginning, where it is long.
+/// A text as a sentence quotes it: its beginning, where it is long, and control characters as escapes.
 pub(crate) fn quoted(text: &str) -> String {
     const SHOWN: usize = 60;
-    match text.char_indices().nth(SHOWN) {
-        Some((end, _)) => format!("`{}…`", &text[..end]),
-        None => format!("`{text}`"),
+    let mut quoted = String::from("`");
+    for character in text.chars().take(SHOWN) {
+        match character.is_control() {
+            true => quoted.extend(character.escape_default()),
+            false => quoted.push(character),
+        }
     }
+    quoted.push_str(if text.chars().nth(SHOWN).is_some() { "…`" } else { "`" });
+    quoted
 }
 
 pub(crate) type Encoded = Result<(), EncodeError>;

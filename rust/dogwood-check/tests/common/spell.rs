@@ -1,5 +1,5 @@
-//! Records written as trees say, without any rule: so what `encode` refuses can be shown to the proved readers too. A text or
-//! list that its count cannot hold has no such record.
+//! Records written as trees say, without any rule: so what `encode` refuses can be shown to the proved readers too. A
+//! text or list that its count cannot hold has no such record.
 
 use dogwood_check::*;
 
