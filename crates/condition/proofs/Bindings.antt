@@ -44,7 +44,7 @@ module _ {A : Type 0} where
   later-assoc a b none = refl
   later-assoc a b (some c) = refl
 
-last-append : (name : List ℕ) (xs ys : List Binder) → lastNamed name (xs ++ ys) ≡ maybe (lastNamed name xs) some (lastNamed name ys)
+pub last-append : (name : List ℕ) (xs ys : List Binder) → lastNamed name (xs ++ ys) ≡ maybe (lastNamed name xs) some (lastNamed name ys)
 unfolding lastNamed
 last-append name [] ys = sym (later-none _)
 last-append name (x ∷ xs) ys = rw (last-append name xs ys) (sym (later-assoc (namedHere name (x .annotation) (x .slot)) (lastNamed name xs) (lastNamed name ys)))
@@ -130,11 +130,11 @@ module _ (s : List ℕ) (at : ℕ) (acc : isBinder s at ≡ true) where
   pub binder-annotation : (m : ℕ) → Skipped (slot s at) at m → isAnnotation s m ≡ true
   binder-annotation m z = is-accepted (ap (annotation s) (ends-at (binder-view .names) (z .ends)) ∙ binder-view .tells)
 
-  slot-is : (binderIn s at) .slot ≡ slotIn s at
+  pub slot-is : (binderIn s at) .slot ≡ slotIn s at
   unfolding slotIn
   slot-is = ap (λ (b : Binder). b .slot) (binder-view .whole) ∙ sym (has-value _ (binder-view .names))
 
-  annotation-is : (m : ℕ) → Skipped (slot s at) at m → (binderIn s at) .annotation ≡ annotationIn s m
+  pub annotation-is : (m : ℕ) → Skipped (slot s at) at m → (binderIn s at) .annotation ≡ annotationIn s m
   unfolding annotationIn
   annotation-is m z =
       let e = ap (annotation s) (ends-at (binder-view .names) (z .ends)) ∙ binder-view .tells in
@@ -213,7 +213,7 @@ no-binders (aggregate x) a b = absurd (a refl)
 no-binders (tree.arith l r) a b = absurd (b refl)
 no-binders sigil a b = refl
 
-call-declares : (x : Aggregate) → aggregateKindOf x ≡ 3 → declaredBy x ≡ []
+pub call-declares : (x : Aggregate) → aggregateKindOf x ≡ 3 → declaredBy x ≡ []
 unfolding declaredBy
 call-declares (sum span sl bs body) e = absurd (omega arith)
 call-declares (count span bs body) e = absurd (omega arith)
@@ -248,7 +248,7 @@ module _ (s name : List ℕ) (at : ℕ) where
 pub ruleset at-operand = (needs, right-says, left-says, call-says, binders-say, operand-says)
 
 -- a condition that is no Exists and no comparison declares nothing
-declares-none : (x : Condition) → (kindOf x ≡ 9 → ⊥) → (kindOf x ≡ 8 → ⊥) → declares x ≡ []
+pub declares-none : (x : Condition) → (kindOf x ≡ 9 → ⊥) → (kindOf x ≡ 8 → ⊥) → declares x ≡ []
 unfolding declares
 declares-none (one k span c) a b = refl
 declares-none (two k span l r) a b = refl

@@ -12,3 +12,5 @@ pub mod Pieces
 pub mod Bindings
 pub mod Aggregates
 pub mod Examples
+pub mod Spots
+pub mod Environments

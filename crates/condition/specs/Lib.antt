@@ -5,3 +5,4 @@ pub mod Kinds
 pub mod Open
 pub mod Index
 pub mod Parts
+pub mod Environment

@@ -9,11 +9,17 @@
 // | index | `index_record(s, table)`: the places of the reached conditions in walk order, `Index s (take r table)` |
 // | places | `reached_at(s, places, i)`: `Reached`; `last_binder(s, places, name)`: `Says` of `lastNamed name (binders (recordIn s))`; `next_aggregate(s, count, first)`: `NextIs` of `aggregatesIn s count first` |
 // | parts | kinds, spans and parts of conditions, terms, aggregates, slots, paths and annotations |
+// | flat | `environment(s, places, table)`: the last binder of each name, sorted by name, `Environment s (binders (recordIn s)) ..`; `bound_in(s, table, whole, places, name)`: as `last_binder`, by halving |
+// | sorted | a table of places that is sorted by name: `spot`, `replace`, `insert` |
+mod flat;
 mod index;
 mod parts;
 mod places;
 mod read;
+mod sorted;
 
+pub use flat::bound_in;
+pub use flat::environment;
 pub use index::index_record;
 pub use parts::aggregate_at;
 pub use parts::aggregate_kind_at;
@@ -113,4 +119,16 @@ pub enum Bound {
 pub enum NextAggregate {
     At(usize, Several),
     Done,
+}
+
+// Where a name stands in a table of places that is sorted by name, or where it belongs.
+pub struct Spot {
+    pub at: usize,
+    pub found: bool,
+}
+
+// A table of the last binders by name: how many entries it has, and whether it has all names.
+pub struct Names {
+    pub count: usize,
+    pub whole: bool,
 }

@@ -63,7 +63,7 @@ fn is_bound(b: Bound) -> bool
 }
 
 // What an annotation binds.
-fn bound_at(s: &[u8], at: usize) -> Bound
+pub fn bound_at(s: &[u8], at: usize) -> Bound
     requires { ⌜ isAnnotation (now s) at ≡ true ⌝ }
     ensures { λ r. ⌜ Says (now (s .entry)) (some (annotationIn (now (s .entry)) at)) r ⌝ }
 {

@@ -1,0 +1,471 @@
+-- The environment of some binders, and of one binder more, of a node's binders more, of all. Assumes nothing.
+use mathlib.Core.Path.{_≡_, refl, sym, ap, _∙_}
+use mathlib.Core.Bool.{Bool, true, false, cond, false≢true}
+use mathlib.Core.List.{List, [], _∷_, _++_, append-assoc, append-nil}
+use mathlib.Core.Option.{Option, none, some}
+use Prim.Native.Nat.{ℕ, suc, _+_, _-_, _≤_, _<_}
+use native.Mathlib.Omega.{arith}
+use borrow.Author.Needs.{needs}
+use borrow.Author.Tests.{ltb-true, ltb-false, eqb-true, eqb-false}
+use lib.Dec.{eqb, ltb}
+use lib.ListN.{length, getD, take, drop, set, length-set, drop-of-length-le}
+use lib.Seq.{length-take-le, take-set-lt, getD-set-same, getD-set-other}
+use Rattle.names.specs.Lists.{maybe, gather}
+use Rattle.names.specs.Lists.Laws.{gather-append}
+use Rattle.names.specs.Names.{same, below}
+use Rattle.names.specs.Names.Laws.{same-refl, same-eq, below-order, order-refl}
+use Rattle.names.specs.Read.{wordAt, Listed}
+use Rattle.names.proofs.Row.{listed-over, listed-first}
+use Rattle.condition.specs.declared.Spot.{Spot}
+use Rattle.condition.specs.declared.Names.{Names}
+use Rattle.condition.specs.declared.Several.{Several}
+use Rattle.condition.specs.declared.Bound.{Bound}
+use Rattle.condition.specs.declared.Bound.the-variants.{Nothing}
+use Rattle.condition.specs.declared.NextAggregate.{NextAggregate}
+use Rattle.condition.specs.declared.NextAggregate.the-variants.{At, Done}
+use Rattle.condition.specs.Condition.{Slot, named, paramRef, binderRef, Annotation, timepoint, Binder, Aggregate, Term, slot, binder}
+use Rattle.condition.specs.Walk.{declaredBy, operandAggregates, operandBinders, declares, binders, namedHere, lastNamed}
+use Rattle.condition.specs.Places.{recordIn, isCondition, conditionIn, isAggregate, aggregateIn, isSlot, slotIn, isAnnotation, annotationIn, isBinder, binderIn}
+use Rattle.condition.specs.Kinds.{kindOf, aggregateKindOf}
+use Rattle.condition.specs.Open.{Skipped, Opened, AggregateOpened}
+use Rattle.condition.specs.Parts.{ExistsHere, isBinders, bindersIn, BindersHere, Says, isTerms, aggregatesIn, AggregateNext, NextIs, OperandsHere}
+use Rattle.condition.specs.Index.{nodesOf, Index, Reached}
+use Rattle.condition.specs.Environment.{hasName, nameAt, Sorted, Entry, Environment, SpotOf, insertAt, Inserted, Held, Extended}
+use Rattle.condition.proofs.Pieces.{counted-here, slot-index, slot-name, slot-param, slot-binder}
+use Rattle.condition.proofs.ByPlace.{prefix}
+use Rattle.condition.proofs.Bindings.{last-append, says-nothing, binder-slot, binder-annotation, slot-is, annotation-is, binders-index, call-declares, declares-none}
+use Rattle.condition.proofs.Aggregates.{binders-of-aggregates}
+use Rattle.condition.proofs.Spots.{Beside, before, here, behind, beside, insert-length, insert-before, insert-here, insert-behind}
+
+-- ---- whether a binder has a name
+
+module _ (s : List ℕ) (at : ℕ) (acc : isBinder s at ≡ true) where
+  pub binder-index : at < length s
+  binder-index = slot-index s at (binder-slot s at acc)
+
+  pub place-small : {t : List ℕ} {known : Names} → Held s t known → at < 65536
+  place-small h = omega (arith, binder-index, h .small)
+
+  first-byte : getD s at 0 ≡ 0 → (binderIn s at) .slot ≡ named (wordAt s (at + 1))
+  first-byte e = slot-is s at acc ∙ slot-name s at (binder-slot s at acc) e
+
+  pub name-there : getD s at 0 ≡ 0 → true ≡ hasName ((binderIn s at) .slot)
+  name-there e = sym (ap hasName (first-byte e))
+
+  pub name-missing : (getD s at 0 ≡ 0 → ⊥) → false ≡ hasName ((binderIn s at) .slot)
+  name-missing h = sym (ap hasName (slot-is s at acc) ∙ go (eqb (getD s at 0) 1) refl)
+    where
+      go : (b : Bool) → eqb (getD s at 0) 1 ≡ b → hasName (slotIn s at) ≡ false
+      go true e = ap hasName (slot-param s at (binder-slot s at acc) (eqb-true _ _ e))
+      go false e = ap hasName (slot-binder s at (binder-slot s at acc) h (eqb-false _ _ e))
+
+  own-slot : hasName ((binderIn s at) .slot) ≡ true → (binderIn s at) .slot ≡ named (wordAt s (at + 1))
+  own-slot h = go (eqb (getD s at 0) 0) refl
+    where
+      go : (b : Bool) → eqb (getD s at 0) 0 ≡ b → (binderIn s at) .slot ≡ named (wordAt s (at + 1))
+      go true e = first-byte (eqb-true _ _ e)
+      go false e = absurd (false≢true (name-missing (eqb-false _ _ e) ∙ h))
+
+pub ruleset naming = (needs, binder-index, name-there, name-missing)
+
+-- ---- what one binder more says of a name
+
+nameless : (name : List ℕ) (a : Annotation) (x : Slot) → hasName x ≡ false → namedHere name a x ≡ none
+unfolding namedHere
+nameless name a (named n) h = absurd (false≢true (sym h))
+nameless name a paramRef h = refl
+nameless name a binderRef h = refl
+
+module _ (bs : List Binder) (b : Binder) (name : List ℕ) where
+  last-one : lastNamed name (bs ++ (b ∷ [])) ≡ maybe (lastNamed name bs) some (namedHere name (b .annotation) (b .slot))
+  unfolding lastNamed
+  last-one = last-append name bs (b ∷ [])
+
+  unnamed-last : hasName (b .slot) ≡ false → lastNamed name (bs ++ (b ∷ [])) ≡ lastNamed name bs
+  unnamed-last h = last-one ∙ ap (maybe (lastNamed name bs) some) (nameless name (b .annotation) (b .slot) h)
+
+  module _ (w : List ℕ) (is : (b .slot) ≡ named w) where
+    named-here : namedHere name (b .annotation) (b .slot) ≡ cond (same w name) (some (b .annotation)) none
+    unfolding namedHere
+    named-here = ap (namedHere name (b .annotation)) is
+
+    other-last : same w name ≡ false → lastNamed name (bs ++ (b ∷ [])) ≡ lastNamed name bs
+    other-last h = last-one ∙ ap (maybe (lastNamed name bs) some) (named-here ∙ ap (λ t. cond t (some (b .annotation)) none) h)
+
+    own-last : same w name ≡ true → lastNamed name (bs ++ (b ∷ [])) ≡ some (b .annotation)
+    own-last h = last-one ∙ ap (maybe (lastNamed name bs) some) (named-here ∙ ap (λ t. cond t (some (b .annotation)) none) h)
+
+-- ---- names that differ
+
+below-self : (w : List ℕ) → below w w ≡ false
+below-self w = below-order w w ∙ ap (λ n. eqb n 0) (order-refl w)
+
+module _ (v w : List ℕ) (h : below v w ≡ true) where
+  below-differs : same v w ≡ false
+  below-differs = go (same v w) refl
+    where
+      go : (b : Bool) → same v w ≡ b → same v w ≡ false
+      go true e = let z : v ≡ w = same-eq v w e in absurd (false≢true (sym (below-self w) ∙ rw z at h))
+      go false e = e
+
+  above-differs : same w v ≡ false
+  above-differs = go (same w v) refl
+    where
+      go : (b : Bool) → same w v ≡ b → same w v ≡ false
+      go true e = let z : w ≡ v = same-eq w v e in absurd (false≢true (sym (below-self v) ∙ rw z at h))
+      go false e = e
+
+-- ---- the environment with one binder more: unnamed, in place of the one of its name, put in, or left out
+
+module _ (s : List ℕ) (bs : List Binder) (whole : Bool) (l : List ℕ) (env : Environment s bs whole l) (at : ℕ) where
+  unnamed-on : hasName ((binderIn s at) .slot) ≡ false → Environment s (bs ++ (binderIn s at ∷ [])) whole l
+  unnamed-on h = record {
+    entries = λ i k. let e = env .entries i k in record { stands = e .stands; slot = e .slot; last = unnamed-last bs (binderIn s at) _ h ∙ e .last };
+    sorted = env .sorted;
+    complete = λ x name n. unnamed-last bs (binderIn s at) name h ∙ env .complete x name n;
+  }
+
+-- the names, with a place of the same name in place of the i-th
+module _ (s l : List ℕ) (at i : ℕ) (h : i < length l) (e : nameAt s l i ≡ wordAt s (at + 1)) where
+  name-set : (k : ℕ) → nameAt s (set l i at) k ≡ nameAt s l k
+  unfolding nameAt
+  name-set k = go (eqb k i) refl
+    where
+      go : (b : Bool) → eqb k i ≡ b → wordAt s (getD (set l i at) k 0 + 1) ≡ wordAt s (getD l k 0 + 1)
+      go true q = let z : k ≡ i = eqb-true k i q in ap (λ m. wordAt s (getD (set l i at) m 0 + 1)) z ∙ ap (λ m. wordAt s (m + 1)) (getD-set-same l i at 0 h) ∙ sym (ap (λ m. wordAt s (getD l m 0 + 1)) z ∙ e)
+      go false q = ap (λ m. wordAt s (m + 1)) (getD-set-other l i k at 0 (eqb-false k i q))
+
+  set-sorted : Sorted s l → Sorted s (set l i at)
+  set-sorted o = record { ascend = λ j k p q. rw (name-set j, name-set k) (o .ascend j k p (rw (length-set l i at) at q)) }
+
+-- the names, with one put in where it belongs
+module _ (s l : List ℕ) (at i : ℕ) (h : i ≤ length l) (low : (k : ℕ) → k < i → below (nameAt s l k) (wordAt s (at + 1)) ≡ true) (high : (k : ℕ) → i ≤ k → k < length l → below (wordAt s (at + 1)) (nameAt s l k) ≡ true) where
+  -- what each index has: the own name, or another that stands before or behind
+  name-before : (k : ℕ) → k < i → nameAt s (insertAt i at l) k ≡ nameAt s l k
+  unfolding nameAt
+  name-before k p = ap (λ m. wordAt s (m + 1)) (insert-before i at l h k p)
+
+  name-here : nameAt s (insertAt i at l) i ≡ wordAt s (at + 1)
+  unfolding nameAt
+  name-here = ap (λ m. wordAt s (m + 1)) (insert-here i at l h)
+
+  name-behind : (k : ℕ) → i ≤ k → nameAt s (insertAt i at l) (k + 1) ≡ nameAt s l k
+  unfolding nameAt
+  name-behind k p = ap (λ m. wordAt s (m + 1)) (insert-behind i at l h k p)
+
+  insert-sorted : Sorted s l → Sorted s (insertAt i at l)
+  insert-sorted o = record { ascend = λ j k p q. go j k p (rw (insert-length i at l h) at q) (beside i j) (beside i k) }
+    where
+      go : (j k : ℕ) → j < k → k < length l + 1 → Beside i j → Beside i k → below (nameAt s (insertAt i at l) j) (nameAt s (insertAt i at l) k) ≡ true
+      go j k p q (before x) (before y) = rw (name-before j x, name-before k y) (o .ascend j k p (omega arith))
+      go j k p q (before x) (here y) = rw (y, name-before j x, name-here) (low j x)
+      go j k p q (before x) (behind m y z) = rw (y, name-before j x, name-behind m z) (o .ascend j m (omega arith) (omega arith))
+      go j k p q (here x) (before y) = absurd (omega arith)
+      go j k p q (here x) (here y) = absurd (omega arith)
+      go j k p q (here x) (behind m y z) = rw (x, y, name-here, name-behind m z) (high m z (omega arith))
+      go j k p q (behind n x v) (before y) = absurd (omega arith)
+      go j k p q (behind n x v) (here y) = absurd (omega arith)
+      go j k p q (behind n x v) (behind m y z) = rw (x, y, name-behind n v, name-behind m z) (o .ascend n m (omega arith) (omega arith))
+
+  apart : (k : ℕ) → k < length l → same (wordAt s (at + 1)) (nameAt s l k) ≡ false
+  apart k p = go (ltb k i) refl
+    where
+      go : (b : Bool) → ltb k i ≡ b → same (wordAt s (at + 1)) (nameAt s l k) ≡ false
+      go true q = above-differs _ _ (low k (ltb-true k i q))
+      go false q = below-differs _ _ (high k (ltb-false k i q) p)
+
+module _ (s : List ℕ) (bs : List Binder) (whole : Bool) (l : List ℕ) (env : Environment s bs whole l) (at : ℕ) (acc : isBinder s at ≡ true) (has : hasName ((binderIn s at) .slot) ≡ true) where
+  own-entry : Entry s (bs ++ (binderIn s at ∷ [])) at
+  own-entry = record { stands = acc; slot = own-slot s at acc has; last = own-last bs (binderIn s at) _ (wordAt s (at + 1)) (own-slot s at acc has) (same-refl _) }
+
+  kept-entry : (k : ℕ) → k < length l → same (wordAt s (at + 1)) (nameAt s l k) ≡ false → Entry s (bs ++ (binderIn s at ∷ [])) (getD l k 0)
+  unfolding nameAt
+  kept-entry k p h = let e = env .entries k p in record { stands = e .stands; slot = e .slot; last = other-last bs (binderIn s at) _ (wordAt s (at + 1)) (own-slot s at acc has) h ∙ e .last }
+
+  -- a name that no entry has, nor the new one
+  kept-none : (name : List ℕ) → whole ≡ true → same (wordAt s (at + 1)) name ≡ false → ((k : ℕ) → k < length l → same (nameAt s l k) name ≡ false) → lastNamed name (bs ++ (binderIn s at ∷ [])) ≡ none
+  kept-none name x h n = other-last bs (binderIn s at) name (wordAt s (at + 1)) (own-slot s at acc has) h ∙ env .complete x name n
+
+  replaced-on : (i : ℕ) → i < length l → nameAt s l i ≡ wordAt s (at + 1) → Environment s (bs ++ (binderIn s at ∷ [])) whole (set l i at)
+  replaced-on i h e = record {
+    entries = λ k p. entry k (rw (length-set l i at) at p) (beside i k);
+    sorted = set-sorted s l at i h e (env .sorted);
+    complete = λ x name n.
+        let m : (k : ℕ) → k < length l → same (nameAt s l k) name ≡ false = λ k p. rw (name-set s l at i h e k) at (n k (rw (length-set l i at) p)) in
+        kept-none name x (rw e at (m i h)) m;
+  }
+    where
+      entry : (k : ℕ) → k < length l → Beside i k → Entry s (bs ++ (binderIn s at ∷ [])) (getD (set l i at) k 0)
+      entry k p (before y) = rw (getD-set-other l i k at 0 (λ q. omega arith)) (kept-entry k p (rw (← e) (above-differs _ _ (env .sorted .ascend k i y h))))
+      entry k p (here y) = rw (y, getD-set-same l i at 0 h) own-entry
+      entry k p (behind m y z) = rw (getD-set-other l i k at 0 (λ q. omega arith)) (kept-entry k p (rw (← e) (below-differs _ _ (env .sorted .ascend i k (omega arith) p))))
+
+  module _ (i : ℕ) (h : i ≤ length l) (low : (k : ℕ) → k < i → below (nameAt s l k) (wordAt s (at + 1)) ≡ true) (high : (k : ℕ) → i ≤ k → k < length l → below (wordAt s (at + 1)) (nameAt s l k) ≡ true) where
+    full-on : Environment s (bs ++ (binderIn s at ∷ [])) false l
+    full-on = record { entries = λ k p. kept-entry k p (apart s l at i h low high k p); sorted = env .sorted; complete = λ x. absurd (false≢true x) }
+
+    inserted-on : Environment s (bs ++ (binderIn s at ∷ [])) whole (insertAt i at l)
+    inserted-on = record {
+      entries = λ k p. entry k (rw (insert-length i at l h) at p) (beside i k);
+      sorted = insert-sorted s l at i h low high (env .sorted);
+      complete = λ x name n.
+          let own : same (wordAt s (at + 1)) name ≡ false = rw (name-here s l at i h low high) at (n i (rw (insert-length i at l h) (omega arith))) in
+          kept-none name x own (λ k p. others name n k p (ltb k i) refl);
+    }
+      where
+        entry : (k : ℕ) → k < length l + 1 → Beside i k → Entry s (bs ++ (binderIn s at ∷ [])) (getD (insertAt i at l) k 0)
+        entry k p (before y) = rw (insert-before i at l h k y) (kept-entry k (omega arith) (apart s l at i h low high k (omega arith)))
+        entry k p (here y) = rw (y, insert-here i at l h) own-entry
+        entry k p (behind m y z) = rw (y, insert-behind i at l h m z) (kept-entry m (omega arith) (apart s l at i h low high m (omega arith)))
+
+        others : (name : List ℕ) → ((k : ℕ) → k < length (insertAt i at l) → same (nameAt s (insertAt i at l) k) name ≡ false) → (k : ℕ) → k < length l → (b : Bool) → ltb k i ≡ b → same (nameAt s l k) name ≡ false
+        others name n k p true q = rw (name-before s l at i h low high k (ltb-true k i q)) at (n k (rw (insert-length i at l h) (omega arith)))
+        others name n k p false q = rw (name-behind s l at i h low high k (ltb-false k i q)) at (n (k + 1) (rw (insert-length i at l h) (omega arith)))
+
+-- ---- the same of the table and its state
+
+module _ (s : List ℕ) where
+  pub same-table : (t : List ℕ) (known : Names) → Held s t known → Extended s [] t known t known
+  same-table t known h = record { held = h; size = refl; on = λ bs env. rw (append-nil bs) env }
+
+  pub extended-more : {xs ys : List Binder} {t u v : List ℕ} {a b c : Names} → Extended s xs t a u b → Extended s ys u b v c → Extended s (xs ++ ys) t a v c
+  extended-more {xs} {ys} p q = record { held = q .held; size = q .size ∙ p .size; on = λ bs env. rw (← append-assoc bs xs ys) (q .on (bs ++ xs) (p .on bs env)) }
+
+  module _ (at : ℕ) (acc : isBinder s at ≡ true) (old : List ℕ) (known : Names) (held : Held s old known) where
+    pub unnamed-table : (b : Bool) → b ≡ hasName ((binderIn s at) .slot) → b ≡ false → Extended s (binderIn s at ∷ []) old known old known
+    unnamed-table b e h = record { held = held; size = refl; on = λ bs env. unnamed-on s bs (known .whole) (take (known .count) old) env at (sym e ∙ h) }
+
+    short : length (take (known .count) old) ≡ known .count
+    short = length-take-le (known .count) old (held .within)
+
+    module _ (has : hasName ((binderIn s at) .slot) ≡ true) (p : Spot) (o : SpotOf s (take (known .count) old) (wordAt s (at + 1)) p) where
+      module _ (is : p .found ≡ true) where
+        spot-count : p .at < known .count
+        spot-count = rw short at (o .found is .0)
+
+        pub spot-index : p .at < length old
+        spot-index = omega (arith, spot-count, held .within)
+
+        pub replaced-table : (t : List ℕ) → t ≡ set old (p .at) at → Extended s (binderIn s at ∷ []) old known t known
+        replaced-table t e =
+            let f : take (known .count) t ≡ set (take (known .count) old) (p .at) at = ap (take (known .count)) e ∙ take-set-lt (known .count) old (p .at) at spot-count in
+            let size : length t ≡ length old = ap length e ∙ length-set old (p .at) at in
+            record {
+              held = record { small = held .small; within = rw size (held .within); sorted = rw f (set-sorted s _ at (p .at) (o .found is .0) (o .found is .1) (held .sorted)) };
+              size = size;
+              on = λ bs env. rw f (replaced-on s bs (known .whole) _ env at acc has (p .at) (o .found is .0) (o .found is .1));
+            }
+
+      module _ (is : p .found ≡ false) where
+        pub insert-index : p .at ≤ known .count
+        insert-index = rw short at (o .within)
+
+        pub inserted-table : known .count < length old → (t : List ℕ) → Inserted old (known .count) (p .at) at t → Extended s (binderIn s at ∷ []) old known t (record { count = known .count + 1; whole = known .whole })
+        inserted-table h t e = record {
+          held = record { small = held .small; within = omega (arith, e .size); sorted = rw (e .entries) (insert-sorted s _ at (p .at) (o .within) (o .before) (o .missing is) (held .sorted)) };
+          size = e .size;
+          on = λ bs env. rw (e .entries) (inserted-on s bs (known .whole) _ env at acc has (p .at) (o .within) (o .before) (o .missing is));
+        }
+
+        pub full-table : Extended s (binderIn s at ∷ []) old known old (record { count = known .count; whole = false })
+        full-table = record { held = record { small = held .small; within = held .within; sorted = held .sorted }; size = refl; on = λ bs env. full-on s bs (known .whole) _ env at acc has (p .at) (o .within) (o .before) (o .missing is) }
+
+-- the name as the code has it
+pub spot-there : (s l : List ℕ) (at : ℕ) (w : List ℕ) → w ≡ wordAt s (at + 1) → (p : Spot) → SpotOf s l w p → SpotOf s l (wordAt s (at + 1)) p
+spot-there s l at w e p o = rw e at o
+
+pub named-is : (s : List ℕ) (at : ℕ) (b : Bool) → b ≡ hasName ((binderIn s at) .slot) → b ≡ true → hasName ((binderIn s at) .slot) ≡ true
+named-is s at b e h = sym e ∙ h
+
+pub ruleset spotting = (needs, prefix, spot-there)
+
+pub ruleset declaring-one = (needs, place-small, named-is, unnamed-table, spot-index, replaced-table, insert-index, inserted-table, full-table)
+
+-- ---- a row of binders, of aggregates, of conditions: what is done and what is left make all
+
+pub record Progress (s : List ℕ) (all : List Binder) (old : List ℕ) (before : Names) (left : List Binder) (table : List ℕ) (known : Names) : Type 0 where
+  pub done : List Binder
+  pub whole : done ++ left ≡ all
+  pub so : Extended s done old before table known
+
+module _ (s : List ℕ) (all : List Binder) (t : List ℕ) (a : Names) where
+  nothing-done : Held s t a → Progress s all t a all t a
+  nothing-done h = record { done = []; whole = refl; so = same-table s t a h }
+
+  more-done : (xs ys : List Binder) {u v : List ℕ} {b c : Names} → Progress s all t a (xs ++ ys) u b → Extended s xs u b v c → Progress s all t a ys v c
+  more-done xs ys p q = record { done = p .done ++ xs; whole = append-assoc (p .done) xs ys ∙ p .whole; so = extended-more s (p .so) q }
+
+  all-done : (left : List Binder) {u : List ℕ} {b : Names} → left ≡ [] → Progress s all t a left u b → Extended s all t a u b
+  all-done left e p = let f : p .done ≡ all = sym (append-nil (p .done)) ∙ ap (λ l. p .done ++ l) (sym e) ∙ p .whole in rw (← f) (p .so)
+
+-- binders one after another
+pub record BindersOn (s : List ℕ) (start : ℕ) (old : List ℕ) (before : Names) (n at : ℕ) (table : List ℕ) (known : Names) : Type 0 where
+  pub left : List Binder
+  pub there : Listed binder s left n at
+  pub so : Progress s (bindersIn s start) old before left table known
+
+module _ (s : List ℕ) (start : ℕ) (t : List ℕ) (a : Names) where
+  pub binders-begin : isBinders s start ≡ true → Held s t a → (n : ℕ) → n ≡ getD s start 0 → BindersOn s start t a n (start + 1) t a
+  unfolding bindersIn
+  binders-begin acc h n e = record { left = bindersIn s start; there = rw e (counted-here binder s start acc); so = nothing-done s (bindersIn s start) t a h }
+
+  module _ (n at : ℕ) (u : List ℕ) (b : Names) (inv : BindersOn s start t a n at u b) where
+    pub binders-done : n ≤ 0 → Extended s (bindersIn s start) t a u b
+    binders-done h = all-done s (bindersIn s start) t a (inv .left) (listed-over binder s (inv .left) n at h (inv .there)) (inv .so)
+
+    pub binders-held : Held s u b
+    binders-held = inv .so .so .held
+
+    module _ (h : 0 < n) where
+      pub binder-stands : isBinder s at ≡ true
+      binder-stands = listed-first binder s (record { slot = paramRef; annotation = timepoint }) (inv .left) n at h (inv .there) .stands
+
+      pub binders-next : (v : List ℕ) (c : Names) → Extended s (binderIn s at ∷ []) u b v c → (m : ℕ) → Skipped (binder s at) at m → BindersOn s start t a (n - 1) m v c
+      unfolding binderIn
+      binders-next v c q m z =
+          let f = listed-first binder s (record { slot = paramRef; annotation = timepoint }) (inv .left) n at h (inv .there) in
+          let p = inv .so in
+          record { left = f .others; there = f .on m (sym (z .ends)); so = more-done s (bindersIn s start) t a (binderIn s at ∷ []) (f .others) (rw (f .value) at p) q }
+
+pub ruleset declaring-row = (needs, binders-index, binders-begin, binders-done, binders-held, binder-stands, binders-next)
+
+-- an aggregate
+module _ (s : List ℕ) (at : ℕ) (t : List ℕ) (a : Names) where
+  pub call-table : (k : ℕ) → AggregateOpened s at k → k ≡ 3 → Held s t a → Extended s (declaredBy (aggregateIn s at)) t a t a
+  call-table k o e h = rw (call-declares (aggregateIn s at) (sym (o .kind) ∙ e)) (same-table s t a h)
+
+  pub aggregate-table : (p : ℕ) → BindersHere s at p → (u : List ℕ) (b : Names) → Extended s (bindersIn s p) t a u b → Extended s (declaredBy (aggregateIn s at)) t a u b
+  aggregate-table p h u b q = rw (h .value) q
+
+pub ruleset declaring-aggregate = (needs, call-table, aggregate-table)
+
+-- the aggregates of a comparison's operands
+comparison-declares : (s : List ℕ) (at : ℕ) (r : Several) → OperandsHere s at r → declares (conditionIn s at) ≡ gather declaredBy (aggregatesIn s (r .count) (r .first))
+unfolding declares
+comparison-declares s at r h =
+    ap declares (h .whole)
+    ∙ rw (binders-of-aggregates (h .left), binders-of-aggregates (h .right)) (sym (gather-append declaredBy (operandAggregates (h .left)) (operandAggregates (h .right))))
+    ∙ ap (gather declaredBy) (sym (h .value))
+
+pub record AggregatesOn (s : List ℕ) (all : List Binder) (old : List ℕ) (before : Names) (rest : Several) (table : List ℕ) (known : Names) : Type 0 where
+  pub stands : isTerms s (rest .count) (rest .first) ≡ true
+  pub so : Progress s all old before (gather declaredBy (aggregatesIn s (rest .count) (rest .first))) table known
+
+module _ (s : List ℕ) where
+  pub operands-begin : (at : ℕ) (r : Several) → OperandsHere s at r → (t : List ℕ) (a : Names) → Held s t a → AggregatesOn s (declares (conditionIn s at)) t a r t a
+  operands-begin at r h t a k = record { stands = h .stands; so = rw (comparison-declares s at r h) (nothing-done s _ t a k) }
+
+  module _ (all : List Binder) (t : List ℕ) (a : Names) (r : Several) (u : List ℕ) (b : Names) (inv : AggregatesOn s all t a r u b) where
+    pub operands-held : Held s u b
+    operands-held = inv .so .so .held
+
+    module _ (x : NextAggregate) (y : NextIs s (aggregatesIn s (r .count) (r .first)) x) where
+      pub operands-done : x ≡ Done → Extended s all t a u b
+      unfolding gather
+      operands-done e = all-done s all t a _ (ap (gather declaredBy) (rw e at y)) (inv .so)
+
+      module _ (p : ℕ) (rest : Several) (e : x ≡ At p rest) where
+        opened : AggregateNext s (aggregatesIn s (r .count) (r .first)) p rest
+        opened = rw e at y
+
+        pub aggregate-there : isAggregate s p ≡ true
+        aggregate-there = opened .stands
+
+        pub fewer-left : length (aggregatesIn s (rest .count) (rest .first)) < length (aggregatesIn s (r .count) (r .first))
+        fewer-left = rw (opened .value) (omega arith)
+
+        pub operands-next : (v : List ℕ) (c : Names) → Extended s (declaredBy (aggregateIn s p)) u b v c → AggregatesOn s all t a rest v c
+        unfolding gather
+        operands-next v c q =
+            let i = inv .so in
+            record { stands = opened .others; so = more-done s all t a (declaredBy (aggregateIn s p)) _ (rw (opened .value) at i) q }
+
+pub ruleset declaring-operands = (needs, operands-begin, operands-held, operands-done, aggregate-there, fewer-left, operands-next)
+
+-- a reached condition
+module _ (s : List ℕ) (at : ℕ) (t : List ℕ) (a : Names) where
+  pub exists-table : (p : ℕ) → ExistsHere s at p → (u : List ℕ) (b : Names) → Extended s (binderIn s p ∷ []) t a u b → Extended s (declares (conditionIn s at)) t a u b
+  exists-table p h u b q = rw (h .value) q
+
+  pub other-table : (k : ℕ) → Opened s at k → (k ≡ 9 → ⊥) → (k ≡ 8 → ⊥) → Held s t a → Extended s (declares (conditionIn s at)) t a t a
+  other-table k o h i held = rw (declares-none (conditionIn s at) (λ e. h (o .kind ∙ e)) (λ e. i (o .kind ∙ e))) (same-table s t a held)
+
+pub ruleset declaring-node = (needs, exists-table, other-table)
+
+-- all of them
+pub record NodesOn (s : List ℕ) (old : List ℕ) (before : Names) (i : ℕ) (table : List ℕ) (known : Names) : Type 0 where
+  pub so : Progress s (binders (recordIn s)) old before (gather declares (drop i (nodesOf s))) table known
+
+module _ (s t : List ℕ) (a : Names) where
+  pub nodes-begin : Held s t a → NodesOn s t a 0 t a
+  unfolding binders
+  nodes-begin h = record { so = nothing-done s _ t a h }
+
+  module _ (i : ℕ) (u : List ℕ) (b : Names) (inv : NodesOn s t a i u b) where
+    pub nodes-held : Held s u b
+    nodes-held = inv .so .so .held
+
+    pub nodes-done : (places : List ℕ) → Index s places → length places ≤ i → Extended s (binders (recordIn s)) t a u b
+    unfolding gather
+    nodes-done places h k =
+        let over : length (nodesOf s) ≤ i = omega (arith, h .size) in
+        all-done s _ t a _ (ap (gather declares) (drop-of-length-le (nodesOf s) over)) (inv .so)
+
+    pub nodes-next : (at : ℕ) → Reached s i at → (v : List ℕ) (c : Names) → Extended s (declares (conditionIn s at)) u b v c → NodesOn s t a (i + 1) v c
+    unfolding gather
+    nodes-next at h v c q =
+        let p = inv .so in
+        record { so = more-done s (binders (recordIn s)) t a (declares (conditionIn s at)) _ (rw (h .rest) at p) q }
+
+pub ruleset declaring-nodes = (needs, nodes-begin, nodes-held, nodes-done, nodes-next)
+
+-- ---- from no binder on
+
+module _ (s t : List ℕ) where
+  pub held-none : length s ≤ 65536 → Held s t (record { count = 0; whole = true })
+  held-none h = record { small = h; within = omega arith; sorted = record { ascend = λ i j k l. absurd (omega arith) } }
+
+  pub environment-is : (bs : List Binder) (u : List ℕ) (r : Names) → Extended s bs t (record { count = 0; whole = true }) u r → Environment s bs (r .whole) (take (r .count) u)
+  unfolding lastNamed
+  environment-is bs u r q = q .on [] (record { entries = λ i h. absurd (omega arith); sorted = record { ascend = λ i j k l. absurd (omega arith) }; complete = λ _ _ _. refl })
+
+  pub environment-none : (bs : List Binder) → Environment s bs false (take 0 t)
+  environment-none bs = record { entries = λ i h. absurd (omega arith); sorted = record { ascend = λ i j k l. absurd (omega arith) }; complete = λ x. absurd (false≢true x) }
+
+pub ruleset beginning = (needs, held-none, environment-is, environment-none)
+
+-- ---- the search for a name
+
+module _ (s table name : List ℕ) (bs : List Binder) (whole : Bool) (env : Environment s bs whole table) (p : Spot) (o : SpotOf s table name p) where
+  module _ (is : p .found ≡ true) where
+    pub found-index : p .at < length table
+    found-index = o .found is .0
+
+    module _ (q : ℕ) (e : q ≡ getD table (p .at) 0) where
+      found : Entry s bs q
+      found = rw e (env .entries (p .at) found-index)
+
+      found-name : wordAt s (q + 1) ≡ name
+      unfolding nameAt
+      found-name = ap (λ m. wordAt s (m + 1)) e ∙ o .found is .1
+
+      pub found-slot : isSlot s q ≡ true
+      found-slot = binder-slot s q (found .stands)
+
+      module _ (m : ℕ) (z : Skipped (slot s q) q m) where
+        pub found-annotation : isAnnotation s m ≡ true
+        found-annotation = binder-annotation s q (found .stands) m z
+
+        pub found-says : (r : Bound) → Says s (some (annotationIn s m)) r → Says s (lastNamed name bs) r
+        found-says r y =
+            let f : lastNamed name bs ≡ some (annotationIn s m) = ap (λ w. lastNamed w bs) (sym found-name) ∙ found .last ∙ ap some (annotation-is s q (found .stands) m z) in
+            rw f y
+
+  pub none-says : p .found ≡ false → whole ≡ true → Says s (lastNamed name bs) Nothing
+  none-says is all = rw (env .complete all name (λ i h. differ i h (ltb i (p .at)) refl)) (says-nothing s)
+    where
+      differ : (i : ℕ) → i < length table → (b : Bool) → ltb i (p .at) ≡ b → same (nameAt s table i) name ≡ false
+      differ i h true e = below-differs _ _ (o .before i (ltb-true i (p .at) e))
+      differ i h false e = above-differs _ _ (o .missing is i (ltb-false i (p .at) e) h)
+
+pub ruleset finding = (needs, found-index, found-slot, found-annotation, found-says, none-says)
