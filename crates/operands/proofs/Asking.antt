@@ -1,6 +1,6 @@
 -- The operand of the comparison at a condition's root, its target and the records that are read before. Assumes nothing.
 use mathlib.Core.Path.{_≡_, refl, sym, ap, _∙_}
-use mathlib.Core.Bool.{true}
+use mathlib.Core.Bool.{Bool, true}
 use mathlib.Core.List.{List}
 use mathlib.Core.Option.{Option, none, some}
 use Prim.Native.Nat.{ℕ}
@@ -26,6 +26,8 @@ use Rattle.condition.specs.Places.{isRecord, recordIn, isCondition, conditionIn
 use Rattle.condition.specs.Open.{Opened}
 use Rattle.condition.specs.Parts.{ComparisonHere}
 use Rattle.condition.specs.Index.{Index}
+use Rattle.condition.specs.Walk.{binders}
+use Rattle.condition.specs.Environment.{Environment}
 use Rattle.condition.specs.declared.ComparisonAt.{ComparisonAt}
 use Rattle.condition.proofs.ByPlace.{record-starts, record-value}
 use Rattle.resolution.specs.Places.{typedOf}
@@ -54,7 +56,7 @@ no-operand which (exists span b c) h = refl
 no-operand which (tp span s) h = refl
 no-operand which (opaque span) h = refl
 
-module _ (s c n places : List ℕ) (f : Facts) (known : Known s c places f) where
+module _ (s c n places env : List ℕ) (f : Facts) (known : Known s c places env f) where
   pub root-stands : isCondition c 5 ≡ true
   root-stands = record-starts c (known .condition)
 
@@ -94,13 +96,13 @@ pub ruleset comparing = (needs, root-stands, no-comparison, a-comparison, operan
 
 -- ---- the facts of a target
 
-module _ (s c n : List ℕ) (read : Records s c n) (found : Found) (stands : foundStands (isAction s) found ≡ true) (f : Facts) (k : FactsOf n found f) where
-  pub facts-known : (places : List ℕ) → Index c places → Known s c places f
-  facts-known places x = record { schema = read .schema; condition = read .condition; index = x; action = rw (k .action) stands }
+module _ (s c n : List ℕ) (read : Records s c n) (found : Found) (stands : foundStands (isAction s) found ≡ true) (all : Bool) (f : Facts) (k : FactsOf n found all f) where
+  pub facts-known : (places env : List ℕ) → Index c places → Environment c (binders (recordIn c)) all env → Known s c places env f
+  facts-known places env x e = record { schema = read .schema; condition = read .condition; index = x; named = rw (k .named) e; action = rw (k .action) stands }
 
   pub facts-answered : (which : Operand) (b : List ℕ) (a : Answer) (t : List ℕ) → outcomeOf a t ≡ answered which (factsIn s c n f) b
       → outcomeOf a t ≡ answered which (factsOf (schemaIn s) (recordIn c) (targetsIn n .scope) (foundIn (actionIn s) found)) b
-  facts-answered which b a t i = rw (facts-mean s c n found f k) at i
+  facts-answered which b a t i = rw (facts-mean s c n found all f k) at i
 
 pub ruleset by-action = (needs, length-take-le, facts-known, facts-answered)
 

@@ -12,6 +12,7 @@ ghost use mathlib.Core.Bool.{true};
 ghost use Rattle.schema.specs.Places.{schemaIn, isAction, actionIn, foundIn, foundStands};
 ghost use Rattle.targets.specs.Places.{targetsIn, isTarget, targetIn};
 ghost use Rattle.condition.specs.Places.{recordIn};
+ghost use Rattle.condition.specs.Index.{Index};
 ghost use Rattle.terms.specs.Terms.{factsOf};
 ghost use Rattle.terms.specs.Facts.{factsIn, Known};
 ghost use Rattle.operands.specs.Operands.{answered, underTarget, atPosition, operandType};
@@ -36,20 +37,52 @@ fn under_facts<'a>(
     condition: &'a [u8],
     targets: &[u8],
     places: &[u16],
+    env: &[u16],
     facts: Facts,
     which: Operand,
     out: &mut [u8],
 ) -> Answer
-    requires { ⌜ Known (now schema) (now condition) (now places) facts ⌝ }
+    requires { ⌜ Known (now schema) (now condition) (now places) (now env) facts ⌝ }
     ensures { λ r. ⌜ outcomeOf r (now (out .exit)) ≡ answered which (factsIn (now (schema .entry)) (now (condition .entry)) (now (targets .entry)) facts) (now (out .entry)) ⌝ }
 {
     if condition::kind_at(condition, ROOT) == 8 {
         let parts = condition::comparison_at(condition, ROOT);
         let at = place_of(parts, which);
-        let typed = terms::term_type(schema, condition, targets, places, facts, at);
+        let typed = terms::term_type(schema, condition, targets, places, env, facts, at);
         return show_type(schema, condition, typed, out);
     }
     Answer::NoComparison
+}
+
+// The operand over the reached nodes: the binders are put into a table by name.
+fn over_places<'a>(
+    schema: &'a [u8],
+    condition: &'a [u8],
+    targets: &[u8],
+    places: &[u16],
+    own: Found,
+    which: Operand,
+    out: &mut [u8],
+) -> Answer
+    requires { ⌜ Records (now schema) (now condition) (now targets) ⌝ }
+    requires { ⌜ Index (now condition) (now places) ⌝ }
+    requires { ⌜ foundStands (isAction (now schema)) own ≡ true ⌝ }
+    ensures { λ r. ⌜ outcomeOf r (now (out .exit)) ≡ answered which (factsOf (schemaIn (now (schema .entry))) (recordIn (now (condition .entry))) (targetsIn (now (targets .entry)) .scope) (foundIn (actionIn (now (schema .entry))) own)) (now (out .entry)) ⌝ }
+{
+    let mut table = [0u16; 6560];
+    let known = condition::environment(condition, places, &mut table);
+    let k = known.count;
+    let facts = terms::facts_of(targets, own, known.whole);
+    under_facts(
+        schema,
+        condition,
+        targets,
+        places,
+        &table[..k],
+        facts,
+        which,
+        out,
+    )
 }
 
 // The operand under a target whose action was looked up: the condition is indexed for its binders.
@@ -65,10 +98,9 @@ fn under_action<'a>(
     requires { ⌜ foundStands (isAction (now schema)) own ≡ true ⌝ }
     ensures { λ r. ⌜ outcomeOf r (now (out .exit)) ≡ answered which (factsOf (schemaIn (now (schema .entry))) (recordIn (now (condition .entry))) (targetsIn (now (targets .entry)) .scope) (foundIn (actionIn (now (schema .entry))) own)) (now (out .entry)) ⌝ }
 {
-    let facts = terms::facts_of(targets, own);
     let mut table = [0u16; 3641];
     let k = condition::index_record(condition, &mut table);
-    under_facts(schema, condition, targets, &table[..k], facts, which, out)
+    over_places(schema, condition, targets, &table[..k], own, which, out)
 }
 
 // The operand under the target at `at`.

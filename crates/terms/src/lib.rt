@@ -13,11 +13,13 @@ use targets::Narrowed;
 pub use term::term_type;
 use types::Rich;
 
-// What a condition is checked under, beside the bytes: where the target's action stands, if it is declared, and what the scope says of each side.
+// What a condition is checked under, beside the bytes: where the target's action stands, if it is declared, what the scope says of each side, and whether the
+// table of binders has all names.
 pub struct Facts {
     pub action: Found,
     pub principal: Narrowed,
     pub resource: Narrowed,
+    pub complete: bool,
 }
 
 // A term's type, and the place behind the term.

@@ -6,10 +6,10 @@ ghost use mathlib.Core.Bool.{true};
 ghost use Rattle.targets.specs.Places.{areTargets};
 ghost use Rattle.terms.specs.Facts.{FactsOf};
 
-// The facts of a target whose action was looked up: the scope is the target record's.
-pub fn facts_of(targets: &[u8], action: Found) -> Facts
+// The facts of a target whose action was looked up: the scope is the target record's. `complete` says whether the table of binders has all names.
+pub fn facts_of(targets: &[u8], action: Found, complete: bool) -> Facts
     requires { ⌜ areTargets (now targets) ≡ true ⌝ }
-    ensures { λ r. ⌜ FactsOf (now (targets .entry)) action r ⌝ }
+    ensures { λ r. ⌜ FactsOf (now (targets .entry)) action complete r ⌝ }
 {
     let principal = targets::principal(targets);
     let resource = targets::resource(targets);
@@ -17,5 +17,6 @@ pub fn facts_of(targets: &[u8], action: Found) -> Facts
         action,
         principal,
         resource,
+        complete,
     }
 }

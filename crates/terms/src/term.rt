@@ -78,10 +78,11 @@ pub fn term_type<'a>(
     condition: &'a [u8],
     targets: &[u8],
     places: &[u16],
+    env: &[u16],
     facts: Facts,
     at: usize,
 ) -> Typed
-    requires { ⌜ Known (now schema) (now condition) (now places) facts ⌝ }
+    requires { ⌜ Known (now schema) (now condition) (now places) (now env) facts ⌝ }
     requires { ⌜ isTerm (now condition) at ≡ true ⌝ }
     ensures { λ r. ⌜ TypeOf (now (schema .entry)) (now (condition .entry)) (termType (some (factsIn (now (schema .entry)) (now (condition .entry)) (now (targets .entry)) facts)) (termIn (now (condition .entry)) at)) r ⌝ }
 {
@@ -100,6 +101,7 @@ pub fn term_type<'a>(
             schema,
             condition,
             places,
+            env,
             facts,
             names::word(condition, name),
         );

@@ -204,14 +204,13 @@ ordering-is notEq = refl
 
 module _ (f : Facts) (c : List ℕ) (at : ℕ) (now : Sink) where
   pub comparison-done : (r : Ends) → Spans (spanOf (conditionIn c at)) r → (p : ComparisonAt) → ComparisonHere c at p → (ordered : Bool) → ordered ≡ ltb (p .operator) 4
-      → {mid next : Sink} → mid ≡ pushAll now (arithmeticBreaches f (record { start = r .start; end = r .end }) (termIn c (p .left)) ++ arithmeticBreaches f (record { start = r .start; end = r .end }) (termIn c (p .right)))
-      → next ≡ pushAll mid (both (termType (some f) (termIn c (p .left))) (termType (some f) (termIn c (p .right))) (operandsBy ordered (record { start = r .start; end = r .end })))
+      → {next : Sink} → next ≡ pushAll now ((arithmeticBreaches f (record { start = r .start; end = r .end }) (termIn c (p .left)) ++ arithmeticBreaches f (record { start = r .start; end = r .end }) (termIn c (p .right))) ++ both (termType (some f) (termIn c (p .left))) (termType (some f) (termIn c (p .right))) (operandsBy ordered (record { start = r .start; end = r .end })))
       → next ≡ pushAll now (nodeBreaches f (conditionIn c at))
   unfolding nodeBreaches
-  comparison-done r span p h ordered o {mid} {next} e g =
+  comparison-done r span p h ordered o g =
       let here : record { start = r .start; end = r .end } ≡ spanOf (conditionIn c at) = span-is span in
       let by : ordered ≡ ordering (h .op) = o ∙ ap (λ (n : ℕ). ltb n 4) (h .number) ∙ sym (ordering-is (h .op)) in
-      rw (h .value, ← here, ← by) (sinks.then now _ _ e g)
+      rw (h .value, ← here, ← by) g
 
   pub tp-done : (r : Ends) → Spans (spanOf (conditionIn c at)) r → (p : ℕ) → TimepointHere c at p
       → {next : Sink} → next ≡ pushAll now (timepointBreaches f (record { start = r .start; end = r .end }) (slotIn c p)) → next ≡ pushAll now (nodeBreaches f (conditionIn c at))
@@ -277,7 +276,7 @@ pub ruleset operand-types = (needs, operands-typed)
 
 pub ruleset in-turn = (needs, both-calls, sound-after)
 
-pub ruleset comparisons = (needs, comparison-done, sound-after)
+pub ruleset comparisons = (needs, comparison-done)
 
 pub ruleset nodes = (needs, node-kind, node-quiet)
 

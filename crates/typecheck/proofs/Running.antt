@@ -24,8 +24,9 @@ use Rattle.targets.specs.Targets.{Scope, Target, Targets, target, targetRecord}
 use Rattle.targets.specs.Places.{areTargets, targetsIn, isTarget, targetIn}
 use Rattle.condition.specs.Condition.{Condition, conditionRecord}
 use Rattle.condition.specs.Places.{isRecord, recordIn, conditionIn}
-use Rattle.condition.specs.Walk.{reached}
+use Rattle.condition.specs.Walk.{reached, binders}
 use Rattle.condition.specs.Index.{nodesOf, Index, Reached}
+use Rattle.condition.specs.Environment.{Environment}
 use Rattle.resolution.specs.Resolution.{admitsAnyEnv}
 use Rattle.reports.specs.Reports.{Breach}
 use Rattle.reports.specs.declared.State.{State}
@@ -63,13 +64,13 @@ pub ruleset each-node = (needs, nodes-begin, nodes-turn, nodes-over)
 
 -- ---- under a target
 
-module _ (s c n places : List ℕ) (found : Found) (f : Facts) (k : FactsOf n found f) where
-  pub facts-known : Ready s c n places → foundStands (isAction s) found ≡ true → Known s c places f
-  facts-known r h = record { schema = r .schema; condition = r .condition; index = r .index; action = rw (k .action) h }
+module _ (s c n places env : List ℕ) (found : Found) (all : Bool) (f : Facts) (k : FactsOf n found all f) where
+  pub facts-known : Ready s c n places env all → foundStands (isAction s) found ≡ true → Known s c places env f
+  facts-known r h = record { schema = r .schema; condition = r .condition; index = r .index; named = rw (k .named) (r .named); action = rw (k .action) h }
 
   pub under-facts : (now : Sink) {next : Sink} → next ≡ pushAll now (gather (nodeBreaches (factsIn s c n f)) (nodesOf c))
       → next ≡ pushAll now (gather (nodeBreaches (factsOf (schemaIn s) (recordIn c) (targetsIn n .scope) (foundIn (actionIn s) found))) (nodesOf c))
-  under-facts now g = rw (facts-mean s c n found f k) at g
+  under-facts now g = rw (facts-mean s c n found all f k) at g
 
 pub ruleset by-action = (needs, facts-known, under-facts)
 
@@ -140,8 +141,8 @@ pub all-checked : (s : Schema) (c : Condition) (ts : Targets) (b : List ℕ) {t 
 unfolding checked
 all-checked s c ts b e a = pushed b (gather (breachesUnder s c (ts .scope)) (ts .list)) e a
 
-pub all-ready : (s c n places : List ℕ) → isSchema s ≡ true → isRecord c ≡ true → areTargets n ≡ true → Index c places → Ready s c n places
-all-ready s c n places a b d x = record { schema = a; condition = b; targets = d; index = x }
+pub all-ready : (s c n places env : List ℕ) (all : Bool) → isSchema s ≡ true → isRecord c ≡ true → areTargets n ≡ true → Index c places → Environment c (binders (recordIn c)) all env → Ready s c n places env all
+all-ready s c n places env all a b d x e = record { schema = a; condition = b; targets = d; index = x; named = e }
 
 pub ruleset indexed = (needs, length-take-le, sound-start, all-ready, all-checked)
 

@@ -34,12 +34,13 @@ fn one_leaf<'a>(
     condition: &'a [u8],
     targets: &[u8],
     places: &[u16],
+    env: &[u16],
     facts: Facts,
     at: usize,
     kind: u8,
 ) -> State
     requires { ⌜ Sound (sink (now buf) state) ⌝ }
-    requires { ⌜ Known (now schema) (now condition) (now places) facts ⌝ }
+    requires { ⌜ Known (now schema) (now condition) (now places) (now env) facts ⌝ }
     requires { ⌜ isTerm (now condition) at ≡ true ⌝ }
     requires { ⌜ TermOpened (now condition) at kind ⌝ }
     requires { ⌜ (kind ≡ 12 → ⊥) ⌝ }
@@ -54,7 +55,7 @@ fn one_leaf<'a>(
     if kind == 13 {
         return state;
     }
-    let typed = terms::term_type(schema, condition, targets, places, facts, at);
+    let typed = terms::term_type(schema, condition, targets, places, env, facts, at);
     not_long_here(buf, state, start, end, schema, condition, typed)
 }
 
@@ -68,11 +69,12 @@ fn leaf_breaches<'a>(
     condition: &'a [u8],
     targets: &[u8],
     places: &[u16],
+    env: &[u16],
     facts: Facts,
     at: usize,
 ) -> State
     requires { ⌜ Sound (sink (now buf) state) ⌝ }
-    requires { ⌜ Known (now schema) (now condition) (now places) facts ⌝ }
+    requires { ⌜ Known (now schema) (now condition) (now places) (now env) facts ⌝ }
     requires { ⌜ isTerm (now condition) at ≡ true ⌝ }
     ensures { λ after. ⌜ sink (now (buf .exit)) after ≡ pushAll (sink (now (buf .entry)) state) (leafBreaches (factsIn (now (schema .entry)) (now (condition .entry)) (now (targets .entry)) facts) (record { start = start; end = end }) (termIn (now (condition .entry)) at)) ⌝ }
 {
@@ -90,6 +92,7 @@ fn leaf_breaches<'a>(
             condition,
             targets,
             places,
+            env,
             facts,
             left,
         );
@@ -102,6 +105,7 @@ fn leaf_breaches<'a>(
             condition,
             targets,
             places,
+            env,
             facts,
             right,
         );
@@ -115,6 +119,7 @@ fn leaf_breaches<'a>(
         condition,
         targets,
         places,
+        env,
         facts,
         at,
         kind,
@@ -131,11 +136,12 @@ fn arithmetic_breaches<'a>(
     condition: &'a [u8],
     targets: &[u8],
     places: &[u16],
+    env: &[u16],
     facts: Facts,
     at: usize,
 ) -> State
     requires { ⌜ Sound (sink (now buf) state) ⌝ }
-    requires { ⌜ Known (now schema) (now condition) (now places) facts ⌝ }
+    requires { ⌜ Known (now schema) (now condition) (now places) (now env) facts ⌝ }
     requires { ⌜ isTerm (now condition) at ≡ true ⌝ }
     ensures { λ after. ⌜ sink (now (buf .exit)) after ≡ pushAll (sink (now (buf .entry)) state) (arithmeticBreaches (factsIn (now (schema .entry)) (now (condition .entry)) (now (targets .entry)) facts) (record { start = start; end = end }) (termIn (now (condition .entry)) at)) ⌝ }
 {
@@ -149,6 +155,7 @@ fn arithmetic_breaches<'a>(
             condition,
             targets,
             places,
+            env,
             facts,
             at,
         );
@@ -167,18 +174,19 @@ fn operand_breaches<'a>(
     condition: &'a [u8],
     targets: &[u8],
     places: &[u16],
+    env: &[u16],
     facts: Facts,
     left: usize,
     right: usize,
 ) -> State
     requires { ⌜ Sound (sink (now buf) state) ⌝ }
-    requires { ⌜ Known (now schema) (now condition) (now places) facts ⌝ }
+    requires { ⌜ Known (now schema) (now condition) (now places) (now env) facts ⌝ }
     requires { ⌜ isTerm (now condition) left ≡ true ⌝ }
     requires { ⌜ isTerm (now condition) right ≡ true ⌝ }
     ensures { λ after. ⌜ sink (now (buf .exit)) after ≡ pushAll (sink (now (buf .entry)) state) (both (termType (some (factsIn (now (schema .entry)) (now (condition .entry)) (now (targets .entry)) facts)) (termIn (now (condition .entry)) left)) (termType (some (factsIn (now (schema .entry)) (now (condition .entry)) (now (targets .entry)) facts)) (termIn (now (condition .entry)) right)) (operandsBy ordering (record { start = start; end = end }))) ⌝ }
 {
-    let l = terms::term_type(schema, condition, targets, places, facts, left);
-    let r = terms::term_type(schema, condition, targets, places, facts, right);
+    let l = terms::term_type(schema, condition, targets, places, env, facts, left);
+    let r = terms::term_type(schema, condition, targets, places, env, facts, right);
     operands(buf, state, start, end, ordering, schema, condition, l, r)
 }
 
@@ -192,12 +200,13 @@ fn both_arithmetic<'a>(
     condition: &'a [u8],
     targets: &[u8],
     places: &[u16],
+    env: &[u16],
     facts: Facts,
     left: usize,
     right: usize,
 ) -> State
     requires { ⌜ Sound (sink (now buf) state) ⌝ }
-    requires { ⌜ Known (now schema) (now condition) (now places) facts ⌝ }
+    requires { ⌜ Known (now schema) (now condition) (now places) (now env) facts ⌝ }
     requires { ⌜ isTerm (now condition) left ≡ true ⌝ }
     requires { ⌜ isTerm (now condition) right ≡ true ⌝ }
     ensures { λ after. ⌜ sink (now (buf .exit)) after ≡ pushAll (sink (now (buf .entry)) state) (arithmeticBreaches (factsIn (now (schema .entry)) (now (condition .entry)) (now (targets .entry)) facts) (record { start = start; end = end }) (termIn (now (condition .entry)) left) ++ arithmeticBreaches (factsIn (now (schema .entry)) (now (condition .entry)) (now (targets .entry)) facts) (record { start = start; end = end }) (termIn (now (condition .entry)) right)) ⌝ }
@@ -211,6 +220,7 @@ fn both_arithmetic<'a>(
         condition,
         targets,
         places,
+        env,
         facts,
         left,
     );
@@ -223,35 +233,34 @@ fn both_arithmetic<'a>(
         condition,
         targets,
         places,
+        env,
         facts,
         right,
     )
 }
 
-// A comparison: arithmetic first, then the two types.
-fn comparison<'a>(
+// Two operands: arithmetic first, then their types.
+fn compared<'a>(
     buf: &mut [u8],
     state: State,
+    start: u32,
+    end: u32,
+    ordering: bool,
     schema: &'a [u8],
     condition: &'a [u8],
     targets: &[u8],
     places: &[u16],
+    env: &[u16],
     facts: Facts,
-    at: usize,
+    left: usize,
+    right: usize,
 ) -> State
     requires { ⌜ Sound (sink (now buf) state) ⌝ }
-    requires { ⌜ Known (now schema) (now condition) (now places) facts ⌝ }
-    requires { ⌜ isCondition (now condition) at ≡ true ⌝ }
-    requires { ⌜ kindOf (conditionIn (now condition) at) ≡ 8 ⌝ }
-    ensures { λ after. ⌜ sink (now (buf .exit)) after ≡ pushAll (sink (now (buf .entry)) state) (nodeBreaches (factsIn (now (schema .entry)) (now (condition .entry)) (now (targets .entry)) facts) (conditionIn (now (condition .entry)) at)) ⌝ }
+    requires { ⌜ Known (now schema) (now condition) (now places) (now env) facts ⌝ }
+    requires { ⌜ isTerm (now condition) left ≡ true ⌝ }
+    requires { ⌜ isTerm (now condition) right ≡ true ⌝ }
+    ensures { λ after. ⌜ sink (now (buf .exit)) after ≡ pushAll (sink (now (buf .entry)) state) ((arithmeticBreaches (factsIn (now (schema .entry)) (now (condition .entry)) (now (targets .entry)) facts) (record { start = start; end = end }) (termIn (now (condition .entry)) left) ++ arithmeticBreaches (factsIn (now (schema .entry)) (now (condition .entry)) (now (targets .entry)) facts) (record { start = start; end = end }) (termIn (now (condition .entry)) right)) ++ both (termType (some (factsIn (now (schema .entry)) (now (condition .entry)) (now (targets .entry)) facts)) (termIn (now (condition .entry)) left)) (termType (some (factsIn (now (schema .entry)) (now (condition .entry)) (now (targets .entry)) facts)) (termIn (now (condition .entry)) right)) (operandsBy ordering (record { start = start; end = end }))) ⌝ }
 {
-    let span = condition::span_at(condition, at);
-    let start = span.start;
-    let end = span.end;
-    let parts = condition::comparison_at(condition, at);
-    let left = parts.left;
-    let right = parts.right;
-    let ordering = parts.operator < 4;
     let after = both_arithmetic(
         buf,
         state,
@@ -261,6 +270,7 @@ fn comparison<'a>(
         condition,
         targets,
         places,
+        env,
         facts,
         left,
         right,
@@ -275,6 +285,49 @@ fn comparison<'a>(
         condition,
         targets,
         places,
+        env,
+        facts,
+        left,
+        right,
+    )
+}
+
+// A comparison: its operands stand behind its operator, and the four that order come first.
+fn comparison<'a>(
+    buf: &mut [u8],
+    state: State,
+    schema: &'a [u8],
+    condition: &'a [u8],
+    targets: &[u8],
+    places: &[u16],
+    env: &[u16],
+    facts: Facts,
+    at: usize,
+) -> State
+    requires { ⌜ Sound (sink (now buf) state) ⌝ }
+    requires { ⌜ Known (now schema) (now condition) (now places) (now env) facts ⌝ }
+    requires { ⌜ isCondition (now condition) at ≡ true ⌝ }
+    requires { ⌜ kindOf (conditionIn (now condition) at) ≡ 8 ⌝ }
+    ensures { λ after. ⌜ sink (now (buf .exit)) after ≡ pushAll (sink (now (buf .entry)) state) (nodeBreaches (factsIn (now (schema .entry)) (now (condition .entry)) (now (targets .entry)) facts) (conditionIn (now (condition .entry)) at)) ⌝ }
+{
+    let span = condition::span_at(condition, at);
+    let start = span.start;
+    let end = span.end;
+    let parts = condition::comparison_at(condition, at);
+    let left = parts.left;
+    let right = parts.right;
+    let ordering = parts.operator < 4;
+    compared(
+        buf,
+        state,
+        start,
+        end,
+        ordering,
+        schema,
+        condition,
+        targets,
+        places,
+        env,
         facts,
         left,
         right,
@@ -304,11 +357,12 @@ fn timepoint_breaches<'a>(
     condition: &'a [u8],
     targets: &[u8],
     places: &[u16],
+    env: &[u16],
     facts: Facts,
     at: usize,
 ) -> State
     requires { ⌜ Sound (sink (now buf) state) ⌝ }
-    requires { ⌜ Known (now schema) (now condition) (now places) facts ⌝ }
+    requires { ⌜ Known (now schema) (now condition) (now places) (now env) facts ⌝ }
     requires { ⌜ isSlot (now condition) at ≡ true ⌝ }
     ensures { λ after. ⌜ sink (now (buf .exit)) after ≡ pushAll (sink (now (buf .entry)) state) (timepointBreaches (factsIn (now (schema .entry)) (now (condition .entry)) (now (targets .entry)) facts) (record { start = start; end = end }) (slotIn (now (condition .entry)) at)) ⌝ }
 {
@@ -317,7 +371,7 @@ fn timepoint_breaches<'a>(
         return state;
     };
     let name = short_word(condition, p);
-    let typed = terms::var_type(schema, condition, places, facts, name);
+    let typed = terms::var_type(schema, condition, places, env, facts, name);
     timepoint(buf, state, start, end, name, schema, condition, typed)
 }
 
@@ -329,11 +383,12 @@ fn tp<'a>(
     condition: &'a [u8],
     targets: &[u8],
     places: &[u16],
+    env: &[u16],
     facts: Facts,
     at: usize,
 ) -> State
     requires { ⌜ Sound (sink (now buf) state) ⌝ }
-    requires { ⌜ Known (now schema) (now condition) (now places) facts ⌝ }
+    requires { ⌜ Known (now schema) (now condition) (now places) (now env) facts ⌝ }
     requires { ⌜ isCondition (now condition) at ≡ true ⌝ }
     requires { ⌜ kindOf (conditionIn (now condition) at) ≡ 10 ⌝ }
     ensures { λ after. ⌜ sink (now (buf .exit)) after ≡ pushAll (sink (now (buf .entry)) state) (nodeBreaches (factsIn (now (schema .entry)) (now (condition .entry)) (now (targets .entry)) facts) (conditionIn (now (condition .entry)) at)) ⌝ }
@@ -349,6 +404,7 @@ fn tp<'a>(
         condition,
         targets,
         places,
+        env,
         facts,
         slot,
     )
@@ -362,23 +418,54 @@ pub fn node<'a>(
     condition: &'a [u8],
     targets: &[u8],
     places: &[u16],
+    env: &[u16],
     facts: Facts,
     at: usize,
 ) -> State
     requires { ⌜ Sound (sink (now buf) state) ⌝ }
-    requires { ⌜ Known (now schema) (now condition) (now places) facts ⌝ }
+    requires { ⌜ Known (now schema) (now condition) (now places) (now env) facts ⌝ }
     requires { ⌜ isCondition (now condition) at ≡ true ⌝ }
     ensures { λ after. ⌜ sink (now (buf .exit)) after ≡ pushAll (sink (now (buf .entry)) state) (nodeBreaches (factsIn (now (schema .entry)) (now (condition .entry)) (now (targets .entry)) facts) (conditionIn (now (condition .entry)) at)) ⌝ }
 {
     let kind = condition::kind_at(condition, at);
     if kind == 7 {
-        return predicate(buf, state, schema, condition, targets, places, facts, at);
+        return predicate(
+            buf,
+            state,
+            schema,
+            condition,
+            targets,
+            places,
+            env,
+            facts,
+            at,
+        );
     }
     if kind == 8 {
-        return comparison(buf, state, schema, condition, targets, places, facts, at);
+        return comparison(
+            buf,
+            state,
+            schema,
+            condition,
+            targets,
+            places,
+            env,
+            facts,
+            at,
+        );
     }
     if kind == 10 {
-        return tp(buf, state, schema, condition, targets, places, facts, at);
+        return tp(
+            buf,
+            state,
+            schema,
+            condition,
+            targets,
+            places,
+            env,
+            facts,
+            at,
+        );
     }
     state
 }

@@ -145,6 +145,7 @@ fn one_argument<'a>(
     condition: &'a [u8],
     targets: &[u8],
     places: &[u16],
+    env: &[u16],
     facts: Facts,
     name: usize,
     action: Found,
@@ -153,14 +154,14 @@ fn one_argument<'a>(
     term: usize,
 ) -> State
     requires { ⌜ Sound (sink (now buf) state) ⌝ }
-    requires { ⌜ Known (now schema) (now condition) (now places) facts ⌝ }
+    requires { ⌜ Known (now schema) (now condition) (now places) (now env) facts ⌝ }
     requires { ⌜ foundStands (isAction (now schema)) action ≡ true ⌝ }
     requires { ⌜ isPath (now condition) field ≡ true ⌝ }
     requires { ⌜ isTerm (now condition) term ≡ true ⌝ }
     ensures { λ after. ⌜ sink (now (buf .exit)) after ≡ pushAll (sink (now (buf .entry)) state) (both (contextType (foundIn (actionIn (now (schema .entry))) action) (pathIn (now (condition .entry)) field)) (termType (some (factsIn (now (schema .entry)) (now (condition .entry)) (now (targets .entry)) facts)) (termIn (now (condition .entry)) term)) (argumentBreach (record { start = start; end = end }) (wordAt (now (condition .entry)) at) (wordAt (now (condition .entry)) name))) ⌝ }
 {
     let expected = field_type(schema, condition, action, field);
-    let actual = terms::term_type(schema, condition, targets, places, facts, term);
+    let actual = terms::term_type(schema, condition, targets, places, env, facts, term);
     typed_argument(
         buf,
         state,
@@ -185,6 +186,7 @@ fn arguments<'a>(
     condition: &'a [u8],
     targets: &[u8],
     places: &[u16],
+    env: &[u16],
     facts: Facts,
     name: usize,
     action: Found,
@@ -192,7 +194,7 @@ fn arguments<'a>(
     first: usize,
 ) -> State
     requires { ⌜ Sound (sink (now buf) state) ⌝ }
-    requires { ⌜ Known (now schema) (now condition) (now places) facts ⌝ }
+    requires { ⌜ Known (now schema) (now condition) (now places) (now env) facts ⌝ }
     requires { ⌜ foundStands (isAction (now schema)) action ≡ true ⌝ }
     requires { ⌜ isArguments (now condition) count first ≡ true ⌝ }
     ensures { λ after. ⌜ sink (now (buf .exit)) after ≡ pushAll (sink (now (buf .entry)) state) (argumentBreaches (factsIn (now (schema .entry)) (now (condition .entry)) (now (targets .entry)) facts) (record { start = start; end = end }) (wordAt (now (condition .entry)) name) (foundIn (actionIn (now (schema .entry))) action) (argumentsIn (now (condition .entry)) count first)) ⌝ }
@@ -211,6 +213,7 @@ fn arguments<'a>(
             condition,
             targets,
             places,
+            env,
             facts,
             name,
             action,
@@ -232,11 +235,12 @@ pub fn predicate<'a>(
     condition: &'a [u8],
     targets: &[u8],
     places: &[u16],
+    env: &[u16],
     facts: Facts,
     at: usize,
 ) -> State
     requires { ⌜ Sound (sink (now buf) state) ⌝ }
-    requires { ⌜ Known (now schema) (now condition) (now places) facts ⌝ }
+    requires { ⌜ Known (now schema) (now condition) (now places) (now env) facts ⌝ }
     requires { ⌜ isCondition (now condition) at ≡ true ⌝ }
     requires { ⌜ kindOf (conditionIn (now condition) at) ≡ 7 ⌝ }
     ensures { λ after. ⌜ sink (now (buf .exit)) after ≡ pushAll (sink (now (buf .entry)) state) (nodeBreaches (factsIn (now (schema .entry)) (now (condition .entry)) (now (targets .entry)) facts) (conditionIn (now (condition .entry)) at)) ⌝ }
@@ -253,6 +257,7 @@ pub fn predicate<'a>(
         condition,
         targets,
         places,
+        env,
         facts,
         parts.action,
         action,

@@ -13,7 +13,7 @@ ghost use Rattle.names.specs.Lists.{gather, maybe};
 ghost use Rattle.schema.specs.Places.{isSchema, schemaIn, isAction, actionIn, foundIn, foundStands};
 ghost use Rattle.targets.specs.Places.{areTargets, targetsIn, isTarget, targetIn};
 ghost use Rattle.condition.specs.Places.{isRecord, recordIn};
-ghost use Rattle.condition.specs.Index.{nodesOf};
+ghost use Rattle.condition.specs.Index.{Index, nodesOf};
 ghost use Rattle.resolution.specs.Resolution.{admitsAnyEnv};
 ghost use Rattle.reports.specs.Sink.{sink, Sound, pushAll};
 ghost use Rattle.reports.specs.Answers.{outcomeOf};
@@ -30,17 +30,18 @@ fn nodes<'a>(
     condition: &'a [u8],
     targets: &[u8],
     places: &[u16],
+    env: &[u16],
     facts: Facts,
 ) -> State
     requires { ⌜ Sound (sink (now buf) state) ⌝ }
-    requires { ⌜ Known (now schema) (now condition) (now places) facts ⌝ }
+    requires { ⌜ Known (now schema) (now condition) (now places) (now env) facts ⌝ }
     ensures { λ after. ⌜ sink (now (buf .exit)) after ≡ pushAll (sink (now (buf .entry)) state) (gather (nodeBreaches (factsIn (now (schema .entry)) (now (condition .entry)) (now (targets .entry)) facts)) (nodesOf (now (condition .entry)))) ⌝ }
 {
     let mut now = state;
     let mut i = 0;
     while i < places.len() {
         let at = condition::reached_at(condition, places, i);
-        now = node(buf, now, schema, condition, targets, places, facts, at);
+        now = node(buf, now, schema, condition, targets, places, env, facts, at);
         i += 1;
     }
     now
@@ -54,15 +55,17 @@ fn under_action<'a>(
     condition: &'a [u8],
     targets: &[u8],
     places: &[u16],
+    env: &[u16],
+    complete: bool,
     found: Found,
 ) -> State
     requires { ⌜ Sound (sink (now buf) state) ⌝ }
-    requires { ⌜ Ready (now schema) (now condition) (now targets) (now places) ⌝ }
+    requires { ⌜ Ready (now schema) (now condition) (now targets) (now places) (now env) complete ⌝ }
     requires { ⌜ foundStands (isAction (now schema)) found ≡ true ⌝ }
     ensures { λ after. ⌜ sink (now (buf .exit)) after ≡ pushAll (sink (now (buf .entry)) state) (gather (nodeBreaches (factsOf (schemaIn (now (schema .entry))) (recordIn (now (condition .entry))) (targetsIn (now (targets .entry)) .scope) (foundIn (actionIn (now (schema .entry))) found))) (nodesOf (now (condition .entry)))) ⌝ }
 {
-    let facts = terms::facts_of(targets, found);
-    nodes(buf, state, schema, condition, targets, places, facts)
+    let facts = terms::facts_of(targets, found, complete);
+    nodes(buf, state, schema, condition, targets, places, env, facts)
 }
 
 // Whether a target is checked: its action is undeclared, or admits an environment.
@@ -86,10 +89,12 @@ fn under_target<'a>(
     condition: &'a [u8],
     targets: &[u8],
     places: &[u16],
+    env: &[u16],
+    complete: bool,
     at: usize,
 ) -> State
     requires { ⌜ Sound (sink (now buf) state) ⌝ }
-    requires { ⌜ Ready (now schema) (now condition) (now targets) (now places) ⌝ }
+    requires { ⌜ Ready (now schema) (now condition) (now targets) (now places) (now env) complete ⌝ }
     requires { ⌜ isTarget (now targets) at ≡ true ⌝ }
     ensures { λ after. ⌜ sink (now (buf .exit)) after ≡ pushAll (sink (now (buf .entry)) state) (breachesUnder (schemaIn (now (schema .entry))) (recordIn (now (condition .entry))) (targetsIn (now (targets .entry)) .scope) (targetIn (now (targets .entry)) at)) ⌝ }
 {
@@ -100,7 +105,17 @@ fn under_target<'a>(
         targets::id_of(targets, at),
     );
     if is_checked(schema, targets, found) {
-        return under_action(buf, state, schema, condition, targets, places, found);
+        return under_action(
+            buf,
+            state,
+            schema,
+            condition,
+            targets,
+            places,
+            env,
+            complete,
+            found,
+        );
     }
     state
 }
@@ -113,20 +128,68 @@ fn all_targets<'a>(
     condition: &'a [u8],
     targets: &[u8],
     places: &[u16],
+    env: &[u16],
+    complete: bool,
 ) -> State
     requires { ⌜ Sound (sink (now buf) state) ⌝ }
-    requires { ⌜ Ready (now schema) (now condition) (now targets) (now places) ⌝ }
+    requires { ⌜ Ready (now schema) (now condition) (now targets) (now places) (now env) complete ⌝ }
     ensures { λ after. ⌜ sink (now (buf .exit)) after ≡ pushAll (sink (now (buf .entry)) state) (gather (breachesUnder (schemaIn (now (schema .entry))) (recordIn (now (condition .entry))) (targetsIn (now (targets .entry)) .scope)) (targetsIn (now (targets .entry)) .list)) ⌝ }
 {
     let mut now = state;
     let mut rest = targets::count(targets);
     let mut at = targets::first_target(targets);
     while 0 < rest {
-        now = under_target(buf, now, schema, condition, targets, places, at);
+        now = under_target(
+            buf,
+            now,
+            schema,
+            condition,
+            targets,
+            places,
+            env,
+            complete,
+            at,
+        );
         at = targets::next_target(targets, at);
         rest -= 1;
     }
     now
+}
+
+// The check over the reached nodes: the binders are put into a table by name once.
+fn over_places<'a>(
+    schema: &'a [u8],
+    condition: &'a [u8],
+    targets: &[u8],
+    places: &[u16],
+    buf: &mut [u8],
+) -> Answer
+    requires { ⌜ isSchema (now schema) ≡ true ⌝ }
+    requires { ⌜ isRecord (now condition) ≡ true ⌝ }
+    requires { ⌜ areTargets (now targets) ≡ true ⌝ }
+    requires { ⌜ Index (now condition) (now places) ⌝ }
+    ensures { λ r. ⌜ outcomeOf r (now (buf .exit)) ≡ checked (schemaIn (now (schema .entry))) (recordIn (now (condition .entry))) (targetsIn (now (targets .entry))) (now (buf .entry)) ⌝ }
+{
+    let mut table = [0u16; 6560];
+    let own = condition::environment(condition, places, &mut table);
+    let n = own.count;
+    let complete = own.whole;
+    let none = State {
+        used: 0,
+        count: 0,
+        full: false,
+    };
+    let state = all_targets(
+        buf,
+        none,
+        schema,
+        condition,
+        targets,
+        places,
+        &table[..n],
+        complete,
+    );
+    reports::answer_of(state)
 }
 
 // The check of three records that were read: the condition is indexed once.
@@ -138,13 +201,7 @@ fn checked<'a>(schema: &'a [u8], condition: &'a [u8], targets: &[u8], buf: &mut 
 {
     let mut table = [0u16; 3641];
     let n = condition::index_record(condition, &mut table);
-    let none = State {
-        used: 0,
-        count: 0,
-        full: false,
-    };
-    let state = all_targets(buf, none, schema, condition, targets, &table[..n]);
-    reports::answer_of(state)
+    over_places(schema, condition, targets, &table[..n], buf)
 }
 
 // The check of a schema, a condition and a target record, into a lent buffer: the records are read in their order, and the first refusal stands.

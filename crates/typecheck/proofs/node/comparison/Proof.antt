@@ -9,11 +9,8 @@ span-at-requires c κs = search comparisons
 comparison-at-requires : tie.Need-comparison-at-requires
 comparison-at-requires c κs = search comparisons
 
-both-arithmetic-requires : tie.Need-both-arithmetic-requires
-both-arithmetic-requires c κs = (search comparisons, (search comparisons, (search comparisons, search comparisons)))
-
-operand-breaches-requires : tie.Need-operand-breaches-requires
-operand-breaches-requires c κs = (search comparisons, (search comparisons, (search comparisons, search comparisons)))
+compared-requires : tie.Need-compared-requires
+compared-requires c κs = (search comparisons, (search comparisons, (search comparisons, search comparisons)))
 
 same-length : tie.Need-same-length
 same-length c = search comparisons
@@ -24,10 +21,4 @@ returns c = search comparisons
 pub comparison-spec : {M : Type 1} → statement M
 comparison-spec =
     tie.close
-    (tie.spec
-    span-at-requires
-    comparison-at-requires
-    both-arithmetic-requires
-    operand-breaches-requires
-    same-length
-    returns)
+    (tie.spec span-at-requires comparison-at-requires compared-requires same-length returns)

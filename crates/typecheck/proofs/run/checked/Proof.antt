@@ -12,14 +12,11 @@ index-record-requires c κs = search indexed
 array-share-prefix-table : tie.Need-array-share-prefix-table
 array-share-prefix-table c = search indexed
 
-slice-aggregate-all-targets : tie.Need-slice-aggregate-all-targets
-slice-aggregate-all-targets c = search indexed
+slice-aggregate-over-places : tie.Need-slice-aggregate-over-places
+slice-aggregate-over-places c = search indexed
 
-all-targets-requires : tie.Need-all-targets-requires
-all-targets-requires c κs = search indexed
-
-answer-of-requires : tie.Need-answer-of-requires
-answer-of-requires c κs = search indexed
+over-places-requires : tie.Need-over-places-requires
+over-places-requires c κs = search indexed
 
 same-length : tie.Need-same-length
 same-length c = search indexed
@@ -34,8 +31,7 @@ checked-spec =
     slice-aggregate-index-record
     index-record-requires
     array-share-prefix-table
-    slice-aggregate-all-targets
-    all-targets-requires
-    answer-of-requires
+    slice-aggregate-over-places
+    over-places-requires
     same-length
     returns)

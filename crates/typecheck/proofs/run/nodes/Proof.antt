@@ -13,12 +13,12 @@ use Rattle.typecheck.proofs.run.nodes.Statement.{statement}
 use Rattle.typecheck.proofs.run.nodes.Tie as tie
 
 abbrev Inv-loop : tie.InvT-loop
-Inv-loop buf₀ schema condition targets places facts now₀ i₀ buf now i =
+Inv-loop buf₀ schema condition targets places env facts now₀ i₀ buf now i =
     (length buf ≡ length buf₀)
     × Reporting push (nodeBreaches (factsIn schema condition targets facts)) (pushAll (sink buf₀ now₀) (gather (nodeBreaches (factsIn schema condition targets facts)) (nodesOf condition))) (sink buf now) (drop i (nodesOf condition))
 
 abbrev μ-loop : tie.MeasureT-loop
-μ-loop buf₀ schema condition targets places facts now₀ i₀ buf now i = length places - i
+μ-loop buf₀ schema condition targets places env facts now₀ i₀ buf now i = length places - i
 
 loop-holds : tie.Need-loop-holds Inv-loop μ-loop
 loop-holds c = search each-node
