@@ -14,3 +14,4 @@ pub mod Aggregates
 pub mod Examples
 pub mod Spots
 pub mod Environments
+pub mod Declarations

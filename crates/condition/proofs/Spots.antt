@@ -1,9 +1,8 @@
 -- Tables of places sorted by name: a name found by halving, an entry replaced, an entry put in. Assumes nothing.
 use mathlib.Core.Path.{_≡_, refl, sym, ap, _∙_}
 use mathlib.Core.Bool.{Bool, true, false, false≢true}
-use mathlib.Core.List.{List, [], _∷_, _++_}
+use mathlib.Core.List.{List, _∷_, _++_}
 use Prim.Native.Nat.{ℕ, suc, _+_, _-_, _≤_, _<_}
-use native.Mathlib.Numerals.{add-one}
 use native.Mathlib.Omega.{arith}
 use borrow.Author.Count.{below-more}
 use borrow.Author.Needs.{needs}
@@ -13,8 +12,8 @@ use lib.ListN.{length, getD, take, drop, set, length-append, length-drop, length
 use lib.Seq.{length-take-le, getD-take, getD-drop, getD-at, getD-append-add, getD-set-same, getD-set-other, ext-getD}
 use Rattle.names.specs.declared.Order.{Order}
 use Rattle.names.specs.declared.Order.the-variants.{Less, Same, More}
-use Rattle.names.specs.Names.{same, below, order}
-use Rattle.names.specs.Names.Laws.{same-eq, below-order, order-refl, order-flip, order-same, below-trans}
+use Rattle.names.specs.Names.{below, order}
+use Rattle.names.specs.Names.Laws.{below-order, order-flip, order-same, below-trans}
 use Rattle.names.specs.Order.{orderNumber}
 use Rattle.names.specs.Read.{wordAt}
 use Rattle.condition.specs.Environment.{nameAt, Sorted, SpotOf, insertAt, Inserted}

@@ -171,7 +171,8 @@ fn declare_places(s: &[u8], places: &[u16], table: &mut [u16], known: Names) -> 
     so_far
 }
 
-// The environment of a record, as far as the table has room. A record has fewer than 6,560 names: those of one byte, 92, take 4 bytes each, longer ones 5 or more.
+// The environment of a record, as far as the table has room. 6,560 entries are room for any record: but for the empty name and 92 of one byte, a name takes 5 bytes at
+// least, and the aggregates around the binders take some too. That is counted and not proved: where the room does not do, `whole` says so.
 pub fn environment(s: &[u8], places: &[u16], table: &mut [u16]) -> Names
     requires { ⌜ Index (now s) (now places) ⌝ }
     ensures fits { λ r. ⌜ r .count ≤ length (now (table .exit)) ⌝ }

@@ -1,4 +1,4 @@
--- `condition::flat::bound_in` meets its contract.  Assumes nothing.
+-- `condition::flat::bound_in` meets its contract. Assumes nothing.
 use Rattle.condition.proofs.Environments.{finding}
 use Rattle.condition.proofs.flat.bound_in.Statement.{statement}
 use Rattle.condition.proofs.flat.bound_in.Tie as tie

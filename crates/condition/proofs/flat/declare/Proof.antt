@@ -1,4 +1,4 @@
--- `condition::flat::declare` meets its contract.  Assumes nothing.
+-- `condition::flat::declare` meets its contract. Assumes nothing.
 use Rattle.condition.proofs.Environments.{declaring-one}
 use Rattle.condition.proofs.flat.declare.Statement.{statement}
 use Rattle.condition.proofs.flat.declare.Tie as tie

@@ -1,5 +1,5 @@
--- `condition::flat::declare_aggregate` meets its contract.  Assumes nothing.
-use Rattle.condition.proofs.Environments.{declaring-aggregate}
+-- `condition::flat::declare_aggregate` meets its contract. Assumes nothing.
+use Rattle.condition.proofs.Declarations.{declaring-aggregate}
 use Rattle.condition.proofs.flat.declare_aggregate.Statement.{statement}
 use Rattle.condition.proofs.flat.declare_aggregate.Tie as tie
 

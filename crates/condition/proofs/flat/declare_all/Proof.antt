@@ -1,7 +1,7 @@
 -- `condition::flat::declare_all` meets its contract. What is done and what is left of the binders make all. Assumes nothing.
 use native.Mathlib.Omega.{arith}
 use Rattle.condition.proofs.Bindings.{binders-index}
-use Rattle.condition.proofs.Environments.{BindersOn, declaring-row}
+use Rattle.condition.proofs.Declarations.{BindersOn, declaring-row}
 use Rattle.condition.proofs.flat.declare_all.Statement.{statement}
 use Rattle.condition.proofs.flat.declare_all.Tie as tie
 

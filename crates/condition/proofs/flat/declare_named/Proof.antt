@@ -1,4 +1,4 @@
--- `condition::flat::declare_named` meets its contract.  Assumes nothing.
+-- `condition::flat::declare_named` meets its contract. Assumes nothing.
 use Rattle.condition.proofs.Environments.{declaring-one}
 use Rattle.condition.proofs.flat.declare_named.Statement.{statement}
 use Rattle.condition.proofs.flat.declare_named.Tie as tie

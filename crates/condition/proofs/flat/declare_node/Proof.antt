@@ -1,5 +1,5 @@
--- `condition::flat::declare_node` meets its contract.  Assumes nothing.
-use Rattle.condition.proofs.Environments.{declaring-node}
+-- `condition::flat::declare_node` meets its contract. Assumes nothing.
+use Rattle.condition.proofs.Declarations.{declaring-node}
 use Rattle.condition.proofs.flat.declare_node.Statement.{statement}
 use Rattle.condition.proofs.flat.declare_node.Tie as tie
 

@@ -3,7 +3,7 @@ use lib.ListN.{length}
 use Rattle.condition.specs.Walk.{declares}
 use Rattle.condition.specs.Places.{conditionIn}
 use Rattle.condition.specs.Parts.{aggregatesIn}
-use Rattle.condition.proofs.Environments.{AggregatesOn, declaring-operands}
+use Rattle.condition.proofs.Declarations.{AggregatesOn, declaring-operands}
 use Rattle.condition.proofs.flat.declare_operands.Statement.{statement}
 use Rattle.condition.proofs.flat.declare_operands.Tie as tie
 

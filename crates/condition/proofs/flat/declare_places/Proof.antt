@@ -1,7 +1,7 @@
 -- `condition::flat::declare_places` meets its contract. What is done and what is left of the reached conditions make all. Assumes nothing.
 use Prim.Native.Nat.{_-_}
 use lib.ListN.{length}
-use Rattle.condition.proofs.Environments.{NodesOn, declaring-nodes}
+use Rattle.condition.proofs.Declarations.{NodesOn, declaring-nodes}
 use Rattle.condition.proofs.flat.declare_places.Statement.{statement}
 use Rattle.condition.proofs.flat.declare_places.Tie as tie
 

@@ -1,4 +1,4 @@
--- `condition::flat::environment` meets its contract.  Assumes nothing.
+-- `condition::flat::environment` meets its contract. Assumes nothing.
 use Rattle.condition.proofs.Environments.{beginning}
 use Rattle.condition.proofs.flat.environment.Statement.{statement}
 use Rattle.condition.proofs.flat.environment.Tie as tie

@@ -1,4 +1,4 @@
--- `condition::flat::is_named` meets its contract.  Assumes nothing.
+-- `condition::flat::is_named` meets its contract. Assumes nothing.
 use Rattle.condition.proofs.Environments.{naming}
 use Rattle.condition.proofs.flat.is_named.Statement.{statement}
 use Rattle.condition.proofs.flat.is_named.Tie as tie

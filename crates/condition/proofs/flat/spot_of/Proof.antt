@@ -1,4 +1,4 @@
--- `condition::flat::spot_of` meets its contract.  Assumes nothing.
+-- `condition::flat::spot_of` meets its contract. Assumes nothing.
 use native.Mathlib.Omega.{arith}
 use Rattle.condition.proofs.Environments.{spotting, binder-index}
 use Rattle.condition.proofs.flat.spot_of.Statement.{statement}

@@ -1,4 +1,4 @@
--- `condition::sorted::order_at` meets its contract.  Assumes nothing.
+-- `condition::sorted::order_at` meets its contract. Assumes nothing.
 use Rattle.condition.proofs.Spots.{comparing}
 use Rattle.condition.proofs.sorted.order_at.Statement.{statement}
 use Rattle.condition.proofs.sorted.order_at.Tie as tie
