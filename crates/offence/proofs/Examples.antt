@@ -1,0 +1,26 @@
+-- The place computes: small records. Assumes nothing.
+use mathlib.Core.Path.{_≡_, refl}
+use mathlib.Core.List.{List, [], _∷_}
+use Prim.Native.Nat.{ℕ}
+use Rattle.names.specs.Fields.{bytes, u8, u16, number, stringOf, many, counted, heading, finished, whole, choose}
+use Rattle.names.specs.Names.{same, plain}
+use Rattle.names.specs.Paths.{pathOf}
+use Rattle.names.specs.Read.{refusalNumber}
+use Rattle.targets.specs.PathRecord.{sides, scopeSide, pathRecord}
+use Rattle.offence.specs.declared.Kind.the-variants.{Path}
+use Rattle.offence.specs.Offence.{numberOf, place, placeFrom}
+
+-- `DWP`, version 1: a scope that is not defined, which is the sixth byte
+no-scope : place (numberOf Path) (68 ∷ 87 ∷ 80 ∷ 0 ∷ 1 ∷ 9 ∷ 0 ∷ 0 ∷ []) ≡ 6
+unfolding bytes u8 u16 number heading whole choose same refusalNumber sides scopeSide pathRecord place placeFrom
+no-scope = refl
+
+-- the principal, no segment, and the position is missing: where the bytes end
+no-position : place (numberOf Path) (68 ∷ 87 ∷ 80 ∷ 0 ∷ 1 ∷ 0 ∷ 0 ∷ []) ≡ 7
+unfolding bytes u8 u16 number many counted heading whole choose same refusalNumber pathOf sides scopeSide pathRecord place placeFrom
+no-position = refl
+
+-- a byte behind the record: where the record ends
+one-more : place (numberOf Path) (68 ∷ 87 ∷ 80 ∷ 0 ∷ 1 ∷ 0 ∷ 0 ∷ 0 ∷ 0 ∷ []) ≡ 8
+unfolding bytes u8 u16 number many counted heading finished whole choose same refusalNumber pathOf sides scopeSide pathRecord place placeFrom
+one-more = refl

@@ -1,0 +1,165 @@
+-- The condition record is read left to right: the condition and the term reader by the levels that are left. Assumes nothing.
+use mathlib.Core.Path.{refl}
+use mathlib.Core.Bool.{Bool, true, false, _&&_}
+use mathlib.Core.List.{List, [], _∷_}
+use mathlib.Core.Option.{none}
+use Prim.Native.Nat.{ℕ, zero, suc}
+use lib.Dec.{leb, eqb}
+use Rattle.names.specs.Fields.{Reader, choose, counted, each, levels}
+use Rattle.names.specs.Names.{identifier, pathName, plain}
+use Rattle.condition.specs.Condition.{Condition, Term, One, Two, span, slotKinds, slot, annotation, binder, operators, operator, timepointOf, arguments, argumentList, elements, elementList, unary, binary, predicateOf, comparisonOf, existsOf, conditionKinds, sumOf, countOf, aggregateKinds, aggregateOf, arithOf, termKinds, tooDeep, conditionAt, termAt, conditionRecord}
+use Rattle.offence.proofs.Steady.{Steady, Ends, pure-steady, refuse-steady, cond-steady, then-steady, map-steady, u8-steady, u32-steady, string-steady, many-steady, counted-steady, path-steady, heading-steady, then-ends, finished-ends}
+
+span-steady : Steady span
+unfolding span
+span-steady = then-steady u32-steady (λ a. then-steady u32-steady (λ b. pure-steady))
+
+slot-steady : Steady slot
+unfolding slot slotKinds choose
+slot-steady =
+    then-steady u8-steady (λ k.
+    cond-steady (eqb k 0) (map-steady _ (string-steady plain)) (cond-steady (eqb k 1) pure-steady (cond-steady (eqb k 2) pure-steady (refuse-steady 5 refl))))
+
+annotation-steady : Steady annotation
+unfolding annotation
+annotation-steady =
+    then-steady u8-steady (λ n. cond-steady (eqb n 0) pure-steady (then-steady (many-steady (λ w. w) (λ before. string-steady identifier) n none) (λ segments. pure-steady)))
+
+binder-steady : Steady binder
+unfolding binder
+binder-steady = then-steady slot-steady (λ s. then-steady annotation-steady (λ a. pure-steady))
+
+binders-steady : Steady (counted (each binder))
+binders-steady = counted-steady (λ before. binder-steady)
+
+operator-steady : Steady operator
+unfolding operator operators choose
+operator-steady =
+    then-steady u8-steady (λ k.
+    cond-steady (eqb k 0) pure-steady
+    (cond-steady (eqb k 1) pure-steady
+    (cond-steady (eqb k 2) pure-steady
+    (cond-steady (eqb k 3) pure-steady
+    (cond-steady (eqb k 4) pure-steady
+    (cond-steady (eqb k 5) pure-steady (refuse-steady 5 refl)))))))
+
+timepoint-steady : Steady timepointOf
+unfolding timepointOf
+timepoint-steady = then-steady span-steady (λ at. then-steady slot-steady (λ s. pure-steady))
+
+module _ (f : Reader Condition) (t : Bool → Reader Term) (inner : Steady f) (term : (b : Bool) → Steady (t b)) where
+  arguments-steady : (n : ℕ) → Steady (arguments f t n)
+  unfolding arguments
+  arguments-steady zero = pure-steady
+  arguments-steady (suc n) =
+      then-steady (string-steady plain) (λ name. then-steady path-steady (λ field. then-steady (term false) (λ value. then-steady (arguments-steady n) (λ rest. pure-steady))))
+
+  argument-list-steady : Steady (argumentList f t)
+  unfolding argumentList
+  argument-list-steady = then-steady u8-steady arguments-steady
+
+  elements-steady : (n : ℕ) → Steady (elements f t n)
+  unfolding elements
+  elements-steady zero = pure-steady
+  elements-steady (suc n) = then-steady (term true) (λ a. then-steady (elements-steady n) (λ rest. pure-steady))
+
+  element-list-steady : Steady (elementList f t)
+  unfolding elementList
+  element-list-steady = then-steady u8-steady elements-steady
+
+  unary-steady : (k : One) → Steady (unary f t k)
+  unfolding unary
+  unary-steady k = then-steady span-steady (λ at. then-steady inner (λ body. pure-steady))
+
+  binary-steady : (k : Two) → Steady (binary f t k)
+  unfolding binary
+  binary-steady k = then-steady span-steady (λ at. then-steady inner (λ left. then-steady inner (λ right. pure-steady)))
+
+  predicate-steady : Steady (predicateOf f t)
+  unfolding predicateOf
+  predicate-steady =
+      then-steady span-steady
+      (λ at. then-steady span-steady
+      (λ own. then-steady (counted-steady (λ before. string-steady pathName))
+      (λ namespace. then-steady (string-steady plain) (λ action. then-steady argument-list-steady (λ args. pure-steady)))))
+
+  comparison-steady : Steady (comparisonOf f t)
+  unfolding comparisonOf
+  comparison-steady =
+      then-steady span-steady (λ at. then-steady operator-steady (λ op. then-steady (term false) (λ left. then-steady (term false) (λ right. pure-steady))))
+
+  exists-steady : Steady (existsOf f t)
+  unfolding existsOf
+  exists-steady = then-steady span-steady (λ at. then-steady binder-steady (λ b. then-steady inner (λ body. pure-steady)))
+
+  condition-kinds-steady : (k : ℕ) → Steady (choose k (conditionKinds f t))
+  unfolding choose conditionKinds
+  condition-kinds-steady k =
+      cond-steady (eqb k 1) (binary-steady _)
+      (cond-steady (eqb k 2) (binary-steady _)
+      (cond-steady (eqb k 3) (unary-steady _)
+      (cond-steady (eqb k 4) (unary-steady _)
+      (cond-steady (eqb k 5) (unary-steady _)
+      (cond-steady (eqb k 6) (binary-steady _)
+      (cond-steady (eqb k 7) predicate-steady
+      (cond-steady (eqb k 8) comparison-steady
+      (cond-steady (eqb k 9) exists-steady
+      (cond-steady (eqb k 10) timepoint-steady
+      (cond-steady (eqb k 11) (map-steady _ span-steady)
+      (cond-steady (eqb k 12) (map-steady _ span-steady)
+      (cond-steady (eqb k 13) (unary-steady _) (refuse-steady 5 refl)))))))))))))
+
+  sum-steady : Steady (sumOf f t)
+  unfolding sumOf
+  sum-steady = then-steady span-steady (λ at. then-steady slot-steady (λ summand. then-steady binders-steady (λ binders. then-steady inner (λ body. pure-steady))))
+
+  count-steady : Steady (countOf f t)
+  unfolding countOf
+  count-steady = then-steady span-steady (λ at. then-steady binders-steady (λ binders. then-steady inner (λ body. pure-steady)))
+
+  aggregate-steady : Steady (aggregateOf f t)
+  unfolding aggregateOf aggregateKinds choose
+  aggregate-steady =
+      then-steady u8-steady (λ k.
+      cond-steady (eqb k 1) sum-steady (cond-steady (eqb k 2) count-steady (cond-steady (eqb k 3) (map-steady _ span-steady) (refuse-steady 5 refl))))
+
+  arith-steady : (b : Bool) → Steady (arithOf f t b)
+  unfolding arithOf
+  arith-steady b = then-steady (term b) (λ left. then-steady (term b) (λ right. pure-steady))
+
+  term-kinds-steady : (b : Bool) (k : ℕ) → Steady (choose k (termKinds f t b))
+  unfolding choose termKinds
+  term-kinds-steady b k =
+      cond-steady (eqb k 1) (map-steady _ (string-steady pathName))
+      (cond-steady (eqb k 2) pure-steady
+      (cond-steady (eqb k 3) pure-steady
+      (cond-steady (eqb k 4) pure-steady
+      (cond-steady (eqb k 5) pure-steady
+      (cond-steady (eqb k 6) (map-steady _ path-steady)
+      (cond-steady (eqb k 7) (map-steady _ path-steady)
+      (cond-steady (eqb k 8) (map-steady _ (string-steady plain))
+      (cond-steady (eqb k 9) pure-steady
+      (cond-steady (eqb k 10) (map-steady _ element-list-steady)
+      (cond-steady (eqb k 11) (cond-steady b (refuse-steady 9 refl) (map-steady _ aggregate-steady))
+      (cond-steady (eqb k 12) (arith-steady b)
+      (cond-steady (eqb k 13) pure-steady
+      (cond-steady (eqb k 14) pure-steady (refuse-steady 5 refl))))))))))))))
+
+too-deep-steady : {A : Type 0} (last : ℕ) → Steady (tooDeep {A = A} last)
+unfolding tooDeep
+too-deep-steady last = then-steady u8-steady (λ k. cond-steady (leb 1 k && leb k last) (refuse-steady 7 refl) (refuse-steady 5 refl))
+
+mutual
+  unfolding conditionAt termAt
+
+  condition-steady : (left : ℕ) → Steady (conditionAt left)
+  condition-steady zero = too-deep-steady 13
+  condition-steady (suc left) = then-steady u8-steady (λ k. condition-kinds-steady (conditionAt left) (λ b. termAt left b) (condition-steady left) (λ b. term-steady left b) k)
+
+  term-steady : (left : ℕ) (b : Bool) → Steady (termAt left b)
+  term-steady zero b = too-deep-steady 14
+  term-steady (suc left) b = then-steady u8-steady (λ k. term-kinds-steady (conditionAt left) (λ b. termAt left b) (condition-steady left) (λ b. term-steady left b) b k)
+
+pub condition-ends : Ends conditionRecord
+unfolding conditionRecord
+condition-ends = then-ends (heading-steady _) (λ _. then-ends (condition-steady levels) (λ c. finished-ends _))
