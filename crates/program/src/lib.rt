@@ -70,6 +70,22 @@ pub fn print_number(n: usize) {
     io::print_decimal(STDOUT_FILENO, n as u64);
 }
 
+// The 32-bit number at a place; nothing where there are not so many bytes.
+pub fn print_u32(s: &[u8], at: usize) {
+    if s.len() <= at {
+        return;
+    }
+    if s.len() - at < 4 {
+        return;
+    }
+    print_number(names::u32_at(s, at) as usize);
+}
+
+// A byte, in two hexadecimal digits.
+pub fn print_byte(b: usize) {
+    io::print_hex(STDOUT_FILENO, b as u64, 2);
+}
+
 // The line of a refusal: its number and the record.
 pub fn print_refusal(number: u8, which: u8) {
     print(b"refused ");

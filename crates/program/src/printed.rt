@@ -2,6 +2,7 @@
 use crate::print;
 use crate::print_number;
 use crate::print_refusal;
+use crate::print_u32;
 ghost use mathlib.Core.Path.{_≡_};
 ghost use lib.ListN.{length};
 
@@ -46,12 +47,6 @@ fn print_report(out: &[u8], at: usize) -> usize {
 
 // A start or an end.
 fn print_place(out: &[u8], at: usize) {
-    if out.len() <= at {
-        return;
-    }
-    if out.len() - at < 4 {
-        return;
-    }
-    print_number(names::u32_at(out, at) as usize);
+    print_u32(out, at);
     print(b" ");
 }
