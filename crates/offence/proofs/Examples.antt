@@ -1,9 +1,8 @@
 -- The place computes: small records. Assumes nothing.
 use mathlib.Core.Path.{_≡_, refl}
-use mathlib.Core.List.{List, [], _∷_}
-use Prim.Native.Nat.{ℕ}
-use Rattle.names.specs.Fields.{bytes, u8, u16, number, stringOf, many, counted, heading, finished, whole, choose}
-use Rattle.names.specs.Names.{same, plain}
+use mathlib.Core.List.{[], _∷_}
+use Rattle.names.specs.Fields.{bytes, u8, u16, number, many, counted, heading, finished, whole, choose}
+use Rattle.names.specs.Names.{same}
 use Rattle.names.specs.Paths.{pathOf}
 use Rattle.names.specs.Read.{refusalNumber}
 use Rattle.targets.specs.PathRecord.{sides, scopeSide, pathRecord}

@@ -1,7 +1,7 @@
 -- What the place means, for each of the four records. Assumes nothing.
 use mathlib.Core.Path.{_≡_, refl, sym, ap, _∙_}
 use mathlib.Core.Bool.{Bool, true, false, cond}
-use mathlib.Core.List.{List, [], _∷_, _++_}
+use mathlib.Core.List.{List, _++_}
 use mathlib.Core.Logic.{⊎-elim}
 use Prim.Native.Nat.{ℕ, _+_, _≤_, _<_}
 use native.Mathlib.Omega.{arith}
@@ -17,7 +17,7 @@ use Rattle.targets.specs.Targets.{targetRecord}
 use Rattle.targets.specs.PathRecord.{pathRecord}
 use Rattle.offence.specs.declared.Kind.{Kind}
 use Rattle.offence.specs.declared.Kind.the-variants.{Schema, Condition, Targets, Path}
-use Rattle.offence.specs.Offence.{markOf, begins, numberOf, place, placeFrom}
+use Rattle.offence.specs.Offence.{markOf, begins, numberOf, place}
 use Rattle.offence.proofs.Steady.{Sure, early, alike, over}
 use Rattle.offence.proofs.Fronts.{least, sure, closed, above, fronts, back}
 

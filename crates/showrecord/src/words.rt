@@ -33,10 +33,6 @@ const RECORDS: [u8; 59] = *b"?|schema record|condition record|targets record|pat
 const CAUSES: [u8; 487] =
     *b"?|the record has more than 32,768 bytes|the bytes end before a field does|the first three bytes are no record's mark (DWS, DWC, DWT, DWP)|the version is not 1|a kind, type, operator or other choice byte is not defined|a string is not of its class: the path name, the identifier or the plain text that must stand there|conditions, terms or types are nested deeper than 32 levels|the names of a list do not ascend|an aggregate stands below an array|bytes stand behind the end of the record";
 
-// Where a refusal shows, from 2 on.
-const SIGNS: [u8; 231] =
-    *b"?|?|they end|the field that shows it ends|the field that shows it ends|the field that shows it ends|the field that shows it ends|the field that shows it ends|the field that shows it ends|the field that shows it ends|the record ends";
-
 // Where the entry that starts at a place ends.
 fn end_of(table: &[u8], start: usize) -> usize {
     let mut at = start;
@@ -116,7 +112,15 @@ pub fn cause(number: usize) {
     say(&table, number);
 }
 
+// What ends where a refusal shows.
 pub fn sign(number: usize) {
-    let table = SIGNS;
-    say(&table, number);
+    if number == 2 {
+        print(b"they end");
+        return;
+    }
+    if number == 10 {
+        print(b"the record ends");
+        return;
+    }
+    print(b"the field that shows it ends");
 }
