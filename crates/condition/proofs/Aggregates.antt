@@ -13,7 +13,7 @@ use Rattle.names.specs.Lists.Laws.{gather-append}
 use Rattle.names.specs.Fields.{Got, got, Reader, many, each, levels}
 use Rattle.names.specs.Read.{accepted, valueOr, row, isRow, rowIn}
 use Rattle.names.proofs.Laws.{is-accepted, has-value}
-use Rattle.names.proofs.Row.{row-any, Opens, opens, row-empty}
+use Rattle.names.proofs.Row.{Opens, opens, row-cons, row-empty}
 use Rattle.condition.specs.declared.Several.{Several}
 use Rattle.condition.specs.declared.NextAggregate.{NextAggregate}
 use Rattle.condition.specs.declared.NextAggregate.the-variants.{At, Done}
@@ -55,11 +55,6 @@ no-aggregates (array ts) a b = refl
 no-aggregates (aggregate x) a b = absurd (b refl)
 no-aggregates (tree.arith l r) a b = absurd (a refl)
 no-aggregates sigil a b = refl
-
--- a row with one more in front
-row-cons : {A : Type 0} (f : Reader A) (s : List ℕ) (n at : ℕ) {a : A} {p : ℕ} {l : List A} {e : ℕ} → f s at ≡ got a p → row f n s p ≡ got l e → row f (suc n) s at ≡ got (a ∷ l) e
-unfolding many
-row-cons f s n at {a} {p} h i = rw (h, row-any f s n (some a) p, i)
 
 -- terms in a row
 module _ (s : List ℕ) (n at : ℕ) where

@@ -1,10 +1,11 @@
 -- Rows of things that are read alike: the exits and turns of their readers, and a walk over an accepted row. Assumes nothing.
 use mathlib.Core.Path.{_≡_, refl, sym, ap, _∙_}
 use mathlib.Core.Bool.{Bool, true}
-use mathlib.Core.List.{List, [], _∷_}
+use mathlib.Core.List.{List, [], _∷_, _++_}
 use mathlib.Core.Option.{Option, some}
 use Prim.Native.Nat.{ℕ, zero, suc, _+_, _-_, _≤_, _<_}
 use native.Mathlib.Numerals.{sub-one}
+use native.Mathlib.Nat.{zero-add, suc-add}
 use native.Mathlib.Omega.{arith}
 use lib.ListN.{length, getD, take}
 use Rattle.names.specs.declared.Read.{Read}
@@ -82,6 +83,19 @@ module _ {A : Type 0} (f : Reader A) (s : List ℕ) where
   unfolding many
   row-empty zero at h e = sym (got-value e)
   row-empty (suc n) at h e = absurd (omega arith)
+
+  -- a row with one more in front, and two rows one after the other
+  pub row-cons : (n at : ℕ) {a : A} {p : ℕ} {l : List A} {e : ℕ} → f s at ≡ got a p → row f n s p ≡ got l e → row f (suc n) s at ≡ got (a ∷ l) e
+  unfolding many
+  row-cons n at {a} {p} h i = rw (h, row-any n (some a) p, i)
+
+  pub row-append : (n m at : ℕ) {xs ys : List A} {p e : ℕ} → row f n s at ≡ got xs p → row f m s p ≡ got ys e → row f (n + m) s at ≡ got (xs ++ ys) e
+  unfolding many
+  row-append zero m at {xs} {ys} {p} {e} h i = let q : p ≡ at = sym (got-place h) in rw (zero-add, ← got-value h) (rw q at i)
+  row-append (suc n) m at {xs} {ys} {p} {e} h i =
+      let o = opens (suc n) at (omega arith) h in
+      let r = row-append n m (o .p) (rw sub-one at (o .rest)) i in
+      rw (suc-add, o .all) (row-cons (n + m) at (o .here) r)
 
   pub row-length : (n at : ℕ) {list : List A} {end : ℕ} → row f n s at ≡ got list end → length list ≡ n
   unfolding many

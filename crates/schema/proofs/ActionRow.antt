@@ -9,16 +9,15 @@ use Rattle.names.specs.Lists.{first}
 use Rattle.names.specs.Fields.{got}
 use Rattle.names.specs.Names.{same}
 use Rattle.names.specs.Read.{ending, wordAt}
-use Rattle.names.specs.declared.Read.{Read}
-use Rattle.names.specs.declared.Read.the-variants.{Next, Refused}
+use Rattle.names.specs.declared.Read.the-variants.{Next}
 use Rattle.names.proofs.Laws.{accept, has-value, RowLeft}
 use Rattle.schema.specs.declared.Found.the-variants as Found
 use Rattle.schema.specs.declared.Row.{Row}
 use Rattle.schema.specs.Schema.{Action, Key, action, keyOf}
 use Rattle.schema.specs.Find.{actionType, findAction}
-use Rattle.schema.specs.Places.{pastWord, noAction, schemaIn, FindsAction, ActionsOf, isOf}
+use Rattle.schema.specs.Places.{pastWord, noAction, isAction, schemaIn, FindsAction, ActionsOf, isOf}
 use Rattle.schema.proofs.Rows.{action-word}
-use Rattle.schema.proofs.Search.{search-over, search-found, search-stuck, search-on}
+use Rattle.schema.proofs.Search.{search-over, search-stands, search-found, search-on}
 use Rattle.schema.proofs.Views.{free-action}
 
 -- One action: its id, then its type name.
@@ -45,6 +44,9 @@ module _ (s ns id : List ℕ) (o : Option Action) where
   pub action-none : (n at : ℕ) → n ≤ 0 → Actions s ns id o n at → FindsAction s o Found.Absent
   action-none n at h l = search-over keyOf action (isOf ns id) noAction s o n at h l
 
+  pub action-stands : (n at : ℕ) → 0 < n → Actions s ns id o n at → isAction s at ≡ true
+  action-stands n at h l = search-stands keyOf action (isOf ns id) noAction s o (free-action s) n at h l
+
   module _ (n at : ℕ) (h : 0 < n) (l : Actions s ns id o n at) (b : Bool) (is-b : b ≡ (same (wordAt s at) (actionType ns) && same (wordAt s (pastWord s at)) id)) where
     tested : (a : Action) (m : ℕ) → action none s at ≡ got a m → isOf ns id a ≡ b
     tested a m i = ap (λ (k : Key). same (k .type) (actionType ns) && same (k .id) id) (action-word none s at i) ∙ sym is-b
@@ -52,11 +54,7 @@ module _ (s ns id : List ℕ) (o : Option Action) where
     pub action-found : b ≡ true → FindsAction s o (Found.At at)
     action-found e = search-found keyOf action (isOf ns id) noAction s o (free-action s) n at h l b tested e
 
-    module _ (e : b ≡ false) (x : Read) (is : x ≡ ending (action none s at)) where
-      pub action-stuck : (r : ℕ) → x ≡ Refused r → FindsAction s o Found.Absent
-      action-stuck r f = search-stuck keyOf action (isOf ns id) noAction s o (free-action s) n at h l b tested e x is r f
+    pub action-on : b ≡ false → (m : ℕ) → Next m ≡ ending (action none s at) → Actions s ns id o (n - 1) m
+    action-on e m f = search-on keyOf action (isOf ns id) noAction s o (free-action s) n at h l b tested e m f
 
-      pub action-on : (m : ℕ) → x ≡ Next m → Actions s ns id o (n - 1) m
-      action-on m f = search-on keyOf action (isOf ns id) noAction s o (free-action s) n at h l b tested e x is m f
-
-pub ruleset actionSearch = (needs, actions-start, action-none, action-found, action-stuck, action-on)
+pub ruleset actionSearch = (needs, actions-start, action-none, action-stands, action-found, action-on)

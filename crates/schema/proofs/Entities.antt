@@ -10,15 +10,14 @@ use Rattle.names.specs.Lists.{first}
 use Rattle.names.specs.Fields.{number, got}
 use Rattle.names.specs.Names.{same}
 use Rattle.names.specs.Read.{ending, wordAt}
-use Rattle.names.specs.declared.Read.{Read}
-use Rattle.names.specs.declared.Read.the-variants.{Next, Refused}
+use Rattle.names.specs.declared.Read.the-variants.{Next}
 use Rattle.names.proofs.Laws.{RowLeft}
 use Rattle.schema.specs.declared.Found.the-variants as Found
 use Rattle.schema.specs.Schema.{EntityType, Schema, entityType}
 use Rattle.schema.specs.Find.{findEntity}
-use Rattle.schema.specs.Places.{noEntity, schemaIn, isSchema, FindsEntity}
+use Rattle.schema.specs.Places.{noEntity, schemaIn, isSchema, isEntity, FindsEntity}
 use Rattle.schema.proofs.Rows.{entity-word}
-use Rattle.schema.proofs.Search.{search-over, search-found, search-stuck, search-on}
+use Rattle.schema.proofs.Search.{search-over, search-stands, search-found, search-on}
 use Rattle.schema.proofs.Views.{nameOf, schema-view, free-entity}
 
 abbrev isNamed : List ℕ → EntityType → Bool
@@ -38,6 +37,9 @@ module _ (s name : List ℕ) (o : Option EntityType) where
   pub entity-none : (n at : ℕ) → n ≤ 0 → Entities s name o n at → FindsEntity s o Found.Absent
   entity-none n at h l = search-over nameOf entityType (isNamed name) noEntity s o n at h l
 
+  pub entity-stands : (n at : ℕ) → 0 < n → Entities s name o n at → isEntity s at ≡ true
+  entity-stands n at h l = search-stands nameOf entityType (isNamed name) noEntity s o (free-entity s) n at h l
+
   module _ (n at : ℕ) (h : 0 < n) (l : Entities s name o n at) (w : List ℕ) (is-w : w ≡ wordAt s at) (b : Bool) (is-b : b ≡ same w name) where
     tested : (e : EntityType) (m : ℕ) → entityType none s at ≡ got e m → isNamed name e ≡ b
     tested e m i = ap (λ (v : List ℕ). same v name) (entity-word none s at i ∙ sym is-w) ∙ sym is-b
@@ -45,11 +47,7 @@ module _ (s name : List ℕ) (o : Option EntityType) where
     pub entity-found : b ≡ true → FindsEntity s o (Found.At at)
     entity-found e = search-found nameOf entityType (isNamed name) noEntity s o (free-entity s) n at h l b tested e
 
-    module _ (e : b ≡ false) (x : Read) (is : x ≡ ending (entityType none s at)) where
-      pub entity-stuck : (r : ℕ) → x ≡ Refused r → FindsEntity s o Found.Absent
-      entity-stuck r f = search-stuck nameOf entityType (isNamed name) noEntity s o (free-entity s) n at h l b tested e x is r f
+    pub entity-on : b ≡ false → (m : ℕ) → Next m ≡ ending (entityType none s at) → Entities s name o (n - 1) m
+    entity-on e m f = search-on nameOf entityType (isNamed name) noEntity s o (free-entity s) n at h l b tested e m f
 
-      pub entity-on : (m : ℕ) → x ≡ Next m → Entities s name o (n - 1) m
-      entity-on m f = search-on nameOf entityType (isNamed name) noEntity s o (free-entity s) n at h l b tested e x is m f
-
-pub ruleset entities = (needs, entities-start, entity-none, entity-found, entity-stuck, entity-on)
+pub ruleset entities = (needs, entities-start, entity-none, entity-stands, entity-found, entity-on)

@@ -11,13 +11,12 @@ use borrow.Author.Needs.{needs}
 use Rattle.names.specs.Fields.{got, u8, levels}
 use Rattle.names.specs.Names.{plain, same}
 use Rattle.names.specs.Read.{ending, wordAt}
-use Rattle.names.specs.declared.Read.{Read}
-use Rattle.names.specs.declared.Read.the-variants.{Next, Refused}
-use Rattle.names.proofs.Laws.{u8-view, string-view, split, accept, is-accepted, has-value, arrives, not-refused, got-value}
+use Rattle.names.specs.declared.Read.the-variants.{Next}
+use Rattle.names.proofs.Laws.{u8-view, string-view, split, accept, is-accepted, has-value, arrives, got-value}
 use Rattle.schema.specs.declared.Found.the-variants as Found
 use Rattle.schema.specs.Schema.{Declared, Attributes, nothing, ascending, typeAt, attributes, attributesOf}
 use Rattle.schema.specs.Find.{findAttribute}
-use Rattle.schema.specs.Places.{pastWord, fieldsIn, areFields, Finds}
+use Rattle.schema.specs.Places.{pastWord, isType, fieldsIn, areFields, Finds}
 use Rattle.schema.proofs.ByKind.{ascending-string}
 
 -- what is left of a row of attributes, n of them from `at`, answers as the whole row
@@ -70,6 +69,9 @@ module _ (s name : List ℕ) (o : Option Declared) where
     pub row-inside : pastWord s at ≤ length s
     row-inside = first n at h l .inside
 
+    pub row-typed : (p : ℕ) → p ≡ pastWord s at → isType s p ≡ true
+    row-typed p e = rw e (is-accepted (first n at h l .typed))
+
     module _ (p : ℕ) (e : p ≡ pastWord s at) (w : List ℕ) (is-w : w ≡ wordAt s at) (b : Bool) (is-b : b ≡ same w name) where
       typed : typeAt levels s p ≡ got (first n at h l .declared) (first n at h l .q)
       typed = ap (typeAt levels s) e ∙ first n at h l .typed
@@ -77,20 +79,16 @@ module _ (s name : List ℕ) (o : Option Declared) where
       pub row-found : b ≡ true → Finds s o (Found.At p)
       row-found f = record { value = ap some (has-value _ typed) ∙ rw (← is-w, ← is-b, f) at (first n at h l .answer); stands = is-accepted typed }
 
-      module _ (f : b ≡ false) (y : Read) (is-y : y ≡ ending (typeAt levels s p)) where
-        pub row-untyped : (r : ℕ) → y ≡ Refused r → Finds s o Found.Absent
-        row-untyped r g = absurd (not-refused typed is-y g)
-
-        pub row-on : (m : ℕ) → y ≡ Next m → Left s name o (n - 1) m
-        row-on m g =
-            let v = first n at h l in
-            record {
-              before = some (v .own);
-              fields = v .others;
-              place = v .place;
-              read = rw (arrives typed is-y g) (v .rest);
-              answer = rw (← is-w, ← is-b, f) at (v .answer);
-            }
+      pub row-on : b ≡ false → (m : ℕ) → Next m ≡ ending (typeAt levels s p) → Left s name o (n - 1) m
+      row-on f m g =
+          let v = first n at h l in
+          record {
+            before = some (v .own);
+            fields = v .others;
+            place = v .place;
+            read = rw (arrives typed g refl) (v .rest);
+            answer = rw (← is-w, ← is-b, f) at (v .answer);
+          }
 
 module _ (s : List ℕ) (at : ℕ) (are : areFields s at ≡ true) where
   pub fields-inside : at < length s
@@ -111,4 +109,4 @@ module _ (s : List ℕ) (at : ℕ) (are : areFields s at ≡ true) where
         answer = ap (λ (f : Attributes). findAttribute f name) (sym (has-value nothing (a .read)));
       }
 
-pub ruleset lookup = (needs, row-none, row-inside, row-found, row-untyped, row-on, fields-inside, fields-start)
+pub ruleset lookup = (needs, row-none, row-inside, row-typed, row-found, row-on, fields-inside, fields-start)

@@ -72,7 +72,7 @@ module _ (f g : Reader Declared) (wide : Wider f g) where
       go false h = let i = choose-above k f s at (leb-false k 10 h) in let z : _≡_ {A = ℕ} 0 1 = cc in absurd (omega arith)
 
 -- with no level left nothing is read
-none-left : (s : List ℕ) (at : ℕ) {t : Declared} {n : ℕ} → typeAt 0 s at ≡ got t n → ⊥
+pub none-left : (s : List ℕ) (at : ℕ) {t : Declared} {n : ℕ} → typeAt 0 s at ≡ got t n → ⊥
 unfolding typeAt
 none-left s at {t} {n} e = let a = split (u8 s at) _ e in go (leb (a .value) 10) (a .place) (a .rest)
   where

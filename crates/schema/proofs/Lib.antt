@@ -2,10 +2,12 @@
 pub mod ByKind
 pub mod Rows
 pub mod Levels
+pub mod Ahead
 pub mod Fields
 pub mod TypeViews
 pub mod Bases
 pub mod Views
+pub mod Passing
 pub mod Search
 pub mod Entities
 pub mod Among

@@ -6,9 +6,8 @@ use mathlib.Core.Option.{Option, none, some}
 use Prim.Native.Nat.{ℕ, _-_, _≤_, _<_}
 use Rattle.names.specs.Fields.{got, Reader}
 use Rattle.names.specs.Read.{ending, accepted, valueOr}
-use Rattle.names.specs.declared.Read.{Read}
-use Rattle.names.specs.declared.Read.the-variants.{Next, Refused}
-use Rattle.names.proofs.Laws.{Keeps, is-accepted, has-value, arrives, not-refused, RowLeft, RowFirst, row-first, row-over}
+use Rattle.names.specs.declared.Read.the-variants.{Next}
+use Rattle.names.proofs.Laws.{Keeps, is-accepted, has-value, arrives, RowLeft, RowFirst, row-first, row-over}
 use Rattle.schema.specs.declared.Found.{Found}
 use Rattle.schema.specs.declared.Found.the-variants as Found
 use Rattle.schema.specs.Places.{Answers}
@@ -21,24 +20,25 @@ module _ {A K : Type 0} (key : A → K) (f : Option K → Reader A) (test : A �
   pub search-over : (n at : ℕ) → n ≤ 0 → RowLeft key f test s o n at → Search Found.Absent
   search-over n at h l = record { value = row-over _ _ _ s o n at h l; stands = refl }
 
-  -- what is accepted after another is accepted as the first too; the code's test is the search's
-  module _ (free : (before : Option K) (at : ℕ) → Keeps (f before s at) (f none s at)) (n at : ℕ) (h : 0 < n) (l : RowLeft key f test s o n at) (b : Bool) (is-b : (a : A) (m : ℕ) → f none s at ≡ got a m → test a ≡ b) where
+  -- what is accepted after another is accepted as the first too
+  module _ (free : (before : Option K) (at : ℕ) → Keeps (f before s at) (f none s at)) (n at : ℕ) (h : 0 < n) (l : RowLeft key f test s o n at) where
     head : RowFirst key f test s o n at
     head = row-first _ _ _ s o n at h l
 
     here : f none s at ≡ got (head .own) (head .p)
     here = free (head .before) at (head .own) (head .p) (head .here)
 
-    tested : test (head .own) ≡ b
-    tested = is-b (head .own) (head .p) here
+    pub search-stands : accepted (f none s at) ≡ true
+    search-stands = is-accepted here
 
-    pub search-found : b ≡ true → Search (Found.At at)
-    search-found e = record { value = ap some (has-value other here) ∙ rw (tested ∙ e) at (head .answer); stands = is-accepted here }
+    -- the code's test is the search's
+    module _ (b : Bool) (is-b : (a : A) (m : ℕ) → f none s at ≡ got a m → test a ≡ b) where
+      tested : test (head .own) ≡ b
+      tested = is-b (head .own) (head .p) here
 
-    module _ (e : b ≡ false) (x : Read) (is : x ≡ ending (f none s at)) where
-      pub search-stuck : (r : ℕ) → x ≡ Refused r → Search Found.Absent
-      search-stuck r g = absurd (not-refused here is g)
+      pub search-found : b ≡ true → Search (Found.At at)
+      search-found e = record { value = ap some (has-value other here) ∙ rw (tested ∙ e) at (head .answer); stands = is-accepted here }
 
-      pub search-on : (m : ℕ) → x ≡ Next m → RowLeft key f test s o (n - 1) m
-      search-on m g =
-          record { before = some (key (head .own)); things = head .others; place = head .place; read = rw (arrives here is g) (head .rest); answer = rw (tested ∙ e) at (head .answer) }
+      pub search-on : b ≡ false → (m : ℕ) → Next m ≡ ending (f none s at) → RowLeft key f test s o (n - 1) m
+      search-on e m g =
+          record { before = some (key (head .own)); things = head .others; place = head .place; read = rw (arrives here g refl) (head .rest); answer = rw (tested ∙ e) at (head .answer) }

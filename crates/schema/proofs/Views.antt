@@ -6,16 +6,16 @@ use mathlib.Core.Option.{Option, none, some}
 use Prim.Native.Nat.{ℕ, zero, suc, _+_, _≤_, _<_}
 use lib.ListN.{length, getD, take, drop}
 use borrow.Author.Needs.{needs}
-use Rattle.names.specs.Fields.{got, heading, u8, u16, number, each, many, holds, stringOf, counted, levels}
+use Rattle.names.specs.Fields.{got, Reader, heading, u8, u16, number, each, many, holds, stringOf, counted, levels}
 use Rattle.names.specs.Names.{pathName, plain}
 use Rattle.names.specs.Read.{ending, row, Listed}
 use Rattle.names.specs.declared.Read.{Read}
 use Rattle.names.specs.declared.Read.the-variants.{Next, Refused}
-use Rattle.names.proofs.Laws.{Keeps, split, held, string-view, u8-view, accept, is-accepted, has-value, got-value, arrives, not-refused, next-wider, u16-value, u16-place, heading-place, finished-value, whole-read}
+use Rattle.names.proofs.Laws.{Keeps, split, held, string-view, u8-view, accept, is-accepted, has-value, got-value, got-place, arrives, not-refused, next-wider, u16-value, u16-place, heading-place, finished-value, whole-read}
 use Rattle.names.proofs.Row.{row-any, listed}
 use Rattle.schema.specs.Schema.{EntityType, Action, Key, Schema, never, nothing, after, ascending, typeAt, attributes, entityType, keyAfter, action, keyOf, schemaRecord}
 use Rattle.schema.specs.declared.Row.{Row}
-use Rattle.schema.specs.Places.{pastWord, areFields, fieldsIn, areNames, namesIn, isType, typeIn, schemaIn, isSchema, entityIn, isEntity, actionIn, isAction, Standing, ActionsOf}
+use Rattle.schema.specs.Places.{pastWord, areFields, fieldsIn, areNames, namesIn, isType, typeIn, schemaIn, isSchema, entityIn, isEntity, entitiesAt, areEntities, actionIn, isAction, Standing, ActionsOf}
 use Rattle.schema.proofs.ByKind.{ascending-string}
 
 abbrev pub nameOf : EntityType → List ℕ
@@ -81,16 +81,16 @@ schema-view s is =
     }
 
 -- Where the actions of a schema stand.
-module _ (s : List ℕ) (is : isSchema s ≡ true) (v : ℕ) (is-v : v ≡ number 0 (take 2 (drop 5 s))) (x : Read) (is-x : x ≡ ending (many nameOf entityType v none s 7)) where
+module _ (s : List ℕ) (is : isSchema s ≡ true) (v : ℕ) (is-v : v ≡ number 0 (take 2 (drop 5 s))) where
   entities-read : many nameOf entityType v none s 7 ≡ got (schema-view s is .es) (schema-view s is .p)
   entities-read = ap (λ (k : ℕ). many nameOf entityType k none s 7) is-v ∙ schema-view s is .entities
 
-  pub actions-unread : (r : ℕ) → x ≡ Refused r → (a : Row) → ActionsOf s a
-  actions-unread r e a = absurd (not-refused entities-read is-x e)
+  pub entities-stand : areEntities s v 7 ≡ true
+  entities-stand = is-accepted entities-read
 
-  module _ (p : ℕ) (e : x ≡ Next p) (y : Read) (is-y : y ≡ ending (u16 s p)) where
+  module _ (p : ℕ) (e : Next p ≡ ending (entitiesAt v s 7)) (y : Read) (is-y : y ≡ ending (u16 s p)) where
     count-read : u16 s p ≡ got (schema-view s is .count) (schema-view s is .q)
-    count-read = ap (u16 s) (arrives entities-read is-x e) ∙ schema-view s is .counted
+    count-read = ap (u16 s) (arrives entities-read e refl) ∙ schema-view s is .counted
 
     pub actions-uncounted : (r : ℕ) → y ≡ Refused r → (a : Row) → ActionsOf s a
     actions-uncounted r f a = absurd (not-refused count-read is-y f)
@@ -101,28 +101,29 @@ module _ (s : List ℕ) (is : isSchema s ≡ true) (v : ℕ) (is-v : v ≡ numbe
         let i : many keyOf action n none s q ≡ got (schema-view s is .acts) (schema-view s is .end) = ap₂ (λ (k m : ℕ). many keyOf action k none s m) c (arrives count-read is-y f) ∙ schema-view s is .actions in
         record { stands = is-accepted i; value = has-value [] i ∙ ap (λ (t : Schema). t .actions) (schema-view s is .tree) }
 
-pub ruleset actionRow = (needs, actions-unread, actions-uncounted, actions-there)
+pub ruleset actionRow = (needs, entities-stand, actions-uncounted, actions-there)
+
+-- A row in which each knows the one before is, accepted, a row of what stands there by itself.
+pub unkeyed : {A K : Type 0} (key : A → K) (f : Option K → Reader A) (g : Reader A) (s : List ℕ) → ((before : Option K) (at : ℕ) → Keeps (f before s at) (g s at)) → (n : ℕ) (before : Option K) (at : ℕ) → Keeps (many key f n before s at) (row g n s at)
+unfolding many
+unkeyed key f g s own zero before at a m e = e
+unkeyed key f g s own (suc n) before at a m e =
+    next-wider (f before s at) (g s at) _ _ (own before at)
+    (λ w p. next-wider (many key f n (some (key w)) s p) (many (λ v. v) (each g) n (some w) s p) _ _ (λ b q i. row-any g s n (some w) p ∙ unkeyed key f g s own n (some (key w)) p b q i) (λ _ _ _ _ i. i))
+    a m e
 
 -- A list of names in order, accepted: so many names stand after the count.
 module _ (s : List ℕ) where
-  unordered : (n : ℕ) (before : Option (List ℕ)) (at : ℕ) → Keeps (many (λ w. w) (ascending pathName) n before s at) (row (stringOf pathName) n s at)
-  unfolding many
-  unordered zero before at a m e = e
-  unordered (suc n) before at a m e =
-      next-wider (ascending pathName before s at) (stringOf pathName s at) _ _ (λ w p i. ascending-string pathName before s at i)
-      (λ w p. next-wider (many (λ w. w) (ascending pathName) n (some w) s p) (many (λ w. w) (each (stringOf pathName)) n (some w) s p) _ _ (λ b q i. row-any (stringOf pathName) s n (some w) p ∙ unordered n (some w) p b q i) (λ _ _ _ _ i. i))
-      a m e
-
   pub record NamesView (at : ℕ) (list : List (List ℕ)) (end : ℕ) : Type 0 where
     pub inside : at < length s
     pub read : row (stringOf pathName) (getD s at 0) s (at + 1) ≡ got list end
 
-  names-view : (at : ℕ) {list : List (List ℕ)} {end : ℕ} → counted (ascending pathName) s at ≡ got list end → NamesView at list end
+  pub names-view : (at : ℕ) {list : List (List ℕ)} {end : ℕ} → counted (ascending pathName) s at ≡ got list end → NamesView at list end
   unfolding counted
   names-view at {list} {end} e =
       let a = split (u8 s at) _ e in
       let u = u8-view s at (a .first) in
-      record { inside = u .0; read = rw (← u .1, ← u .2) (unordered (a .value) none (a .place) list end (a .rest)) }
+      record { inside = u .0; read = rw (← u .1, ← u .2) (unkeyed (λ w. w) (ascending pathName) (stringOf pathName) s (λ before p w m i. ascending-string pathName before s p i) (a .value) none (a .place) list end (a .rest)) }
 
   module _ (at : ℕ) (is : areNames s at ≡ true) where
     pub names-inside : at < length s
@@ -134,33 +135,26 @@ module _ (s : List ℕ) where
         let i : row (stringOf pathName) n s (at + 1) ≡ got (namesIn s at) (a .place) = rw (e, has-value [] (a .read)) (names-view at (a .read) .read) in
         listed (stringOf pathName) s n (at + 1) i
 
-    module _ (x : Read) (is-x : x ≡ ending (counted (ascending pathName) s at)) where
-      pub names-stuck : (r : ℕ) → x ≡ Refused r → Next at ≡ ending (counted (ascending pathName) s at)
-      names-stuck r e = absurd (not-refused (accept _ is .read) is-x e)
-
-      pub names-past : (n : ℕ) → x ≡ Next n → Next n ≡ ending (counted (ascending pathName) s at)
-      names-past n e = sym e ∙ is-x
-
-pub ruleset nameRows = (needs, names-inside, names-row, names-stuck, names-past)
+pub ruleset nameRows = (needs, names-inside, names-row)
 
 -- an entity type, accepted: its name, its ancestors and its attributes
-pub record EntityView (s : List ℕ) (at : ℕ) (e : EntityType) : Type 0 where
+pub record EntityView (s : List ℕ) (at : ℕ) (e : EntityType) (m : ℕ) : Type 0 where
   pub inside : pastWord s at ≤ length s
   pub q : ℕ
   pub below : counted (ascending pathName) s (pastWord s at) ≡ got (e .ancestors) q
-  pub m : ℕ
   pub fields : attributes (typeAt levels) s q ≡ got (e .attributes) m
 
-entity-view : (s : List ℕ) (at : ℕ) {e : EntityType} {n : ℕ} → entityType none s at ≡ got e n → EntityView s at e
+entity-view : (s : List ℕ) (at : ℕ) {e : EntityType} {n : ℕ} → entityType none s at ≡ got e n → EntityView s at e n
 unfolding entityType
 entity-view s at i =
     let a = split (ascending pathName none s at) _ i in
     let w = string-view pathName s at (ascending-string pathName none s at (a .first)) in
     let b = split (counted (ascending pathName) s (a .place)) _ (a .rest) in
     let d = split (attributes (typeAt levels) s (b .place)) _ (b .rest) in
-    let v : EntityView s at (record { name = a .value; ancestors = b .value; attributes = d .value }) =
-    record { inside = rw (← w .place) (w .inside); q = b .place; below = rw (← w .place) (b .first); m = d .place; fields = d .first } in
-    subst (λ (e : EntityType). EntityView s at e) (got-value (d .rest)) v
+    let v : EntityView s at (record { name = a .value; ancestors = b .value; attributes = d .value }) (d .place) =
+    record { inside = rw (← w .place) (w .inside); q = b .place; below = rw (← w .place) (b .first); fields = d .first } in
+    let u = subst (λ (e : EntityType). EntityView s at e (d .place)) (got-value (d .rest)) v in
+    rw (got-place (d .rest)) at u
 
 -- the same names, as a list in order and as the list of what holds them
 module _ (s : List ℕ) {q m : ℕ} (p : ℕ) {list : List (List ℕ)} (own : List (List ℕ)) (e : list ≡ own) (i : counted (ascending pathName) s q ≡ got list m) (j : p ≡ q) where
@@ -177,7 +171,7 @@ module _ (s : List ℕ) {q m : ℕ} (p : ℕ) {list : List (List ℕ)} (own : Li
   names-end r f = arrives there f refl
 
 module _ (s : List ℕ) (at : ℕ) (is : isEntity s at ≡ true) where
-  entity-there : EntityView s at (entityIn s at)
+  pub entity-there : EntityView s at (entityIn s at) (accept _ is .place)
   entity-there = let a = accept _ is in rw (has-value _ (a .read)) (entity-view s at (a .read))
 
   pub entity-inside : pastWord s at ≤ length s
@@ -192,23 +186,22 @@ module _ (s : List ℕ) (at : ℕ) (is : isEntity s at ≡ true) where
 
     pub fields-there : (r : ℕ) → Next r ≡ ending (counted (ascending pathName) s p) → Standing (areFields s) (fieldsIn s) (entityIn s at .attributes) r
     fields-there r f =
-        let i : attributes (typeAt levels) s r ≡ got (entityIn s at .attributes) (entity-there .m) = rw (names-end s p _ refl (entity-there .below) e r f) (entity-there .fields) in
+        let i : attributes (typeAt levels) s r ≡ got (entityIn s at .attributes) (accept _ is .place) = rw (names-end s p _ refl (entity-there .below) e r f) (entity-there .fields) in
         record { stands = is-accepted i; value = has-value nothing i }
 
 pub ruleset entityParts = (needs, entity-inside, ancestors-stand, ancestors-are, fields-there)
 
 -- an action, accepted: its type name and id, its principals, its resources and its context
-pub record ActionView (s : List ℕ) (at : ℕ) (a : Action) : Type 0 where
+pub record ActionView (s : List ℕ) (at : ℕ) (a : Action) (n : ℕ) : Type 0 where
   pub inside : pastWord s at ≤ length s
   pub known : pastWord s (pastWord s at) ≤ length s
   pub q : ℕ
   pub principals : counted (ascending pathName) s (pastWord s (pastWord s at)) ≡ got (a .principals) q
   pub m : ℕ
   pub resources : counted (ascending pathName) s q ≡ got (a .resources) m
-  pub n : ℕ
   pub context : typeAt levels s m ≡ got (a .context) n
 
-action-view : (s : List ℕ) (at : ℕ) {a : Action} {n : ℕ} → action none s at ≡ got a n → ActionView s at a
+action-view : (s : List ℕ) (at : ℕ) {a : Action} {n : ℕ} → action none s at ≡ got a n → ActionView s at a n
 unfolding action
 action-view s at i =
     let a = split (stringOf pathName s at) _ i in
@@ -220,7 +213,7 @@ action-view s at i =
     let d = split (counted (ascending pathName) s (o .place)) _ (o .rest) in
     let f = split (counted (ascending pathName) s (d .place)) _ (d .rest) in
     let g = split (typeAt levels s (f .place)) _ (f .rest) in
-    let v : ActionView s at (record { type = a .value; id = b .value; principals = d .value; resources = f .value; context = g .value }) =
+    let v : ActionView s at (record { type = a .value; id = b .value; principals = d .value; resources = f .value; context = g .value }) (g .place) =
     record {
       inside = rw (← t .place) (t .inside);
       known = rw (← ap (pastWord s) (t .place), ← w .place) (w .inside);
@@ -228,13 +221,13 @@ action-view s at i =
       principals = rw (← here) (d .first);
       m = f .place;
       resources = f .first;
-      n = g .place;
       context = g .first;
     } in
-    subst (λ (e : Action). ActionView s at e) (got-value (g .rest)) v
+    let u = subst (λ (e : Action). ActionView s at e (g .place)) (got-value (g .rest)) v in
+    rw (got-place (g .rest)) at u
 
 module _ (s : List ℕ) (at : ℕ) (is : isAction s at ≡ true) where
-  action-there : ActionView s at (actionIn s at)
+  pub action-there : ActionView s at (actionIn s at) (accept _ is .place)
   action-there = let a = accept _ is in rw (has-value _ (a .read)) (action-view s at (a .read))
 
   pub type-inside : pastWord s at ≤ length s
@@ -262,7 +255,7 @@ module _ (s : List ℕ) (at : ℕ) (is : isAction s at ≡ true) where
 
     pub context-there : (r : ℕ) → Next r ≡ ending (counted (ascending pathName) s p) → Standing (isType s) (typeIn s) (actionIn s at .context) r
     context-there r f =
-        let i : typeAt levels s r ≡ got (actionIn s at .context) (action-there .n) = rw (names-end s p _ refl (action-there .resources) resources-at r f) (action-there .context) in
+        let i : typeAt levels s r ≡ got (actionIn s at .context) (accept _ is .place) = rw (names-end s p _ refl (action-there .resources) resources-at r f) (action-there .context) in
         record { stands = is-accepted i; value = has-value never i }
 
 pub two-on : (s : List ℕ) (at p r : ℕ) → p ≡ pastWord s at → r ≡ pastWord s p → r ≡ pastWord s (pastWord s at)

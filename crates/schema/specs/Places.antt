@@ -1,13 +1,13 @@
 -- What positions of a schema's bytes stand for, and what the answers of the lookups mean.
-use Prim.Native.Nat.{ℕ, _+_, _<_}
+use Prim.Native.Nat.{ℕ, _+_, _≤_, _<_}
 use mathlib.Core.Path.{_≡_}
 use mathlib.Core.Bool.{Bool, true, false, _&&_}
 use mathlib.Core.List.{List, []}
 use mathlib.Core.Option.{Option, none, some}
 use lib.ListN.{length, getD, drop}
-use Rattle.names.specs.Fields.{levels, whole, many, counted, stringOf}
-use Rattle.names.specs.Names.{same, pathName, joined}
-use Rattle.names.specs.Read.{wordAt, accepted, valueOr, isRow, rowIn}
+use Rattle.names.specs.Fields.{Reader, _>>=_, levels, whole, many, counted, stringOf}
+use Rattle.names.specs.Names.{same, plain, pathName, joined}
+use Rattle.names.specs.Read.{wordAt, ending, accepted, valueOr, row, isRow, rowIn}
 use Rattle.names.specs.declared.Before.{Before}
 use Rattle.names.specs.declared.Before.the-variants.{Nothing, At}
 use Rattle.schema.specs.Schema.{Key, Declared, Attributes, EntityType, Action, Schema, never, nothing, ascending, typeAt, attributes, entityType, action, keyOf, schemaRecord}
@@ -73,6 +73,33 @@ schemaIn s = valueOr (record { entities = []; actions = [] }) (whole schemaRecor
 
 abbrev pub isSchema : List ℕ → Bool
 isSchema s = accepted (whole schemaRecord s)
+
+-- so many entity types from a position
+abbrev pub entitiesAt : ℕ → Reader (List EntityType)
+entitiesAt n = many (λ e. e .name) entityType n none
+
+abbrev pub areEntities : List ℕ → ℕ → ℕ → Bool
+areEntities s n at = accepted (entitiesAt n s at)
+
+-- an attribute by itself: its name and its type
+unfoldable pub attributeAt : Reader Declared
+attributeAt = do
+  _ ← stringOf plain
+  typeAt levels
+
+-- the type below the sets around another, which end where it does
+pub record Below (s : List ℕ) (start at : ℕ) : Type 0 where
+  pub stands : isType s at ≡ true
+  pub ends : ending (typeAt levels s start) ≡ ending (typeAt levels s at)
+  pub behind : start ≤ at
+
+-- what stands in a type behind its first bytes: so many attributes from a position, which end where it does
+pub record Inside (s : List ℕ) (at : ℕ) (r : Row) : Type 0 where
+  pub stands : isRow attributeAt s (r .count) (r .at) ≡ true
+  pub ends : ending (typeAt levels s at) ≡ ending (row attributeAt (r .count) s (r .at))
+  pub few : r .count < 256
+  pub ahead : at < r .at
+  pub within : r .at ≤ length s
 
 -- What a lookup's answer means: what stands at the position, or none.
 abbrev pub foundIn : {A : Type 0} → (ℕ → A) → Found → Option A

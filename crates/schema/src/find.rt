@@ -4,13 +4,11 @@ use crate::Namespace;
 use crate::Row;
 use crate::parts::actions;
 use crate::parts::ancestors;
-use crate::parts::count_at;
-use crate::read::read_action;
-use crate::read::read_entity;
-use crate::read::read_type;
+use crate::past::count_at;
+use crate::past::past_action;
+use crate::past::past_entity;
+use crate::past::past_type;
 use crate::rich::kind_at;
-use names::Before;
-use names::Read;
 ghost use mathlib.Core.Path.{_≡_};
 ghost use mathlib.Core.Bool.{true, _&&_};
 ghost use mathlib.Core.List.{List, _∷_, _++_};
@@ -36,11 +34,7 @@ pub fn attribute(s: &[u8], start: usize, name: &[u8]) -> Found
         if names::same(names::word(s, at), name) {
             return Found::At(n);
         }
-        let declared = read_type(s, n, 32);
-        let Read::Next(m) = declared else {
-            return Found::Absent;
-        };
-        at = m;
+        at = past_type(s, n);
         left -= 1;
     }
     Found::Absent
@@ -69,11 +63,7 @@ pub fn entity(s: &[u8], name: &[u8]) -> Found
         if names::same(names::word(s, at), name) {
             return Found::At(at);
         }
-        let own = read_entity(s, at, Before::Nothing);
-        let Read::Next(n) = own else {
-            return Found::Absent;
-        };
-        at = n;
+        at = past_entity(s, at);
         rest -= 1;
     }
     Found::Absent
@@ -205,11 +195,7 @@ pub fn action_among(s: &[u8], row: Row, n: &[u8], namespace: Namespace, id: &[u8
         if is_action(s, at, n, namespace, id) {
             return Found::At(at);
         }
-        let own = read_action(s, at, Before::Nothing);
-        let Read::Next(m) = own else {
-            return Found::Absent;
-        };
-        at = m;
+        at = past_action(s, at);
         rest -= 1;
     }
     Found::Absent

@@ -1,6 +1,7 @@
 // The schema record: which bytes are one, and what is looked up in it.
 mod find;
 mod parts;
+mod past;
 mod read;
 mod rich;
 

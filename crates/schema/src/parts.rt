@@ -1,26 +1,17 @@
 // Where the parts of a schema that was read stand: its actions, what an entity type and an action are made of.
 use crate::Row;
-use crate::read::read_entities;
-use crate::read::read_names;
+use crate::past::count_at;
+use crate::past::past_entities;
+use crate::past::past_names;
 use names::Read;
 ghost use mathlib.Core.Path.{_≡_};
 ghost use mathlib.Core.Bool.{true};
-ghost use Prim.Native.Nat.{_<_};
-ghost use lib.ListN.{length};
 ghost use Rattle.names.specs.Fields.{counted, stringOf};
 ghost use Rattle.names.specs.Names.{pathName};
 ghost use Rattle.names.specs.Read.{ending, Listed};
 ghost use Rattle.names.specs.declared.Read.the-variants.{Next};
 ghost use Rattle.schema.specs.Schema.{ascending};
-ghost use Rattle.schema.specs.Places.{areFields, fieldsIn, areNames, namesIn, isType, typeIn, isSchema, isEntity, entityIn, isAction, actionIn, Standing, Opened, ActionsOf, pastWord};
-
-// The count that stands at `at`.
-pub fn count_at(s: &[u8], at: usize) -> usize
-    requires { ⌜ at < length (now s) ⌝ }
-    ensures { λ r. ⌜ Opened (now (s .entry)) at r ⌝ }
-{
-    names::wide(s[at])
-}
+ghost use Rattle.schema.specs.Places.{areFields, fieldsIn, areNames, namesIn, isType, typeIn, isSchema, isEntity, entityIn, isAction, actionIn, Standing, ActionsOf, pastWord};
 
 // The names of a list in order: how many, and from where on.
 fn row_at(s: &[u8], at: usize) -> Row
@@ -29,18 +20,6 @@ fn row_at(s: &[u8], at: usize) -> Row
 {
     let count = count_at(s, at);
     Row { count, at: at + 1 }
-}
-
-// The position after a list of names in order.
-fn past_names(s: &[u8], at: usize) -> usize
-    requires { ⌜ areNames (now s) at ≡ true ⌝ }
-    ensures { λ r. ⌜ Next r ≡ ending (counted (ascending pathName) (now (s .entry)) at) ⌝ }
-{
-    let list = read_names(s, at);
-    let Read::Next(n) = list else {
-        return at;
-    };
-    n
 }
 
 // The names that an entity type lists as its ancestors.
@@ -110,10 +89,7 @@ pub fn actions(s: &[u8]) -> Row
     requires { ⌜ isSchema (now s) ≡ true ⌝ }
     ensures { λ r. ⌜ ActionsOf (now (s .entry)) r ⌝ }
 {
-    let entities = read_entities(s, 7, names::u16_at(s, 5));
-    let Read::Next(p) = entities else {
-        return Row { count: 0, at: 0 };
-    };
+    let p = past_entities(s, 7, names::u16_at(s, 5));
     let number = names::read_u16(s, p);
     let Read::Next(at) = number else {
         return Row { count: 0, at: 0 };

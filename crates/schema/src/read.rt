@@ -36,7 +36,7 @@ fn read_name(s: &[u8], at: usize, class: Class, before: Before) -> Read
 }
 
 // The type whose first byte stands at `at`, with so many levels left.
-pub fn read_type(s: &[u8], at: usize, left: usize) -> Read
+fn read_type(s: &[u8], at: usize, left: usize) -> Read
     ensures { λ r. ⌜ r ≡ ending (typeAt left (now (s .entry)) at) ⌝ }
 {
     if s.len() <= at {
@@ -65,7 +65,7 @@ pub fn read_type(s: &[u8], at: usize, left: usize) -> Read
 }
 
 // A count of attributes and the attributes.
-pub fn read_attributes(s: &[u8], start: usize, left: usize) -> Read
+fn read_attributes(s: &[u8], start: usize, left: usize) -> Read
     ensures { λ r. ⌜ r ≡ ending (attributes (typeAt left) (now (s .entry)) start) ⌝ }
 {
     if s.len() <= start {
@@ -91,7 +91,7 @@ pub fn read_attributes(s: &[u8], start: usize, left: usize) -> Read
 }
 
 // A count of path names and the names, ascending.
-pub fn read_names(s: &[u8], start: usize) -> Read
+fn read_names(s: &[u8], start: usize) -> Read
     ensures { λ r. ⌜ r ≡ ending (counted (ascending pathName) (now (s .entry)) start) ⌝ }
 {
     if s.len() <= start {
@@ -113,7 +113,7 @@ pub fn read_names(s: &[u8], start: usize) -> Read
 }
 
 // An entity type, after the one before it.
-pub fn read_entity(s: &[u8], at: usize, before: Before) -> Read
+fn read_entity(s: &[u8], at: usize, before: Before) -> Read
     ensures { λ r. ⌜ r ≡ ending (entityType (earlier (now (s .entry)) before) (now (s .entry)) at) ⌝ }
 {
     let name = read_name(s, at, Class::PathName, before);
@@ -127,7 +127,7 @@ pub fn read_entity(s: &[u8], at: usize, before: Before) -> Read
     read_attributes(s, m, 32)
 }
 
-pub fn read_entities(s: &[u8], start: usize, count: usize) -> Read
+fn read_entities(s: &[u8], start: usize, count: usize) -> Read
     ensures { λ r. ⌜ r ≡ ending (many (λ e. e .name) entityType count none (now (s .entry)) start) ⌝ }
 {
     let mut rest = count;
@@ -170,7 +170,7 @@ fn key_below(s: &[u8], p: usize, at: usize) -> bool
 }
 
 // An action, after the one before it.
-pub fn read_action(s: &[u8], at: usize, before: Before) -> Read
+fn read_action(s: &[u8], at: usize, before: Before) -> Read
     ensures { λ r. ⌜ r ≡ ending (action (earlierKey (now (s .entry)) before) (now (s .entry)) at) ⌝ }
 {
     let name = names::read_string(s, at, Class::PathName);
@@ -195,7 +195,7 @@ pub fn read_action(s: &[u8], at: usize, before: Before) -> Read
     Read::Refused(8)
 }
 
-pub fn read_actions(s: &[u8], start: usize, count: usize) -> Read
+fn read_actions(s: &[u8], start: usize, count: usize) -> Read
     ensures { λ r. ⌜ r ≡ ending (many keyOf action count none (now (s .entry)) start) ⌝ }
 {
     let mut rest = count;
