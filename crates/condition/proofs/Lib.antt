@@ -9,6 +9,7 @@ pub mod Opens
 pub mod Filling
 pub mod ByPlace
 pub mod Pieces
+pub mod Strings
 pub mod Bindings
 pub mod Aggregates
 pub mod Examples

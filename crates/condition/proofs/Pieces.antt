@@ -11,8 +11,6 @@ use borrow.Author.Tests.{eq-eqb, ne-eqb}
 use lib.ListN.{length, getD, take, drop}
 use Rattle.names.specs.declared.Read.{Read}
 use Rattle.names.specs.declared.Read.the-variants.{Next, Refused}
-use Rattle.names.specs.declared.Class.the-variants.{PathName}
-use Rattle.names.specs.Class.{classOf}
 use Rattle.names.specs.Fields.{Got, got, bad, Reader, u8, number, stringOf, each, counted, choose, levels}
 use Rattle.names.specs.Names.{plain, pathName, identifier, lastOf}
 use Rattle.names.specs.Paths.{pathOf}
@@ -38,7 +36,7 @@ use Rattle.condition.proofs.Filling.{condition-value, term-there, term-
 
 -- The place behind path names and behind a path.
 module _ (s : List ℕ) (at : ℕ) (x : Read) (n : ℕ) where
-  pub skipped-names : accepted (counted (each (stringOf pathName)) s at) ≡ true → x ≡ ending (counted (each (stringOf (classOf PathName))) s at) → n ≡ placeOf at x → Skipped (counted (each (stringOf pathName)) s at) at n
+  pub skipped-names : accepted (counted (each (stringOf pathName)) s at) ≡ true → x ≡ ending (counted (each (stringOf pathName)) s at) → n ≡ placeOf at x → Skipped (counted (each (stringOf pathName)) s at) at n
   skipped-names = skipped (forward-counted (stringOf pathName) (forward-string pathName)) s at x n
 
   pub skipped-path : isPath s at ≡ true → x ≡ ending (pathOf s at) → n ≡ placeOf at x → Skipped (pathOf s at) at n
@@ -509,7 +507,7 @@ module _ (s : List ℕ) (start : ℕ) where
         let e = row-empty (stringOf identifier) s (n - 1) (o .p) (omega arith) (o .rest) in
         sym (string-view identifier s at (o .here) .word) ∙ sym (ap lastOf (o .all ∙ ap (λ l. o .own ∷ l) e)) ∙ left .same
 
-pub ruleset pieces = (needs, skipped-names, skipped-path, four-bytes, span-room, span-here, own-room, own-here, timepoint-here, binder-here, aggregate-room, aggregate-span-here, comparison-left, comparison-index, comparison-parts, arith-left, arith-parts, entity-here, var-here, context-here, scope-here, path-index, path-listed, segments-index, segments-listed, elements-index, elements-parts, element-stands, element-parts, summand-here, sum-declares, count-declares, slot-index, slot-name, slot-param, slot-binder)
+pub ruleset pieces = (needs, four-bytes, span-room, span-here, own-room, own-here, timepoint-here, binder-here, aggregate-room, aggregate-span-here, comparison-left, comparison-index, comparison-parts, arith-left, arith-parts, entity-here, var-here, context-here, scope-here, path-index, path-listed, segments-index, segments-listed, elements-index, elements-parts, element-stands, element-parts, summand-here, sum-declares, count-declares, slot-index, slot-name, slot-param, slot-binder)
 
 pub ruleset predicates-parts = (needs, names-stand, names-index, action-inside, arguments-index, predicate-parts)
 

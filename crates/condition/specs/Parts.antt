@@ -6,7 +6,7 @@ use mathlib.Core.Option.{Option, none, some}
 use Prim.Native.Nat.{ℕ, _+_, _-_, _≤_, _<_}
 use lib.ListN.{getD, take, drop}
 use Rattle.names.specs.Lists.{gather}
-use Rattle.names.specs.Fields.{levels, number, stringOf, each, counted}
+use Rattle.names.specs.Fields.{Reader, levels, number, stringOf, each, counted}
 use Rattle.names.specs.Names.{plain, pathName, identifier}
 use Rattle.names.specs.Read.{accepted, valueOr, wordAt, Listed, isRow, rowIn}
 use Rattle.condition.specs.declared.Ends.{Ends}
@@ -150,6 +150,10 @@ abbrev pub isBound : Bound → Bool
 isBound (Segments p) = true
 isBound Timepoint = true
 isBound Nothing = false
+
+-- strings of whatever class, behind their count
+unfoldable pub stringsAt : Reader (List (List ℕ))
+stringsAt = counted (each (stringOf (λ w. true)))
 
 -- so many terms in a row, and their aggregates in order
 abbrev pub isTerms : List ℕ → ℕ → ℕ → Bool

@@ -32,7 +32,6 @@ use crate::read::read_binders;
 use crate::read::read_slot;
 use crate::read::read_subcondition;
 use crate::read::read_term;
-use names::Class;
 use names::Read;
 ghost use mathlib.Core.Path.{_≡_};
 ghost use mathlib.Core.Bool.{true, false};
@@ -41,12 +40,13 @@ ghost use lib.ListN.{length, getD, take, drop};
 ghost use Rattle.names.specs.Fields.{each, counted, stringOf, number, levels};
 ghost use Rattle.names.specs.Names.{plain, pathName, identifier, lastOf};
 ghost use Rattle.names.specs.Paths.{pathOf};
-ghost use Rattle.names.specs.Read.{accepted, wordAt, Listed};
+ghost use Rattle.names.specs.Read.{accepted, ending, wordAt, Listed};
+ghost use Rattle.names.specs.declared.Read.the-variants.{Next};
 ghost use Rattle.condition.specs.Condition.{entity, contextField, scopeField, var, slot, binder, conditionAt, termAt};
 ghost use Rattle.condition.specs.Places.{isCondition, conditionIn, isTerm, termIn, isAggregate, aggregateIn, isArguments, isElements, isPath, pathIn, isSlot, slotIn, isBinder};
 ghost use Rattle.condition.specs.Kinds.{kindOf, spanOf, ownSpanOf, oneKind, twoKind, termKindOf, aggregateKindOf, aggregateSpanOf};
 ghost use Rattle.condition.specs.Open.{placeOf, Skipped, Opened, TermOpened, AggregateOpened, AggregateHere, BodyHere};
-ghost use Rattle.condition.specs.Parts.{EndsHere, Spans, ComparisonHere, ArithHere, PredicateHere, ArgumentHere, TimepointHere, ExistsHere, ElementsHere, ElementHere, PathHere, SummandHere, BindersHere, isBinders, slotOf, segmentsIn, SegmentsHere};
+ghost use Rattle.condition.specs.Parts.{EndsHere, Spans, ComparisonHere, ArithHere, PredicateHere, ArgumentHere, TimepointHere, ExistsHere, ElementsHere, ElementHere, PathHere, SummandHere, BindersHere, isBinders, slotOf, segmentsIn, SegmentsHere, stringsAt};
 
 // The place behind what was read; `other` where it was refused.
 fn place_of(r: Read, other: usize) -> usize
@@ -80,18 +80,32 @@ pub fn past_binders(s: &[u8], at: usize) -> usize
     place_of(read_binders(s, at), at)
 }
 
+// Strings of whatever class, whose count stands at `start`, are passed by their lengths.
+fn past_strings(s: &[u8], start: usize) -> usize
+    requires { ⌜ accepted (stringsAt (now s) start) ≡ true ⌝ }
+    ensures { λ n. ⌜ Next n ≡ ending (stringsAt (now (s .entry)) start) ⌝ }
+{
+    let mut at = start + 1;
+    let mut left = names::wide(s[start]);
+    while 0 < left {
+        at = names::past_word(s, at);
+        left -= 1;
+    }
+    at
+}
+
 fn past_names(s: &[u8], at: usize) -> usize
     requires { ⌜ accepted (counted (each (stringOf pathName)) (now s) at) ≡ true ⌝ }
     ensures { λ n. ⌜ Skipped (counted (each (stringOf pathName)) (now (s .entry)) at) at n ⌝ }
 {
-    place_of(names::read_strings(s, at, Class::PathName), at)
+    past_strings(s, at)
 }
 
 fn past_path(s: &[u8], at: usize) -> usize
     requires { ⌜ isPath (now s) at ≡ true ⌝ }
     ensures { λ n. ⌜ Skipped (pathOf (now (s .entry)) at) at n ⌝ }
 {
-    place_of(names::read_path(s, at), at)
+    past_strings(s, at)
 }
 
 pub fn past_condition(s: &[u8], at: usize) -> usize
@@ -105,6 +119,20 @@ pub fn past_term(s: &[u8], at: usize) -> usize
     requires { ⌜ isTerm (now s) at ≡ true ⌝ }
     ensures { λ n. ⌜ Skipped (termAt levels false (now (s .entry)) at) at n ⌝ }
 {
+    let kind = term_kind_at(s, at);
+    let next = at + 1;
+    if kind == 8 {
+        return names::past_word(s, next);
+    }
+    if kind == 1 {
+        return names::past_word(s, next);
+    }
+    if kind == 6 {
+        return past_path(s, next);
+    }
+    if kind == 7 {
+        return past_path(s, next);
+    }
     place_of(read_term(s, at, 32, false), at)
 }
 
