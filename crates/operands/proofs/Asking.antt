@@ -13,8 +13,9 @@ use Rattle.names.specs.declared.Read.the-variants as Read
 use Rattle.names.proofs.Laws.{accept, passes, refused-by, refuses}
 use Rattle.schema.specs.Schema.{schemaRecord}
 use Rattle.schema.specs.Find.{findAction}
-use Rattle.schema.specs.Places.{schemaIn, isAction, actionIn, foundIn, foundStands, FindsAction}
+use Rattle.schema.specs.Places.{schemaIn, isAction, actionIn, foundIn, foundStands, FindsAction, ActionsOf}
 use Rattle.schema.specs.declared.Found.{Found}
+use Rattle.schema.specs.declared.Row.{Row}
 use Rattle.targets.specs.Targets.{targetRecord}
 use Rattle.targets.specs.PathRecord.{targetAt}
 use Rattle.targets.specs.Places.{targetsIn, isTarget, targetIn, FindsTarget}
@@ -96,13 +97,13 @@ pub ruleset comparing = (needs, root-stands, no-comparison, a-comparison, operan
 
 -- ---- the facts of a target
 
-module _ (s c n : List ℕ) (read : Records s c n) (found : Found) (stands : foundStands (isAction s) found ≡ true) (all : Bool) (f : Facts) (k : FactsOf n found all f) where
-  pub facts-known : (places env : List ℕ) → Index c places → Environment c (binders (recordIn c)) all env → Known s c places env f
-  facts-known places env x e = record { schema = read .schema; condition = read .condition; index = x; named = rw (k .named) e; action = rw (k .action) stands }
+module _ (s c n : List ℕ) (read : Records s c n) (found : Found) (stands : foundStands (isAction s) found ≡ true) (all : Bool) (row : Row) (f : Facts) (k : FactsOf n found (record { complete = all; actions = row }) f) where
+  pub facts-known : (places env : List ℕ) → Index c places → Environment c (binders (recordIn c)) all env → ActionsOf s row → Known s c places env f
+  facts-known places env x e g = record { schema = read .schema; condition = read .condition; index = x; named = rw (k .shared) e; action = rw (k .action) stands; actions = rw (k .shared) g }
 
   pub facts-answered : (which : Operand) (b : List ℕ) (a : Answer) (t : List ℕ) → outcomeOf a t ≡ answered which (factsIn s c n f) b
       → outcomeOf a t ≡ answered which (factsOf (schemaIn s) (recordIn c) (targetsIn n .scope) (foundIn (actionIn s) found)) b
-  facts-answered which b a t i = rw (facts-mean s c n found all f k) at i
+  facts-answered which b a t i = rw (facts-mean s c n found (record { complete = all; actions = row }) f k) at i
 
 pub ruleset by-action = (needs, length-take-le, facts-known, facts-answered)
 

@@ -6,6 +6,7 @@ use condition::ComparisonAt;
 use names::Read;
 use schema::Found;
 use schema::Namespace;
+use terms::Common;
 use terms::Facts;
 ghost use mathlib.Core.Path.{_≡_};
 ghost use mathlib.Core.Bool.{true};
@@ -72,7 +73,11 @@ fn over_places<'a>(
     let mut table = [0u16; 6560];
     let known = condition::environment(condition, places, &mut table);
     let k = known.count;
-    let facts = terms::facts_of(targets, own, known.whole);
+    let common = Common {
+        complete: known.whole,
+        actions: schema::actions(schema),
+    };
+    let facts = terms::facts_of(targets, own, common);
     under_facts(
         schema,
         condition,

@@ -1,6 +1,6 @@
 -- The types of terms under the facts of a target. Assumes nothing.
 use mathlib.Core.Path.{_≡_, refl, sym, ap, _∙_}
-use mathlib.Core.Bool.{Bool, true, false}
+use mathlib.Core.Bool.{true, false}
 use mathlib.Core.List.{List}
 use mathlib.Core.Option.{Option, none, some}
 use Prim.Native.Nat.{ℕ}
@@ -38,20 +38,21 @@ use Rattle.terms.specs.Bounds.{Within}
 use Rattle.terms.specs.Facts.{factsIn, FactsOf, NameTyped}
 use Rattle.terms.specs.Literals.{plain, TypedAt}
 use Rattle.terms.specs.Answers.{AnnotationTyped, TypedBy, TypeOf, SegmentsOf}
+use Rattle.terms.specs.declared.Common.{Common}
 use Rattle.terms.specs.declared.Facts.{Facts}
 use Rattle.terms.specs.declared.Element.{Element}
 use Rattle.terms.proofs.Fields.{action-stands}
 use Rattle.terms.proofs.Roots.{nothing-typed}
 
 -- the facts of a target
-pub facts-made : (n : List ℕ) (found : Found) (all : Bool) (p r : Narrowed) → narrowed n p ≡ targetsIn n .scope .principal → narrowed n r ≡ targetsIn n .scope .resource → FactsOf n found all (record { action = found; principal = p; resource = r; complete = all })
-facts-made n found all p r e f = record { action = refl; named = refl; scope = rw (e, f) }
+pub facts-made : (n : List ℕ) (found : Found) (common : Common) (p r : Narrowed) → narrowed n p ≡ targetsIn n .scope .principal → narrowed n r ≡ targetsIn n .scope .resource → FactsOf n found common (record { action = found; principal = p; resource = r; common = common })
+facts-made n found common p r e f = record { action = refl; shared = refl; scope = rw (e, f) }
 
 pub ruleset making = (needs, facts-made)
 
 -- what they are in the definitions
-pub facts-mean : (s c n : List ℕ) (found : Found) (all : Bool) (f : Facts) → FactsOf n found all f → factsIn s c n f ≡ factsOf (schemaIn s) (recordIn c) (targetsIn n .scope) (foundIn (actionIn s) found)
-facts-mean s c n found all f k = λ i. record { schema = schemaIn s; scope = k .scope i; action = foundIn (actionIn s) (k .action i); whole = recordIn c }
+pub facts-mean : (s c n : List ℕ) (found : Found) (common : Common) (f : Facts) → FactsOf n found common f → factsIn s c n f ≡ factsOf (schemaIn s) (recordIn c) (targetsIn n .scope) (foundIn (actionIn s) found)
+facts-mean s c n found common f k = λ i. record { schema = schemaIn s; scope = k .scope i; action = foundIn (actionIn s) (k .action i); whole = recordIn c }
 
 -- Under a declared action, and under none.
 module _ (s c : List ℕ) (at : ℕ) (facts : Facts) where

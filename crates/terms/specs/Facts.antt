@@ -1,9 +1,9 @@
 -- The facts of a target in the code: with the bytes of the schema, the condition and the target record they are the definitions' facts.
 use Prim.Native.Nat.{ℕ}
 use mathlib.Core.Path.{_≡_}
-use mathlib.Core.Bool.{Bool, true}
+use mathlib.Core.Bool.{true}
 use mathlib.Core.List.{List}
-use Rattle.schema.specs.Places.{isSchema, schemaIn, isAction, actionIn, foundIn, foundStands}
+use Rattle.schema.specs.Places.{isSchema, schemaIn, isAction, actionIn, foundIn, foundStands, ActionsOf}
 use Rattle.targets.specs.Targets.{Scope}
 use Rattle.targets.specs.Places.{narrowed, targetsIn}
 use Rattle.condition.specs.Places.{isRecord, recordIn}
@@ -13,6 +13,7 @@ use Rattle.condition.specs.Environment.{Environment}
 use Rattle.schema.specs.declared.Found.{Found}
 use Rattle.resolution.specs.Places.{typedOf, smallType}
 use Rattle.resolution.specs.declared.Typed.{Typed}
+use Rattle.terms.specs.declared.Common.{Common}
 use Rattle.terms.specs.declared.Facts.{Facts}
 use Rattle.terms.specs.Terms as Terms
 
@@ -24,19 +25,20 @@ scopeIn n f = record { principal = narrowed n (f .principal); resource = narrowe
 abbrev pub factsIn : List ℕ → List ℕ → List ℕ → Facts → Terms.Facts
 factsIn s c n f = record { schema = schemaIn s; scope = scopeIn n f; action = foundIn (actionIn s) (f .action); whole = recordIn c }
 
--- what must hold of them: the records are accepted, the places are those of the reached conditions, the environment has the binders by name, and the action
--- stands in the schema
+-- what must hold of them: the records are accepted, the places are those of the reached conditions, the environment has the binders by name, the action
+-- stands in the schema, and the row is that of all its actions
 pub record Known (s c places env : List ℕ) (f : Facts) : Type 0 where
   pub schema : isSchema s ≡ true
   pub condition : isRecord c ≡ true
   pub index : Index c places
-  pub named : Environment c (binders (recordIn c)) (f .complete) env
+  pub named : Environment c (binders (recordIn c)) (f .common .complete) env
   pub action : foundStands (isAction s) (f .action) ≡ true
+  pub actions : ActionsOf s (f .common .actions)
 
--- the facts of a target: its action, the scope of the target record, and what is said of the table of binders
-pub record FactsOf (n : List ℕ) (found : Found) (all : Bool) (f : Facts) : Type 0 where
+-- the facts of a target: its action, the scope of the target record, and what all targets have in common
+pub record FactsOf (n : List ℕ) (found : Found) (common : Common) (f : Facts) : Type 0 where
   pub action : f .action ≡ found
-  pub named : f .complete ≡ all
+  pub shared : f .common ≡ common
   pub scope : scopeIn n f ≡ targetsIn n .scope
 
 -- a name's type, which needs no scope

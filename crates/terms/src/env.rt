@@ -152,11 +152,11 @@ pub fn var_type(
     name: &[u8],
 ) -> Typed
     requires { ⌜ Index (now condition) (now places) ⌝ }
-    requires { ⌜ Environment (now condition) (binders (recordIn (now condition))) (facts .complete) (now env) ⌝ }
+    requires { ⌜ Environment (now condition) (binders (recordIn (now condition))) (facts .common .complete) (now env) ⌝ }
     requires { ⌜ foundStands (isAction (now schema)) (facts .action) ≡ true ⌝ }
     ensures { λ r. ⌜ NameTyped (now (schema .entry)) (now (condition .entry)) facts (now (name .entry)) r ⌝ }
 {
-    let bound = condition::bound_in(condition, env, facts.complete, places, name);
+    let bound = condition::bound_in(condition, env, facts.common.complete, places, name);
     match bound {
         Bound::Segments(p) => Typed::As(segments_type(condition, p)),
         Bound::Timepoint => Typed::As(Rich {

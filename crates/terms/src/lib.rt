@@ -8,18 +8,25 @@ mod term;
 pub use env::var_type;
 use resolution::Typed;
 use schema::Found;
+use schema::Row;
 pub use target::facts_of;
 use targets::Narrowed;
 pub use term::term_type;
 use types::Rich;
 
-// What a condition is checked under, beside the bytes: where the target's action stands, if it is declared, what the scope says of each side, and whether the
-// table of binders has all names.
+// What is found once for all targets: whether the table of binders has all names, and where the schema's actions stand.
+pub struct Common {
+    pub complete: bool,
+    pub actions: Row,
+}
+
+// What a condition is checked under, beside the bytes: where the target's action stands, if it is declared, what the scope says of each side, and what all targets
+// have in common.
 pub struct Facts {
     pub action: Found,
     pub principal: Narrowed,
     pub resource: Narrowed,
-    pub complete: bool,
+    pub common: Common,
 }
 
 // A term's type, and the place behind the term.

@@ -1,4 +1,5 @@
 // The facts of a target.
+use crate::Common;
 use crate::Facts;
 use schema::Found;
 ghost use mathlib.Core.Path.{_≡_};
@@ -6,10 +7,10 @@ ghost use mathlib.Core.Bool.{true};
 ghost use Rattle.targets.specs.Places.{areTargets};
 ghost use Rattle.terms.specs.Facts.{FactsOf};
 
-// The facts of a target whose action was looked up: the scope is the target record's. `complete` says whether the table of binders has all names.
-pub fn facts_of(targets: &[u8], action: Found, complete: bool) -> Facts
+// The facts of a target whose action was looked up: the scope is the target record's.
+pub fn facts_of(targets: &[u8], action: Found, common: Common) -> Facts
     requires { ⌜ areTargets (now targets) ≡ true ⌝ }
-    ensures { λ r. ⌜ FactsOf (now (targets .entry)) action complete r ⌝ }
+    ensures { λ r. ⌜ FactsOf (now (targets .entry)) action common r ⌝ }
 {
     let principal = targets::principal(targets);
     let resource = targets::resource(targets);
@@ -17,6 +18,6 @@ pub fn facts_of(targets: &[u8], action: Found, complete: bool) -> Facts
         action,
         principal,
         resource,
-        complete,
+        common,
     }
 }

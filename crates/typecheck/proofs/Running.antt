@@ -17,8 +17,9 @@ use Rattle.names.proofs.Laws.{accept, passes, refused-by, refuses}
 use Rattle.names.proofs.Row.{listed-first, listed-over}
 use Rattle.schema.specs.Schema.{Schema, Action, schemaRecord}
 use Rattle.schema.specs.Find.{findAction}
-use Rattle.schema.specs.Places.{isSchema, schemaIn, isAction, actionIn, foundIn, foundStands, FindsAction}
+use Rattle.schema.specs.Places.{isSchema, schemaIn, isAction, actionIn, foundIn, foundStands, FindsAction, ActionsOf}
 use Rattle.schema.specs.declared.Found.{Found}
+use Rattle.schema.specs.declared.Row.{Row}
 use Rattle.schema.specs.declared.Found.the-variants as Found
 use Rattle.targets.specs.Targets.{Scope, Target, Targets, target, targetRecord}
 use Rattle.targets.specs.Places.{areTargets, targetsIn, isTarget, targetIn}
@@ -34,6 +35,7 @@ use Rattle.reports.specs.declared.Answer.{Answer}
 use Rattle.reports.specs.Sink.{Sink, sink, start, Sound, push, pushAll}
 use Rattle.reports.specs.Sink.Laws.{Reporting, reporting-begins, reporting-over, push-next, push-none, sound-start}
 use Rattle.reports.specs.Answers.{outcomeOf, Answers, Refuses, pushed}
+use Rattle.terms.specs.declared.Common.{Common}
 use Rattle.terms.specs.declared.Facts.{Facts}
 use Rattle.terms.specs.Terms.{factsOf}
 use Rattle.terms.specs.Facts.{factsIn, Known, FactsOf}
@@ -64,13 +66,13 @@ pub ruleset each-node = (needs, nodes-begin, nodes-turn, nodes-over)
 
 -- ---- under a target
 
-module _ (s c n places env : List ℕ) (found : Found) (all : Bool) (f : Facts) (k : FactsOf n found all f) where
-  pub facts-known : Ready s c n places env all → foundStands (isAction s) found ≡ true → Known s c places env f
-  facts-known r h = record { schema = r .schema; condition = r .condition; index = r .index; named = rw (k .named) (r .named); action = rw (k .action) h }
+module _ (s c n places env : List ℕ) (found : Found) (common : Common) (f : Facts) (k : FactsOf n found common f) where
+  pub facts-known : Ready s c n places env common → foundStands (isAction s) found ≡ true → Known s c places env f
+  facts-known r h = record { schema = r .schema; condition = r .condition; index = r .index; named = rw (k .shared) (r .named); action = rw (k .action) h; actions = rw (k .shared) (r .actions) }
 
   pub under-facts : (now : Sink) {next : Sink} → next ≡ pushAll now (gather (nodeBreaches (factsIn s c n f)) (nodesOf c))
       → next ≡ pushAll now (gather (nodeBreaches (factsOf (schemaIn s) (recordIn c) (targetsIn n .scope) (foundIn (actionIn s) found))) (nodesOf c))
-  under-facts now g = rw (facts-mean s c n found all f k) at g
+  under-facts now g = rw (facts-mean s c n found common f k) at g
 
 pub ruleset by-action = (needs, facts-known, under-facts)
 
@@ -141,8 +143,9 @@ pub all-checked : (s : Schema) (c : Condition) (ts : Targets) (b : List ℕ) {t 
 unfolding checked
 all-checked s c ts b e a = pushed b (gather (breachesUnder s c (ts .scope)) (ts .list)) e a
 
-pub all-ready : (s c n places env : List ℕ) (all : Bool) → isSchema s ≡ true → isRecord c ≡ true → areTargets n ≡ true → Index c places → Environment c (binders (recordIn c)) all env → Ready s c n places env all
-all-ready s c n places env all a b d x e = record { schema = a; condition = b; targets = d; index = x; named = e }
+pub all-ready : (s c n places env : List ℕ) (all : Bool) (row : Row) → isSchema s ≡ true → isRecord c ≡ true → areTargets n ≡ true → Index c places → Environment c (binders (recordIn c)) all env → ActionsOf s row
+    → Ready s c n places env (record { complete = all; actions = row })
+all-ready s c n places env all row a b d x e g = record { schema = a; condition = b; targets = d; index = x; named = e; actions = g }
 
 pub ruleset indexed = (needs, length-take-le, sound-start, all-ready, all-checked)
 

@@ -17,7 +17,7 @@ ghost use Rattle.names.specs.Names.{pathName, lastOf};
 ghost use Rattle.names.specs.Read.{wordAt, isRow, rowIn, Listed};
 ghost use Rattle.condition.specs.Kinds.{kindOf};
 ghost use Rattle.condition.specs.Places.{isCondition, conditionIn, isTerm, termIn, isPath, pathIn, isArguments, argumentsIn};
-ghost use Rattle.schema.specs.Places.{isSchema, schemaIn, isAction, actionIn, foundIn, foundStands, FindsAction};
+ghost use Rattle.schema.specs.Places.{schemaIn, isAction, actionIn, foundIn, foundStands, FindsAction, ActionsOf};
 ghost use Rattle.resolution.specs.Resolution.{contextType};
 ghost use Rattle.resolution.specs.Places.{typedOf, smallType};
 ghost use Rattle.reports.specs.Sink.{sink, Sound, pushAll};
@@ -65,15 +65,15 @@ fn namespace_of(condition: &[u8], count: usize, start: usize) -> Row
     }
 }
 
-// The action that a predicate names, if it is declared.
-fn predicate_action(schema: &[u8], condition: &[u8], parts: PredicateAt) -> Found
-    requires { ⌜ isSchema (now schema) ≡ true ⌝ }
+// The action that a predicate names, if it is declared, among the actions of the schema.
+fn predicate_action(schema: &[u8], actions: Row, condition: &[u8], parts: PredicateAt) -> Found
+    requires { ⌜ ActionsOf (now schema) actions ⌝ }
     requires { ⌜ isRow (stringOf pathName) (now condition) (parts .names) (parts .namespace) ≡ true ⌝ }
     ensures { λ r. ⌜ FindsAction (now (schema .entry)) (predicateAction (schemaIn (now (schema .entry))) (rowIn (stringOf pathName) (now (condition .entry)) (parts .names) (parts .namespace)) (wordAt (now (condition .entry)) (parts .action))) r ⌝ }
 {
     let row = namespace_of(condition, parts.names, parts.namespace);
     let name = names::word(condition, parts.action);
-    schema::action(schema, condition, Namespace::Parts(row), name)
+    schema::action_among(schema, actions, condition, Namespace::Parts(row), name)
 }
 
 // The type of a field of an action's context.
@@ -247,7 +247,7 @@ pub fn predicate<'a>(
 {
     let span = condition::own_span_at(condition, at);
     let parts = condition::predicate_at(condition, at);
-    let action = predicate_action(schema, condition, parts);
+    let action = predicate_action(schema, facts.common.actions, condition, parts);
     arguments(
         buf,
         state,

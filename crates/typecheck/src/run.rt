@@ -6,6 +6,7 @@ use reports::State;
 use reports::refused;
 use schema::Found;
 use schema::Namespace;
+use terms::Common;
 use terms::Facts;
 ghost use mathlib.Core.Path.{_≡_};
 ghost use mathlib.Core.Bool.{true};
@@ -56,15 +57,15 @@ fn under_action<'a>(
     targets: &[u8],
     places: &[u16],
     env: &[u16],
-    complete: bool,
+    common: Common,
     found: Found,
 ) -> State
     requires { ⌜ Sound (sink (now buf) state) ⌝ }
-    requires { ⌜ Ready (now schema) (now condition) (now targets) (now places) (now env) complete ⌝ }
+    requires { ⌜ Ready (now schema) (now condition) (now targets) (now places) (now env) common ⌝ }
     requires { ⌜ foundStands (isAction (now schema)) found ≡ true ⌝ }
     ensures { λ after. ⌜ sink (now (buf .exit)) after ≡ pushAll (sink (now (buf .entry)) state) (gather (nodeBreaches (factsOf (schemaIn (now (schema .entry))) (recordIn (now (condition .entry))) (targetsIn (now (targets .entry)) .scope) (foundIn (actionIn (now (schema .entry))) found))) (nodesOf (now (condition .entry)))) ⌝ }
 {
-    let facts = terms::facts_of(targets, found, complete);
+    let facts = terms::facts_of(targets, found, common);
     nodes(buf, state, schema, condition, targets, places, env, facts)
 }
 
@@ -90,16 +91,17 @@ fn under_target<'a>(
     targets: &[u8],
     places: &[u16],
     env: &[u16],
-    complete: bool,
+    common: Common,
     at: usize,
 ) -> State
     requires { ⌜ Sound (sink (now buf) state) ⌝ }
-    requires { ⌜ Ready (now schema) (now condition) (now targets) (now places) (now env) complete ⌝ }
+    requires { ⌜ Ready (now schema) (now condition) (now targets) (now places) (now env) common ⌝ }
     requires { ⌜ isTarget (now targets) at ≡ true ⌝ }
     ensures { λ after. ⌜ sink (now (buf .exit)) after ≡ pushAll (sink (now (buf .entry)) state) (breachesUnder (schemaIn (now (schema .entry))) (recordIn (now (condition .entry))) (targetsIn (now (targets .entry)) .scope) (targetIn (now (targets .entry)) at)) ⌝ }
 {
-    let found = schema::action(
+    let found = schema::action_among(
         schema,
+        common.actions,
         targets::namespace_of(targets, at),
         Namespace::Whole,
         targets::id_of(targets, at),
@@ -113,7 +115,7 @@ fn under_target<'a>(
             targets,
             places,
             env,
-            complete,
+            common,
             found,
         );
     }
@@ -129,10 +131,10 @@ fn all_targets<'a>(
     targets: &[u8],
     places: &[u16],
     env: &[u16],
-    complete: bool,
+    common: Common,
 ) -> State
     requires { ⌜ Sound (sink (now buf) state) ⌝ }
-    requires { ⌜ Ready (now schema) (now condition) (now targets) (now places) (now env) complete ⌝ }
+    requires { ⌜ Ready (now schema) (now condition) (now targets) (now places) (now env) common ⌝ }
     ensures { λ after. ⌜ sink (now (buf .exit)) after ≡ pushAll (sink (now (buf .entry)) state) (gather (breachesUnder (schemaIn (now (schema .entry))) (recordIn (now (condition .entry))) (targetsIn (now (targets .entry)) .scope)) (targetsIn (now (targets .entry)) .list)) ⌝ }
 {
     let mut now = state;
@@ -147,7 +149,7 @@ fn all_targets<'a>(
             targets,
             places,
             env,
-            complete,
+            common,
             at,
         );
         at = targets::next_target(targets, at);
@@ -156,7 +158,7 @@ fn all_targets<'a>(
     now
 }
 
-// The check over the reached nodes: the binders are put into a table by name once.
+// The check over the reached nodes: the binders are put into a table by name, and the row of the schema's actions is found, once.
 fn over_places<'a>(
     schema: &'a [u8],
     condition: &'a [u8],
@@ -173,7 +175,10 @@ fn over_places<'a>(
     let mut table = [0u16; 6560];
     let own = condition::environment(condition, places, &mut table);
     let n = own.count;
-    let complete = own.whole;
+    let common = Common {
+        complete: own.whole,
+        actions: schema::actions(schema),
+    };
     let none = State {
         used: 0,
         count: 0,
@@ -187,7 +192,7 @@ fn over_places<'a>(
         targets,
         places,
         &table[..n],
-        complete,
+        common,
     );
     reports::answer_of(state)
 }

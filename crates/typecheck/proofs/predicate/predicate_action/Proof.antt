@@ -9,8 +9,8 @@ namespace-of-requires c κs = search named-action
 word-requires : tie.Need-word-requires
 word-requires c κs = search named-action
 
-action-requires : tie.Need-action-requires
-action-requires c κs = search named-action
+action-among-requires : tie.Need-action-among-requires
+action-among-requires c κs = search named-action
 
 returns : tie.Need-returns
 returns c = search named-action
@@ -21,5 +21,5 @@ predicate-action-spec =
     (tie.spec
     namespace-of-requires
     word-requires
-    action-requires
+    action-among-requires
     returns)

@@ -12,12 +12,12 @@ use Rattle.typecheck.proofs.run.all_targets.Statement.{statement}
 use Rattle.typecheck.proofs.run.all_targets.Tie as tie
 
 abbrev Inv-loop : tie.InvT-loop
-Inv-loop buf₀ schema condition targets places env all now₀ rest₀ at₀ buf now rest at =
+Inv-loop buf₀ schema condition targets places env common now₀ rest₀ at₀ buf now rest at =
     (length buf ≡ length buf₀)
     × TargetsLeft (breachesUnder (schemaIn schema) (recordIn condition) (targetsIn targets .scope)) targets (pushAll (sink buf₀ now₀) (gather (breachesUnder (schemaIn schema) (recordIn condition) (targetsIn targets .scope)) (targetsIn targets .list))) (sink buf now) rest at
 
 abbrev μ-loop : tie.MeasureT-loop
-μ-loop buf₀ schema condition targets places env all now₀ rest₀ at₀ buf now rest at = rest
+μ-loop buf₀ schema condition targets places env common now₀ rest₀ at₀ buf now rest at = rest
 
 count-requires : tie.Need-count-requires Inv-loop μ-loop
 count-requires c κs = search each-target

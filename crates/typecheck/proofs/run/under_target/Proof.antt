@@ -9,8 +9,8 @@ namespace-of-requires c κs = search one-target
 id-of-requires : tie.Need-id-of-requires
 id-of-requires c κs = search one-target
 
-action-requires : tie.Need-action-requires
-action-requires c κs = search one-target
+action-among-requires : tie.Need-action-among-requires
+action-among-requires c κs = search one-target
 
 is-checked-requires : tie.Need-is-checked-requires
 is-checked-requires c κs = search one-target
@@ -33,7 +33,7 @@ under-target-spec =
     (tie.spec
     namespace-of-requires
     id-of-requires
-    action-requires
+    action-among-requires
     is-checked-requires
     under-action-requires
     same-length
