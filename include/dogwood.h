@@ -31,7 +31,7 @@ extern "C" {
 /* A string in a record has at most so many bytes, and a list with an 8-bit count so many entries. */
 #define DOGWOOD_MOST_TEXT 255
 
-/* Stack that is enough for any call; what was measured is less than half of it. */
+/* Stack that is enough for any call; what was measured is less (docs/BENCHMARKS.md). */
 #define DOGWOOD_STACK 65536
 
 /* Why there is no answer. The numbers 1 to 10 are met while a record is read, the first one from the left counts. */
