@@ -1,6 +1,6 @@
 -- The operand of the comparison at a condition's root, its target and the records that are read before. Assumes nothing.
 use mathlib.Core.Path.{_≡_, refl, sym, ap, _∙_}
-use mathlib.Core.Bool.{Bool, true}
+use mathlib.Core.Bool.{true}
 use mathlib.Core.List.{List}
 use mathlib.Core.Option.{Option, none, some}
 use Prim.Native.Nat.{ℕ}
@@ -15,7 +15,6 @@ use Rattle.schema.specs.Schema.{schemaRecord}
 use Rattle.schema.specs.Find.{findAction}
 use Rattle.schema.specs.Places.{schemaIn, isAction, actionIn, foundIn, foundStands, FindsAction, ActionsOf}
 use Rattle.schema.specs.declared.Found.{Found}
-use Rattle.schema.specs.declared.Row.{Row}
 use Rattle.targets.specs.Targets.{targetRecord}
 use Rattle.targets.specs.PathRecord.{targetAt}
 use Rattle.targets.specs.Places.{targetsIn, isTarget, targetIn, FindsTarget}
@@ -36,6 +35,7 @@ use Rattle.resolution.specs.declared.Typed.{Typed}
 use Rattle.terms.specs.Terms.{factsOf, termType}
 use Rattle.terms.specs.Facts.{factsIn, Known, FactsOf}
 use Rattle.terms.specs.Answers.{TypeOf}
+use Rattle.terms.specs.declared.Common.{Common}
 use Rattle.terms.specs.declared.Facts.{Facts}
 use Rattle.terms.proofs.Under.{facts-mean}
 use Rattle.operands.specs.Operands.{operandIn, shown, answered, underTarget, atPosition, operandType}
@@ -97,13 +97,13 @@ pub ruleset comparing = (needs, root-stands, no-comparison, a-comparison, operan
 
 -- ---- the facts of a target
 
-module _ (s c n : List ℕ) (read : Records s c n) (found : Found) (stands : foundStands (isAction s) found ≡ true) (all : Bool) (row : Row) (f : Facts) (k : FactsOf n found (record { complete = all; actions = row }) f) where
-  pub facts-known : (places env : List ℕ) → Index c places → Environment c (binders (recordIn c)) all env → ActionsOf s row → Known s c places env f
+module _ (s c n : List ℕ) (read : Records s c n) (found : Found) (stands : foundStands (isAction s) found ≡ true) (common : Common) (f : Facts) (k : FactsOf n found common f) where
+  pub facts-known : (places env : List ℕ) → Index c places → Environment c (binders (recordIn c)) (common .complete) env → ActionsOf s (common .actions) → Known s c places env f
   facts-known places env x e g = record { schema = read .schema; condition = read .condition; index = x; named = rw (k .shared) e; action = rw (k .action) stands; actions = rw (k .shared) g }
 
   pub facts-answered : (which : Operand) (b : List ℕ) (a : Answer) (t : List ℕ) → outcomeOf a t ≡ answered which (factsIn s c n f) b
       → outcomeOf a t ≡ answered which (factsOf (schemaIn s) (recordIn c) (targetsIn n .scope) (foundIn (actionIn s) found)) b
-  facts-answered which b a t i = rw (facts-mean s c n found (record { complete = all; actions = row }) f k) at i
+  facts-answered which b a t i = rw (facts-mean s c n found common f k) at i
 
 pub ruleset by-action = (needs, length-take-le, facts-known, facts-answered)
 

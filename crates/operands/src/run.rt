@@ -10,10 +10,12 @@ use terms::Common;
 use terms::Facts;
 ghost use mathlib.Core.Path.{_≡_};
 ghost use mathlib.Core.Bool.{true};
-ghost use Rattle.schema.specs.Places.{schemaIn, isAction, actionIn, foundIn, foundStands};
+ghost use Rattle.schema.specs.Places.{schemaIn, isAction, actionIn, foundIn, foundStands, ActionsOf};
 ghost use Rattle.targets.specs.Places.{targetsIn, isTarget, targetIn};
 ghost use Rattle.condition.specs.Places.{recordIn};
+ghost use Rattle.condition.specs.Walk.{binders};
 ghost use Rattle.condition.specs.Index.{Index};
+ghost use Rattle.condition.specs.Environment.{Environment};
 ghost use Rattle.terms.specs.Terms.{factsOf};
 ghost use Rattle.terms.specs.Facts.{factsIn, Known};
 ghost use Rattle.operands.specs.Operands.{answered, underTarget, atPosition, operandType};
@@ -55,6 +57,29 @@ fn under_facts<'a>(
     Answer::NoComparison
 }
 
+// The operand under an action, with what all targets have in common.
+fn with_common<'a>(
+    schema: &'a [u8],
+    condition: &'a [u8],
+    targets: &[u8],
+    places: &[u16],
+    env: &[u16],
+    common: Common,
+    own: Found,
+    which: Operand,
+    out: &mut [u8],
+) -> Answer
+    requires { ⌜ Records (now schema) (now condition) (now targets) ⌝ }
+    requires { ⌜ Index (now condition) (now places) ⌝ }
+    requires { ⌜ Environment (now condition) (binders (recordIn (now condition))) (common .complete) (now env) ⌝ }
+    requires { ⌜ ActionsOf (now schema) (common .actions) ⌝ }
+    requires { ⌜ foundStands (isAction (now schema)) own ≡ true ⌝ }
+    ensures { λ r. ⌜ outcomeOf r (now (out .exit)) ≡ answered which (factsOf (schemaIn (now (schema .entry))) (recordIn (now (condition .entry))) (targetsIn (now (targets .entry)) .scope) (foundIn (actionIn (now (schema .entry))) own)) (now (out .entry)) ⌝ }
+{
+    let facts = terms::facts_of(targets, own, common);
+    under_facts(schema, condition, targets, places, env, facts, which, out)
+}
+
 // The operand over the reached nodes: the binders are put into a table by name.
 fn over_places<'a>(
     schema: &'a [u8],
@@ -77,14 +102,14 @@ fn over_places<'a>(
         complete: known.whole,
         actions: schema::actions(schema),
     };
-    let facts = terms::facts_of(targets, own, common);
-    under_facts(
+    with_common(
         schema,
         condition,
         targets,
         places,
         &table[..k],
-        facts,
+        common,
+        own,
         which,
         out,
     )

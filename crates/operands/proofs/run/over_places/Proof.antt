@@ -9,17 +9,17 @@ slice-aggregate-environment c = search by-action
 environment-requires : tie.Need-environment-requires
 environment-requires c κs = search by-action
 
-facts-of-requires : tie.Need-facts-of-requires
-facts-of-requires c κs = search by-action
+actions-requires : tie.Need-actions-requires
+actions-requires c κs = search by-action
 
 array-share-prefix-table : tie.Need-array-share-prefix-table
 array-share-prefix-table c = search by-action
 
-slice-aggregate-under-facts : tie.Need-slice-aggregate-under-facts
-slice-aggregate-under-facts c = search by-action
+slice-aggregate-with-common : tie.Need-slice-aggregate-with-common
+slice-aggregate-with-common c = search by-action
 
-under-facts-requires : tie.Need-under-facts-requires
-under-facts-requires c κs = search by-action
+with-common-requires : tie.Need-with-common-requires
+with-common-requires c κs = (search by-action, (search by-action, (search by-action, (search by-action, search by-action))))
 
 same-length : tie.Need-same-length
 same-length c = search by-action
@@ -33,9 +33,9 @@ over-places-spec =
     (tie.spec
     slice-aggregate-environment
     environment-requires
-    facts-of-requires
+    actions-requires
     array-share-prefix-table
-    slice-aggregate-under-facts
-    under-facts-requires
+    slice-aggregate-with-common
+    with-common-requires
     same-length
     returns)

@@ -9,6 +9,9 @@ slice-aggregate-environment c = search indexed
 environment-requires : tie.Need-environment-requires
 environment-requires c κs = search indexed
 
+actions-requires : tie.Need-actions-requires
+actions-requires c κs = search indexed
+
 array-share-prefix-table : tie.Need-array-share-prefix-table
 array-share-prefix-table c = search indexed
 
@@ -33,6 +36,7 @@ over-places-spec =
     (tie.spec
     slice-aggregate-environment
     environment-requires
+    actions-requires
     array-share-prefix-table
     slice-aggregate-all-targets
     all-targets-requires
