@@ -37,6 +37,7 @@ pub fn all() -> Vec<Workload> {
         workload("32 KB condition, 1 target", false, shop(2, 4), condition_of(LONGEST), view_targets(1), age()),
         workload("32 KB condition, 255 targets", true, shop(2, 255), condition_of(LONGEST), view_targets(255), age()),
         workload("32 KB of binders, 255 targets", false, shop(2, 255), bound_condition(), view_targets(255), age()),
+        workload("one tree of variables, 255 targets", false, shop(2, 255), variable_tree(), view_targets(255), age()),
         workload(
             "hundreds of names, 1 target",
             false,
@@ -149,20 +150,25 @@ fn both(left: Piece, right: Piece) -> Piece {
     condition(1, (0, 90), vec![left, right])
 }
 
-/// All of these joined as a tree of little depth.
-fn joined(mut all: Vec<Piece>) -> Piece {
+/// All of these conditions joined.
+fn joined(all: Vec<Piece>) -> Piece {
+    paired(all, both)
+}
+
+/// All of these in pairs, and the pairs in pairs: a tree of little depth.
+fn paired(mut all: Vec<Piece>, join: impl Fn(Piece, Piece) -> Piece) -> Piece {
     while all.len() > 1 {
         let mut pairs = all.into_iter();
         let mut next = Vec::new();
         while let Some(left) = pairs.next() {
             next.push(match pairs.next() {
-                Some(right) => both(left, right),
+                Some(right) => join(left, right),
                 None => left,
             });
         }
         all = next;
     }
-    all.pop().expect("at least one condition")
+    all.pop().expect("one of them at least")
 }
 
 fn view(arguments: Vec<Piece>) -> Piece {
@@ -202,6 +208,14 @@ fn bound_condition() -> Piece {
     let bound =
         |i: usize| exists((0, 9), named(&format!("v{i}"), &["Long"]), comparison((0, 9), 1, var("v0"), integer()));
     let of = |count: usize| condition_record(joined((0..count).map(bound).collect()));
+    of(most(LONGEST, of))
+}
+
+/// A record of 32 KB that is one comparison: a tree of variables beside a count that declares the name.
+fn variable_tree() -> Piece {
+    let leaves = |count: usize| (0..count).map(|_| var("v")).collect();
+    let counted = || count((1, 2), vec![named("v", &["Long"])], condition(11, (0, 9), vec![]));
+    let of = |count: usize| condition_record(comparison((0, 9), 1, paired(leaves(count), arith), counted()));
     of(most(LONGEST, of))
 }
 
