@@ -2,3 +2,4 @@ pub mod Sums
 pub mod Joined
 pub mod Measured
 pub mod Named
+pub mod Tables

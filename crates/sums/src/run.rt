@@ -13,10 +13,18 @@ ghost use Rattle.reports.specs.Reports.{reported};
 ghost use Rattle.reports.specs.Sink.{sink, Sound, start, appendAll};
 ghost use Rattle.reports.specs.Answers.{outcomeOf};
 ghost use Rattle.sums.specs.Sums.{breaches, sums};
+ghost use Rattle.sums.specs.Tables.{Tables};
 
 // The reached conditions, in the order of the walk.
-fn in_places(s: &[u8], places: &[u16], buf: &mut [u8], state: State) -> State
-    requires { ⌜ Index (now s) (now places) ⌝ }
+fn in_places(
+    s: &[u8],
+    places: &[u16],
+    env: &[u16],
+    complete: bool,
+    buf: &mut [u8],
+    state: State,
+) -> State
+    requires { ⌜ Tables (now s) (now places) (now env) complete ⌝ }
     requires { ⌜ length (now s) ≤ 32768 ⌝ }
     requires { ⌜ Sound (sink (now buf) state) ⌝ }
     ensures { λ r. ⌜ sink (now (buf .exit)) r ≡ appendAll (sink (now (buf .entry)) state) (breaches (recordIn (now (s .entry)))) ⌝ }
@@ -25,25 +33,37 @@ fn in_places(s: &[u8], places: &[u16], buf: &mut [u8], state: State) -> State
     let mut i = 0;
     while i < places.len() {
         let at = condition::reached_at(s, places, i);
-        now = in_condition(s, places, at, buf, now);
+        now = in_condition(s, places, env, complete, at, buf, now);
         i += 1;
     }
     now
 }
 
-// The conditions whose places are the first n entries of a table, from no report on.
+// The conditions at these places, from no report on: the binders are put into a table by name once.
+fn over_places(s: &[u8], places: &[u16], buf: &mut [u8]) -> State
+    requires { ⌜ Index (now s) (now places) ⌝ }
+    requires { ⌜ length (now s) ≤ 32768 ⌝ }
+    ensures { λ r. ⌜ sink (now (buf .exit)) r ≡ appendAll (start (now (buf .entry))) (breaches (recordIn (now (s .entry)))) ⌝ }
+{
+    let mut env = [0u16; 6560];
+    let known = condition::environment(s, places, &mut env);
+    let k = known.count;
+    let none = State {
+        used: 0,
+        count: 0,
+        full: false,
+    };
+    in_places(s, places, &env[..k], known.whole, buf, none)
+}
+
+// The conditions whose places are the first n entries of a table.
 fn in_table(s: &[u8], table: &[u16], n: usize, buf: &mut [u8]) -> State
     requires { ⌜ n ≤ length (now table) ⌝ }
     requires { ⌜ Index (now s) (take n (now table)) ⌝ }
     requires { ⌜ length (now s) ≤ 32768 ⌝ }
     ensures { λ r. ⌜ sink (now (buf .exit)) r ≡ appendAll (start (now (buf .entry))) (breaches (recordIn (now (s .entry)))) ⌝ }
 {
-    let none = State {
-        used: 0,
-        count: 0,
-        full: false,
-    };
-    in_places(s, &table[..n], buf, none)
+    over_places(s, &table[..n], buf)
 }
 
 // The reports of a record that was read.
