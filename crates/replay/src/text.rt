@@ -2,6 +2,7 @@
 // gives some number or byte, and the case then differs.
 
 ghost use mathlib.Core.Path.{_≡_};
+ghost use Prim.Native.Nat.{_+_, _%_, _^_};
 ghost use lib.ListN.{length};
 
 // Room for a whole list. The contract gives the length alone, which is what lending the array needs.
@@ -50,7 +51,9 @@ pub fn first<'a>(bytes: &'a [u8], n: usize) -> &'a [u8] {
 }
 
 // One position further. A position never comes near the largest number.
-pub fn after(i: usize) -> usize {
+pub fn after(i: usize) -> usize
+    ensures { λ r. ⌜ r ≡ (i + 1) % 2 ^ 64 ⌝ }
+{
     std::num::wrapping_add_usize(i, 1)
 }
 
@@ -100,7 +103,9 @@ fn digit(byte: u8) -> u8 {
     std::num::wrapping_sub_u8(byte, b'A' - 10)
 }
 
-pub fn wide(byte: u8) -> usize {
+pub fn wide(byte: u8) -> usize
+    ensures { λ r. ⌜ r ≡ byte ⌝ }
+{
     byte as usize
 }
 

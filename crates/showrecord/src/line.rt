@@ -2,10 +2,13 @@
 use program::print;
 use program::print_number;
 ghost use mathlib.Core.Path.{_≡_};
+ghost use Prim.Native.Nat.{_+_, _%_, _^_};
 ghost use lib.ListN.{length};
 
 // A place some bytes further. No place comes near the largest number.
-pub fn forward(at: usize, n: usize) -> usize {
+pub fn forward(at: usize, n: usize) -> usize
+    ensures { λ r. ⌜ r ≡ (at + n) % 2 ^ 64 ⌝ }
+{
     std::num::wrapping_add_usize(at, n)
 }
 
