@@ -9,11 +9,11 @@ use native.Mathlib.Omega.{arith}
 use borrow.Author.Needs.{needs}
 use lib.ListN.{length, getD}
 use Rattle.names.specs.Lists.{gather}
-use Rattle.names.specs.Lists.Laws.{gather-append}
+use Rattle.names.specs.Laws.Lists.{gather-append}
 use Rattle.names.specs.Fields.{Got, got, Reader, many, each, levels}
 use Rattle.names.specs.Read.{accepted, valueOr, row, isRow, rowIn}
-use Rattle.names.proofs.Laws.{is-accepted, has-value}
-use Rattle.names.proofs.Row.{Opens, opens, row-cons, row-empty}
+use Rattle.names.specs.Laws.Readers.{is-accepted, has-value}
+use Rattle.names.specs.Laws.Rows.{Opens, opens, row-cons, row-empty}
 use Rattle.condition.specs.declared.Several.{Several}
 use Rattle.condition.specs.declared.NextAggregate.{NextAggregate}
 use Rattle.condition.specs.declared.NextAggregate.the-variants.{At, Done}

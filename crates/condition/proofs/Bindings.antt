@@ -11,12 +11,12 @@ use lib.Dec.{eqb}
 use lib.ListN.{length, getD, take, drop, drop-of-length-le, take-append-drop}
 use Rattle.names.specs.declared.Read.the-variants.{Next}
 use Rattle.names.specs.Lists.{maybe, gather}
-use Rattle.names.specs.Lists.Laws.{gather-append}
+use Rattle.names.specs.Laws.Lists.{gather-append}
 use Rattle.names.specs.Fields.{Got, got, _>>=_, pure, u8, stringOf, each, counted, many, levels}
 use Rattle.names.specs.Names.{same, identifier}
 use Rattle.names.specs.Read.{ending, accepted, valueOr, wordAt, Listed}
-use Rattle.names.proofs.Laws.{split, u8-view, u8-got, is-accepted, has-value, got-value}
-use Rattle.names.proofs.Row.{Remaining, remaining-over, remaining-stands, remaining-first}
+use Rattle.names.specs.Laws.Readers.{split, u8-view, u8-got, is-accepted, has-value, got-value}
+use Rattle.names.specs.Laws.Rows.{Remaining, remaining-over, remaining-stands, remaining-first}
 use Rattle.condition.specs.declared.SlotAt.{SlotAt}
 use Rattle.condition.specs.declared.SlotAt.the-variants.{Named, ParamRef, BinderRef}
 use Rattle.condition.specs.declared.Bound.{Bound}

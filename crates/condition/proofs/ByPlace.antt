@@ -12,7 +12,7 @@ use lib.ListN.{length, getD, take, drop}
 use lib.Seq.{length-take-le, getD-take}
 use Rattle.names.specs.Fields.{Got, got, bad, heading, levels, finished, whole}
 use Rattle.names.specs.Read.{accepted}
-use Rattle.names.proofs.Laws.{split, heading-place, finished-value, whole-read, is-accepted, has-value}
+use Rattle.names.specs.Laws.Readers.{split, heading-place, finished-value, whole-read, is-accepted, has-value}
 use Rattle.condition.specs.declared.Indexed.{Indexed}
 use Rattle.condition.specs.Condition.{Condition, conditionAt, conditionRecord}
 use Rattle.condition.specs.Walk.{reached}

@@ -7,9 +7,9 @@ use native.Mathlib.Omega.{arith}
 use borrow.Author.Needs.{needs}
 use lib.ListN.{length, getD, drop, drop-of-length-le}
 use Rattle.names.specs.Lists.{gather}
-use Rattle.names.specs.Lists.Laws.{gather-append}
+use Rattle.names.specs.Laws.Lists.{gather-append}
 use Rattle.names.specs.Read.{Listed}
-use Rattle.names.proofs.Row.{listed-over, listed-first}
+use Rattle.names.specs.Laws.Rows.{listed-over, listed-first}
 use Rattle.condition.specs.declared.Names.{Names}
 use Rattle.condition.specs.declared.Several.{Several}
 use Rattle.condition.specs.declared.NextAggregate.{NextAggregate}

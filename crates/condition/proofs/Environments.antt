@@ -12,7 +12,7 @@ use lib.ListN.{length, getD, take, set, length-set}
 use lib.Seq.{length-take-le, take-set-lt, getD-set-same, getD-set-other}
 use Rattle.names.specs.Lists.{maybe}
 use Rattle.names.specs.Names.{same, below}
-use Rattle.names.specs.Names.Laws.{same-refl, same-eq, below-order, order-refl}
+use Rattle.names.specs.Laws.Names.{same-refl, same-eq, below-order, order-refl}
 use Rattle.names.specs.Read.{wordAt}
 use Rattle.condition.specs.declared.Spot.{Spot}
 use Rattle.condition.specs.declared.Names.{Names}

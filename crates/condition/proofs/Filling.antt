@@ -9,7 +9,7 @@ use lib.ListN.{length, getD, length-append}
 use Rattle.names.specs.declared.Read.the-variants.{Next}
 use Rattle.names.specs.Fields.{Got, got, levels}
 use Rattle.names.specs.Read.{ending}
-use Rattle.names.proofs.Laws.{is-accepted, has-value}
+use Rattle.names.specs.Laws.Readers.{is-accepted, has-value}
 use Rattle.condition.specs.declared.Indexed.{Indexed}
 use Rattle.condition.specs.Condition.{Condition, Term, Aggregate, One, negation, formerly, previous, refine, Two, and, or, since, one, two, predicate, comparison, exists, tp, opaque, entity, literal, contextField, scopeField, var, wildcard, array, aggregate, sigil, sum, count, call, binder, conditionAt, termAt}
 use Rattle.condition.specs.Condition as tree

@@ -8,7 +8,7 @@ use native.Mathlib.Omega.{arith}
 use lib.Dec.{eqb, leb}
 use Rattle.names.specs.Fields.{Got, got, bad, Reader, next, _>>=_, _<$>_, pure, refuse, holds, u8, u32, bytes, stringOf, many, counted, choose, each}
 use Rattle.names.specs.Paths.{pathOf}
-use Rattle.names.proofs.Laws.{split, u8-view, bytes-view, held, got-place}
+use Rattle.names.specs.Laws.Readers.{split, u8-view, bytes-view, held, got-place}
 use Rattle.condition.specs.Condition.{Condition, Term, One, Two, span, slotKinds, slot, annotation, binder, operators, operator, timepointOf, arguments, argumentList, elements, elementList, unary, binary, predicateOf, comparisonOf, existsOf, conditionKinds, sumOf, countOf, aggregateKinds, aggregateOf, arithOf, termKinds, tooDeep, conditionAt, termAt}
 
 -- a reader takes so many bytes at least

@@ -16,8 +16,8 @@ use Rattle.names.specs.declared.Class.the-variants.{Plain, Identifier}
 use Rattle.names.specs.Read.{ending}
 use Rattle.names.specs.declared.Read.{Read}
 use Rattle.names.specs.declared.Read.the-variants.{Next, Refused}
-use Rattle.names.proofs.Laws.{u8-end, u8-got, bytes-end, bytes-got, via, last, stops, goes, alike, choice, choose-beyond, keysUpTo, Each, each-below, each-in}
-use Rattle.names.proofs.Row.{counted-end, counted-start, each-done, each-stops, each-turn}
+use Rattle.names.specs.Laws.Readers.{u8-end, u8-got, bytes-end, bytes-got, via, last, stops, goes, alike, choice, choose-beyond, keysUpTo, Each, each-below, each-in}
+use Rattle.names.specs.Laws.Rows.{counted-end, counted-start, each-done, each-stops, each-turn}
 use Rattle.condition.specs.Condition.{Slot, Operator, timepoint, path, span, slotKinds, slot, annotation, binder, operators, operator, timepointOf}
 
 module _ (s : List ℕ) (at : ℕ) where

@@ -12,7 +12,7 @@ use Rattle.names.specs.declared.Read.{Read}
 use Rattle.names.specs.declared.Read.the-variants.{Next, Refused}
 use Rattle.names.specs.Fields.{Got, got, bad, Reader, levels, each, counted}
 use Rattle.names.specs.Read.{ending, accepted, valueOr}
-use Rattle.names.proofs.Laws.{arrives, is-accepted, has-value, got-place}
+use Rattle.names.specs.Laws.Readers.{arrives, is-accepted, has-value, got-place}
 use Rattle.condition.specs.Condition.{Condition, Term, Aggregate, aggregate, sum, count, call, slot, binder, conditionAt, termAt}
 use Rattle.condition.specs.Walk.{reached, reachedBody}
 use Rattle.condition.specs.Places.{isCondition, conditionIn, isTerm, termIn, aggregateAt, isAggregate, aggregateIn, isSlot, isBinder}

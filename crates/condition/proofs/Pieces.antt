@@ -15,9 +15,9 @@ use Rattle.names.specs.Fields.{Got, got, bad, Reader, u8, number, stringOf, eac
 use Rattle.names.specs.Names.{plain, pathName, identifier, lastOf}
 use Rattle.names.specs.Paths.{pathOf}
 use Rattle.names.specs.Read.{ending, accepted, valueOr, wordAt, row, Listed}
-use Rattle.names.proofs.Laws.{split, u8-view, accept, is-accepted, has-value, got-value, got-place, string-view, Each, keysUpTo}
-use Rattle.names.proofs.Row.{counted-view, listed, Opens, opens, Remaining, row-empty}
-use Rattle.names.proofs.Walk.{here}
+use Rattle.names.specs.Laws.Readers.{split, u8-view, accept, is-accepted, has-value, got-value, got-place, string-view, Each, keysUpTo}
+use Rattle.names.specs.Laws.Rows.{counted-view, listed, Opens, opens, Remaining, row-empty}
+use Rattle.names.specs.Laws.Walks.{here}
 use Rattle.condition.specs.declared.Ends.{Ends}
 use Rattle.condition.specs.declared.SlotAt.{SlotAt}
 use Rattle.condition.specs.declared.SlotAt.the-variants.{Named, ParamRef, BinderRef}

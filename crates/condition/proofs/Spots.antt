@@ -13,7 +13,7 @@ use lib.Seq.{length-take-le, getD-take, getD-drop, getD-at, getD-append-add, get
 use Rattle.names.specs.declared.Order.{Order}
 use Rattle.names.specs.declared.Order.the-variants.{Less, Same, More}
 use Rattle.names.specs.Names.{below, order}
-use Rattle.names.specs.Names.Laws.{below-order, order-flip, order-same, below-trans}
+use Rattle.names.specs.Laws.Names.{below-order, order-flip, order-same, below-trans}
 use Rattle.names.specs.Order.{orderNumber}
 use Rattle.names.specs.Read.{wordAt}
 use Rattle.condition.specs.Environment.{nameAt, Sorted, SpotOf, insertAt, Inserted}

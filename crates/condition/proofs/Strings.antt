@@ -14,8 +14,8 @@ use Rattle.names.specs.Fields.{Got, got, Reader, many, each, counted, stringOf,
 use Rattle.names.specs.Names.{plain, pathName}
 use Rattle.names.specs.Paths.{pathOf}
 use Rattle.names.specs.Read.{ending, accepted, row, isRow, wordAt}
-use Rattle.names.proofs.Laws.{Keeps, u8-got, string-got, string-view, StringView, accept, Accepted, is-accepted, passes}
-use Rattle.names.proofs.Row.{Opens, opens, row-cons, counted-view, counted-start, each-done, each-turn}
+use Rattle.names.specs.Laws.Readers.{Keeps, u8-got, string-got, string-view, StringView, accept, Accepted, is-accepted, passes}
+use Rattle.names.specs.Laws.Rows.{Opens, opens, row-cons, counted-view, counted-start, each-done, each-turn}
 use Rattle.condition.specs.Condition.{termAt}
 use Rattle.condition.specs.Places.{isTerm, termIn, isPath}
 use Rattle.condition.specs.Kinds.{termKindOf}

@@ -14,12 +14,12 @@ use Rattle.names.specs.Fields.{Reader, got, bad, stringOf, whole}
 use Rattle.names.specs.Names.{pathName}
 use Rattle.names.specs.Read.{wordAt, row}
 use Rattle.names.specs.Writer.{Stored}
-use Rattle.names.specs.Writer.Laws.{stored-none, stored-more, stored-length}
-use Rattle.names.proofs.Laws.{accept, string-view}
-use Rattle.names.proofs.Row.{opens, listed-length}
+use Rattle.names.specs.Laws.Writers.{stored-none, stored-more, stored-length}
+use Rattle.names.specs.Laws.Readers.{accept, string-view}
+use Rattle.names.specs.Laws.Rows.{opens, listed-length}
 use Rattle.schema.specs.Places.{isSchema, schemaIn}
 use Rattle.schema.specs.Schema.{schemaRecord}
-use Rattle.schema.specs.declared.Row.{Row}
+use Rattle.names.specs.declared.Row.{Row}
 use Rattle.targets.specs.Places.{narrowed}
 use Rattle.resolution.specs.Places.{areTypes, typesIn, segmentsIn, Follows, NextOf}
 use Rattle.resolution.specs.Passes.{failing}

@@ -9,12 +9,12 @@ use borrow.Author.Tests.{le-leb, lt-leb}
 use lib.ListN.{length, drop, length-append}
 use Rattle.names.specs.Lists.{gather}
 use Rattle.names.specs.Fields.{digits}
-use Rattle.names.specs.Fields.Laws.{length-digits}
+use Rattle.names.specs.Laws.Fields.{length-digits}
 use Rattle.names.specs.Read.{wordAt}
 use Rattle.names.specs.Writer.{store, Stored}
-use Rattle.names.specs.Writer.Laws.{stored-none, stored-more, stored-length}
+use Rattle.names.specs.Laws.Writers.{stored-none, stored-more, stored-length}
 use Rattle.types.specs.Types.{render}
-use Rattle.types.specs.Types.Texts.{Small}
+use Rattle.types.specs.Laws.Texts.{Small}
 use Rattle.types.specs.Meaning.{richOf}
 use Rattle.types.specs.declared.Rich.{Rich}
 use Rattle.reports.specs.Answers.{outcomeOf, Refuses}
@@ -27,7 +27,7 @@ use Rattle.resolution.specs.Places.{typesIn, segmentsIn, smallPath}
 use Rattle.resolution.specs.Passes.{scopeNumber, scopeOf, briefly, listed, withList}
 use Rattle.resolution.specs.declared.ScopePath.{ScopePath}
 use Rattle.resolution.specs.declared.ScopePath.the-variants as ScopePath
-use Rattle.resolution.proofs.Listed.{with-its-list, missing-listed, ambiguous-listed}
+use Rattle.resolution.specs.Laws.Listed.{with-its-list, missing-listed, ambiguous-listed}
 use Rattle.lookup.specs.Lookup.{sized, block, output, placed}
 use Rattle.lookup.specs.Places.{answerTo, entitiesOf, renderedOf, stringsOf, Long, Measures, Writes}
 use Rattle.lookup.specs.declared.Question.{Question}

@@ -6,14 +6,14 @@ use native.Mathlib.Omega.{arith}
 use borrow.Author.Needs.{needs}
 use lib.ListN.{length, set, length-append}
 use Rattle.names.specs.Fields.{digits}
-use Rattle.names.specs.Fields.Laws.{length-digits}
+use Rattle.names.specs.Laws.Fields.{length-digits}
 use Rattle.names.specs.Read.{wordAt}
 use Rattle.names.specs.Writer.{store, Stored}
-use Rattle.names.specs.Writer.Laws.{stored-more, stored-length}
+use Rattle.names.specs.Laws.Writers.{stored-more, stored-length}
 use Rattle.types.specs.Types.{Ty, render}
-use Rattle.types.specs.Types.Texts.{Small, text-bound, text-counted}
+use Rattle.types.specs.Laws.Texts.{Small, text-bound, text-counted}
 use Rattle.types.specs.declared.Form.the-variants as Form
-use Rattle.resolution.proofs.Sizes.{Bytes, word-short}
+use Rattle.resolution.specs.Laws.Sizes.{Bytes, word-short}
 use Rattle.lookup.specs.Lookup.{sized}
 use Rattle.lookup.specs.Places.{Long}
 

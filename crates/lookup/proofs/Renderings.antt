@@ -10,9 +10,9 @@ use lib.ListN.{length}
 use Rattle.names.specs.Lists.{maybe, gather, select}
 use Rattle.names.specs.Names.{same, below}
 use Rattle.names.specs.Writer.{Stored}
-use Rattle.names.specs.Writer.Laws.{stored-length}
+use Rattle.names.specs.Laws.Writers.{stored-length}
 use Rattle.types.specs.Types.{Ty, render}
-use Rattle.types.specs.Types.Texts.{Small}
+use Rattle.types.specs.Laws.Texts.{Small}
 use Rattle.types.specs.Meaning.{richOf}
 use Rattle.types.specs.declared.Rich.{Rich}
 use Rattle.schema.specs.Schema.{Schema}
@@ -23,7 +23,7 @@ use Rattle.resolution.specs.Places.{typesIn, segmentsIn, typedOf, smallType}
 use Rattle.resolution.specs.Passes.{rendered, above, typeOn, typesOn, nextRendered}
 use Rattle.resolution.specs.declared.Typed.{Typed}
 use Rattle.resolution.specs.declared.Typed.the-variants as Typed
-use Rattle.resolution.proofs.Listed.{all-behind}
+use Rattle.resolution.specs.Laws.Listed.{all-behind}
 use Rattle.lookup.specs.Lookup.{sized}
 use Rattle.lookup.specs.Places.{Asks, renderedOf, Long, Room, Measures}
 use Rattle.lookup.specs.declared.Question.{Question}

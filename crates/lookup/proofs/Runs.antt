@@ -11,22 +11,20 @@ use Rattle.names.specs.Names.{plain}
 use Rattle.names.specs.Read.{ending, readNumber, valueOr, Listed}
 use Rattle.names.specs.declared.Read.{Read}
 use Rattle.names.specs.declared.Read.the-variants as Read
-use Rattle.names.proofs.Laws.{accept, passes, refused-by, refuses}
-use Rattle.names.proofs.Row.{row-stands, row-value}
+use Rattle.names.specs.Laws.Readers.{accept, passes, refused-by, refuses}
+use Rattle.names.specs.Laws.Rows.{row-stands, row-value}
 use Rattle.reports.specs.Answers.{outcomeOf, Refuses}
 use Rattle.reports.specs.declared.Answer.{Answer}
 use Rattle.schema.specs.Schema.{schemaRecord}
 use Rattle.schema.specs.Find.{findAction}
 use Rattle.schema.specs.Places.{schemaIn, isAction, actionIn, FindsAction}
-use Rattle.schema.specs.declared.Found.{Found}
-use Rattle.schema.specs.declared.Found.the-variants as Found
-use Rattle.schema.specs.declared.Row.{Row}
+use Rattle.names.specs.declared.Found.{Found}
+use Rattle.names.specs.declared.Found.the-variants as Found
+use Rattle.names.specs.declared.Row.{Row}
 use Rattle.targets.specs.Targets.{Narrowing, targetRecord}
 use Rattle.targets.specs.PathRecord as PathRecord
 use Rattle.targets.specs.PathRecord.{pathRecord, targetAt}
 use Rattle.targets.specs.Places.{targetsIn, isTarget, targetIn, queryIn, sideOf, FindsTarget}
-use Rattle.targets.specs.declared.Found as targetFound
-use Rattle.targets.specs.declared.Found.the-variants as TargetFound
 use Rattle.targets.specs.declared.Side.{Side}
 use Rattle.targets.specs.declared.Side.the-variants as Side
 use Rattle.resolution.specs.Resolution.{scopePath, unknown}
@@ -84,18 +82,18 @@ pub ruleset targeting = (needs, action-stands, target-unknown, target-found)
 
 -- ---- the position
 
-module _ (s n c : List ℕ) (position : ℕ) (is : position ≡ queryIn c .position) (x : targetFound.Found) (finds : FindsTarget n (targetAt position (targetsIn n .list)) x) where
-  pub position-stands : (at : ℕ) → x ≡ TargetFound.At at → isTarget n at ≡ true
+module _ (s n c : List ℕ) (position : ℕ) (is : position ≡ queryIn c .position) (x : Found) (finds : FindsTarget n (targetAt position (targetsIn n .list)) x) where
+  pub position-stands : (at : ℕ) → x ≡ Found.At at → isTarget n at ≡ true
   position-stands at e = rw e at (finds .stands)
 
   module _ (b : List ℕ) (a : Answer) where
-    pub position-absent : x ≡ TargetFound.Absent → Refuses 12 3 a → outcomeOf a b ≡ answered (schemaIn s) (targetsIn n) (queryIn c) b
+    pub position-absent : x ≡ Found.Absent → Refuses 12 3 a → outcomeOf a b ≡ answered (schemaIn s) (targetsIn n) (queryIn c) b
     unfolding answered
     position-absent e r =
         let h : none ≡ targetAt (queryIn c .position) (targetsIn n .list) = rw (← is) (rw e at (finds .value)) in
         rw (← h) (r .is b)
 
-    pub position-found : (at : ℕ) → x ≡ TargetFound.At at → (t : List ℕ) → outcomeOf a t ≡ placed (output (found (schemaIn s) (targetsIn n) (queryIn c) (targetIn n at))) b → outcomeOf a t ≡ answered (schemaIn s) (targetsIn n) (queryIn c) b
+    pub position-found : (at : ℕ) → x ≡ Found.At at → (t : List ℕ) → outcomeOf a t ≡ placed (output (found (schemaIn s) (targetsIn n) (queryIn c) (targetIn n at))) b → outcomeOf a t ≡ answered (schemaIn s) (targetsIn n) (queryIn c) b
     unfolding answered
     position-found at e t i =
         let h : some (targetIn n at) ≡ targetAt (queryIn c .position) (targetsIn n .list) = rw (← is) (rw e at (finds .value)) in

@@ -14,7 +14,7 @@ use Rattle.types.specs.Meaning.{richOf}
 use Rattle.schema.specs.Places.{isSchema, schemaIn, actionIn}
 use Rattle.targets.specs.Places.{narrowed, areTargets, targetsIn, isQuery, queryIn}
 use Rattle.targets.specs.Targets.{Narrowing}
-use Rattle.schema.specs.declared.Row.{Row}
+use Rattle.names.specs.declared.Row.{Row}
 use Rattle.resolution.specs.Resolution as Resolution
 use Rattle.resolution.specs.Resolution.{scopePath}
 use Rattle.resolution.specs.Places.{areTypes, typesIn, areSegments, segmentsIn}

@@ -2,11 +2,12 @@
 use crate::Question;
 use crate::place::place_path;
 use crate::place::place_unknown;
+use names::Found;
 use names::Read;
+use names::Row;
 use reports::Answer;
 use reports::refused;
 use schema::Namespace;
-use schema::Row;
 use targets::Side;
 ghost use mathlib.Core.Path.{_≡_};
 ghost use mathlib.Core.Bool.{true};
@@ -82,7 +83,7 @@ fn for_target<'a>(s: &'a [u8], n: &[u8], c: &'a [u8], at: usize, out: &mut [u8])
         Namespace::Whole,
         targets::id_of(n, at),
     );
-    let schema::Found::At(action) = own else {
+    let Found::At(action) = own else {
         return place_unknown(out);
     };
     let q = question(s, n, c, action);
@@ -96,7 +97,7 @@ fn for_records<'a>(s: &'a [u8], n: &[u8], c: &'a [u8], out: &mut [u8]) -> Answer
 {
     let position = targets::path_position(c);
     let own = targets::target_at(n, position);
-    let targets::Found::At(at) = own else {
+    let Found::At(at) = own else {
         return refused(12, 3);
     };
     for_target(s, n, c, at, out)

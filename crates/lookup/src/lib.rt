@@ -6,7 +6,7 @@ mod place;
 mod strings;
 
 pub use entry::lookup;
-use schema::Row;
+use names::Row;
 use targets::Narrowed;
 
 // A path under a scope: the narrowing, the entity types that the action names there, in the schema, and the segments, in the path record.

@@ -10,7 +10,7 @@ ghost use Rattle.names.specs.Fields.{digits};
 ghost use Rattle.names.specs.Read.{wordAt};
 ghost use Rattle.names.specs.Writer.{Stored};
 ghost use Rattle.types.specs.Types.{render};
-ghost use Rattle.types.specs.Types.Texts.{Small};
+ghost use Rattle.types.specs.Laws.Texts.{Small};
 ghost use Rattle.types.specs.Meaning.{richOf};
 ghost use Rattle.lookup.specs.Lookup.{sized};
 ghost use Rattle.lookup.specs.Places.{Long, Room};

@@ -7,3 +7,4 @@ pub mod Class
 pub mod Order
 pub mod Read
 pub mod Writer
+pub mod Laws

@@ -4,8 +4,6 @@ use mathlib.Core.Bool.{Bool, true, false, cond, _&&_, _||_, not}
 use mathlib.Core.List.{List, [], _∷_, _++_}
 use lib.Dec.{ltb, leb, eqb}
 use Rattle.names.specs.Lists.{every}
-pub mod Laws
-pub mod Joined
 
 abbrev pub between : ℕ → ℕ → ℕ → Bool
 between lo hi b = leb lo b && leb b hi

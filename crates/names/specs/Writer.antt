@@ -3,7 +3,6 @@ use mathlib.Core.Path.{_≡_}
 use mathlib.Core.List.{List, _++_}
 use Prim.Native.Nat.{ℕ, _+_, _≤_}
 use lib.ListN.{length, take, drop}
-pub mod Laws
 
 -- the buffer s with the bytes vs from index at on
 unfoldable pub store : List ℕ → ℕ → List ℕ → List ℕ

@@ -82,6 +82,7 @@ pub fn part_of(s: &[u8], at: usize, len: usize) -> &[u8]
 // The string whose length byte stands at `at`, as far as there are so many bytes.
 pub fn word(s: &[u8], at: usize) -> &[u8]
     ensures { λ r. ⌜ now r ≡ wordAt (now (s .entry)) at ⌝ }
+    ensures { λ r. ⌜ length (now r) ≤ 255 ⌝ }
 {
     if s.len() <= at {
         return &s[..0];

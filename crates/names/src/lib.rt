@@ -67,3 +67,15 @@ pub enum Before {
     Nothing,
     At(usize),
 }
+
+// What a lookup gives: the position of what was found.
+pub enum Found {
+    At(usize),
+    Absent,
+}
+
+// So many things, one after another from a position.
+pub struct Row {
+    pub count: usize,
+    pub at: usize,
+}

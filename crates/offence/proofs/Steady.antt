@@ -15,7 +15,7 @@ use Rattle.names.specs.Fields.{Got, got, bad, Reader, next, _>>=_, _<$>_, pure,
 use Rattle.names.specs.Names.{same, plain}
 use Rattle.names.specs.Paths.{pathOf}
 use Rattle.names.specs.Read.{refusalNumber}
-use Rattle.names.proofs.Laws.{split, u8-got, u8-end, bytes-got, bytes-end}
+use Rattle.names.specs.Laws.Readers.{split, u8-got, u8-end, bytes-got, bytes-end}
 
 -- a front of a front, and what is left of the longer one
 pub longer-front : (s : List ℕ) (m n : ℕ) → m ≤ n → take m s ++ drop m (take n s) ≡ take n s

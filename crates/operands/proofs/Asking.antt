@@ -10,16 +10,15 @@ use Rattle.names.specs.Fields.{whole}
 use Rattle.names.specs.Read.{ending, readNumber, valueOr}
 use Rattle.names.specs.declared.Read.{Read}
 use Rattle.names.specs.declared.Read.the-variants as Read
-use Rattle.names.proofs.Laws.{accept, passes, refused-by, refuses}
+use Rattle.names.specs.Laws.Readers.{accept, passes, refused-by, refuses}
 use Rattle.schema.specs.Schema.{schemaRecord}
 use Rattle.schema.specs.Find.{findAction}
 use Rattle.schema.specs.Places.{schemaIn, isAction, actionIn, foundIn, foundStands, FindsAction, ActionsOf}
-use Rattle.schema.specs.declared.Found.{Found}
+use Rattle.names.specs.declared.Found.{Found}
+use Rattle.names.specs.declared.Found.the-variants as Found
 use Rattle.targets.specs.Targets.{targetRecord}
 use Rattle.targets.specs.PathRecord.{targetAt}
 use Rattle.targets.specs.Places.{targetsIn, isTarget, targetIn, FindsTarget}
-use Rattle.targets.specs.declared.Found as targetFound
-use Rattle.targets.specs.declared.Found.the-variants as TargetFound
 use Rattle.condition.specs.Condition.{Condition, one, two, predicate, comparison, exists, tp, opaque, conditionRecord}
 use Rattle.condition.specs.Kinds.{kindOf, spanOf}
 use Rattle.condition.specs.Places.{isRecord, recordIn, isCondition, conditionIn, isTerm, termIn}
@@ -122,18 +121,18 @@ pub ruleset by-target = (needs, action-stands, target-answered)
 
 -- ---- the position
 
-module _ (s c n : List ℕ) (position : ℕ) (x : targetFound.Found) (finds : FindsTarget n (targetAt position (targetsIn n .list)) x) where
-  pub position-stands : (at : ℕ) → x ≡ TargetFound.At at → isTarget n at ≡ true
+module _ (s c n : List ℕ) (position : ℕ) (x : Found) (finds : FindsTarget n (targetAt position (targetsIn n .list)) x) where
+  pub position-stands : (at : ℕ) → x ≡ Found.At at → isTarget n at ≡ true
   position-stands at e = rw e at (finds .stands)
 
   module _ (which : Operand) (b : List ℕ) where
-    pub position-absent : x ≡ TargetFound.Absent → outcomeOf (Answer.Refused 12 3) b ≡ atPosition (schemaIn s) (recordIn c) (targetsIn n) position which b
+    pub position-absent : x ≡ Found.Absent → outcomeOf (Answer.Refused 12 3) b ≡ atPosition (schemaIn s) (recordIn c) (targetsIn n) position which b
     unfolding atPosition outcomeOf
     position-absent e =
         let h : none ≡ targetAt position (targetsIn n .list) = rw e at (finds .value) in
         rw (← h)
 
-    pub position-found : (at : ℕ) → x ≡ TargetFound.At at → (a : Answer) (t : List ℕ) → outcomeOf a t ≡ underTarget (schemaIn s) (recordIn c) (targetsIn n) which b (targetIn n at)
+    pub position-found : (at : ℕ) → x ≡ Found.At at → (a : Answer) (t : List ℕ) → outcomeOf a t ≡ underTarget (schemaIn s) (recordIn c) (targetsIn n) which b (targetIn n at)
         → outcomeOf a t ≡ atPosition (schemaIn s) (recordIn c) (targetsIn n) position which b
     unfolding atPosition
     position-found at e a t i =

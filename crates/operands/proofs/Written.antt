@@ -8,9 +8,9 @@ use borrow.Author.Needs.{needs}
 use borrow.Author.Tests.{le-leb, lt-leb}
 use lib.ListN.{length, drop}
 use Rattle.names.specs.Writer.{store, Stored}
-use Rattle.names.specs.Writer.Laws.{stored-length}
+use Rattle.names.specs.Laws.Writers.{stored-length}
 use Rattle.types.specs.Types.{Ty, render}
-use Rattle.types.specs.Types.Texts.{Small, text-counted}
+use Rattle.types.specs.Laws.Texts.{Small, text-counted}
 use Rattle.types.specs.Meaning.{richOf}
 use Rattle.types.specs.declared.Form.the-variants as Form
 use Rattle.types.specs.declared.Rich.{Rich}

@@ -3,8 +3,8 @@ use crate::Answer;
 use crate::Operand;
 use crate::text::show_type;
 use condition::ComparisonAt;
+use names::Found;
 use names::Read;
-use schema::Found;
 use schema::Namespace;
 use terms::Common;
 use terms::Facts;
@@ -168,7 +168,7 @@ fn at_position<'a>(
     ensures { λ r. ⌜ outcomeOf r (now (out .exit)) ≡ atPosition (schemaIn (now (schema .entry))) (recordIn (now (condition .entry))) (targetsIn (now (targets .entry))) position which (now (out .entry)) ⌝ }
 {
     let own = targets::target_at(targets, position);
-    let targets::Found::At(at) = own else {
+    let Found::At(at) = own else {
         return Answer::Refused(12, 3);
     };
     under_target(schema, condition, targets, at, which, out)

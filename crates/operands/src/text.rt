@@ -5,7 +5,7 @@ use types::Form;
 use types::Rich;
 ghost use mathlib.Core.Path.{_≡_};
 ghost use Rattle.types.specs.Types.{render};
-ghost use Rattle.types.specs.Types.Texts.{Small};
+ghost use Rattle.types.specs.Laws.Texts.{Small};
 ghost use Rattle.types.specs.Meaning.{richOf};
 ghost use Rattle.resolution.specs.Places.{typedOf, smallType};
 ghost use Rattle.operands.specs.Operands.{placed, shown};

@@ -7,7 +7,7 @@ use lib.ListN.{length, take, drop, length-append}
 use lib.Seq.{take-append-seam, drop-append-seam, drop-drop}
 use Rattle.names.specs.Lists.{gather}
 use Rattle.names.specs.Fields.{number, digits}
-use Rattle.names.specs.Fields.Laws.{length-digits, number-front, behind-digits}
+use Rattle.names.specs.Laws.Fields.{length-digits, number-front, behind-digits}
 use Rattle.reports.specs.Reports.{Breach, encoded}
 
 -- what stands before a report's message: start, end, and the message's length

@@ -10,7 +10,7 @@ use lib.ListN.{length, length-append}
 use lib.Dec.{leb, ltb, eqb}
 use borrow.Author.Tests.{leb-true, leb-false, le-leb, lt-leb, ltb-true, ltb-false, le-ltb, lt-ltb, eq-eqb, ne-eqb}
 use Rattle.names.specs.Lists.{anyOf, gather}
-use Rattle.names.specs.Lists.Laws.{any-append, gather-append}
+use Rattle.names.specs.Laws.Lists.{any-append, gather-append}
 use Rattle.reports.specs.Reports.{Breach, samePair, once, encoded, fitting}
 use Rattle.reports.specs.Decode.{width, size}
 

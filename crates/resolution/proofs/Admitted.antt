@@ -11,24 +11,24 @@ use Rattle.names.specs.Lists.{maybe, anyOf, select}
 use Rattle.names.specs.Fields.{stringOf}
 use Rattle.names.specs.Names.{pathName, same, simpleName}
 use Rattle.names.specs.Read.{wordAt, Listed}
-use Rattle.names.proofs.Row.{Remaining, remaining-all, remaining-over, StringsLeft, strings-left}
+use Rattle.names.specs.Laws.Rows.{Remaining, remaining-all, remaining-over, StringsLeft, strings-left}
 use Rattle.types.specs.Meaning.{tagOf, layered, richOf}
-use Rattle.types.specs.Types.Texts.{layersIn, tagIn, Small}
+use Rattle.types.specs.Laws.Texts.{layersIn, tagIn, Small}
 use Rattle.types.specs.declared.Tag.{Tag}
 use Rattle.types.specs.declared.Base.the-variants as Base
 use Rattle.schema.specs.Schema.{Schema, EntityType, Action}
 use Rattle.schema.specs.Find.{findEntity}
 use Rattle.schema.specs.Places.{schemaIn, isEntity, entityIn, actionIn, FindsEntity}
-use Rattle.schema.specs.declared.Found.{Found}
-use Rattle.schema.specs.declared.Found.the-variants as Found
-use Rattle.schema.specs.declared.Row.{Row}
+use Rattle.names.specs.declared.Found.{Found}
+use Rattle.names.specs.declared.Found.the-variants as Found
+use Rattle.names.specs.declared.Row.{Row}
 use Rattle.targets.specs.Targets.{Narrowing, Scope}
 use Rattle.targets.specs.Places.{narrowed, targetsIn}
 use Rattle.targets.specs.declared.Narrowed.{Narrowed}
 use Rattle.targets.specs.declared.Narrowed.the-variants as Narrowed
 use Rattle.resolution.specs.Resolution.{ancestorsOf, admits, admittedBy, sideAdmits, admitted, admitsAnyEnv, entityOf, scopeType}
 use Rattle.resolution.specs.Places.{areTypes, typesIn, isAbsent, nextIn, Follows, nextFollows, NextOf, typedOf, smallType}
-use Rattle.resolution.proofs.Sizes.{Bytes, simple-short, word-short}
+use Rattle.resolution.specs.Laws.Sizes.{Bytes, simple-short, word-short}
 use Rattle.resolution.specs.declared.Next.{Next}
 use Rattle.resolution.specs.declared.Next.the-variants as Next
 use Rattle.resolution.specs.declared.Typed.{Typed}

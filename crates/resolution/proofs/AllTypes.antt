@@ -14,9 +14,9 @@ use Rattle.types.specs.declared.Rich.{Rich}
 use Rattle.schema.specs.Schema.{Schema, EntityType}
 use Rattle.schema.specs.Find.{findEntity}
 use Rattle.schema.specs.Places.{schemaIn, isEntity, entityIn, FindsEntity}
-use Rattle.schema.specs.declared.Found.{Found}
-use Rattle.schema.specs.declared.Found.the-variants as Found
-use Rattle.schema.specs.declared.Row.{Row}
+use Rattle.names.specs.declared.Found.{Found}
+use Rattle.names.specs.declared.Found.the-variants as Found
+use Rattle.names.specs.declared.Row.{Row}
 use Rattle.targets.specs.Targets.{Narrowing}
 use Rattle.resolution.specs.Resolution as Resolution
 use Rattle.resolution.specs.Resolution.{OnType, ambiguous, unknown, typed, typesOf, failed, agreed, failure, verdict, onEntity, onTypes, declaredAll, admittedBy, admitted, scopePath, renderings}
@@ -28,7 +28,7 @@ use Rattle.resolution.specs.declared.PathEnd.{PathEnd}
 use Rattle.resolution.specs.declared.PathEnd.the-variants as PathEnd
 use Rattle.resolution.specs.declared.ScopePath.{ScopePath}
 use Rattle.resolution.specs.declared.ScopePath.the-variants as ScopePath
-use Rattle.resolution.proofs.Segments.{no-segments}
+use Rattle.resolution.specs.Laws.Segments.{no-segments}
 
 -- One more entity type, in the code's answers.
 module _ (e : PathEnd) where

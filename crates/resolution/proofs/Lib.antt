@@ -1,10 +1,6 @@
-pub mod Sizes
-pub mod Segments
 pub mod Admitted
 pub mod OneType
 pub mod AllTypes
-pub mod Failing
-pub mod Listed
 pub mod Texts
 pub mod Rendered
 pub mod Examples

@@ -11,14 +11,14 @@ use Rattle.names.specs.Names.{same}
 use Rattle.names.specs.Read.{wordAt}
 use Rattle.names.specs.Text.{text}
 use Rattle.types.specs.Meaning.{layered, richOf}
-use Rattle.types.specs.Types.Texts.{layersIn, tagIn, Small}
+use Rattle.types.specs.Laws.Texts.{layersIn, tagIn, Small}
 use Rattle.types.specs.declared.Rich.{Rich}
 use Rattle.types.specs.declared.Base.the-variants as Base
 use Rattle.types.specs.declared.Scalar.the-variants as Scalar
 use Rattle.schema.specs.Schema.{Declared, Attributes, EntityType}
 use Rattle.schema.specs.Find.{findAttribute}
 use Rattle.schema.specs.Places.{areFields, fieldsIn, entityIn, Standing}
-use Rattle.schema.specs.declared.Row.{Row}
+use Rattle.names.specs.declared.Row.{Row}
 use Rattle.resolution.specs.Resolution as Resolution
 use Rattle.resolution.specs.Resolution.{headMissing, nestedMissing, nested, descend, resolveIn, projection, unattributed, onEntity}
 use Rattle.resolution.specs.Places.{areSegments, segmentsIn, resolutionOf, endOf, smallResolution, smallEnd}
@@ -26,7 +26,7 @@ use Rattle.resolution.specs.declared.PathResolution.{PathResolution}
 use Rattle.resolution.specs.declared.PathResolution.the-variants as PathResolution
 use Rattle.resolution.specs.declared.PathEnd.{PathEnd}
 use Rattle.resolution.specs.declared.PathEnd.the-variants as PathEnd
-use Rattle.resolution.proofs.Segments.{first-segment, no-segments}
+use Rattle.resolution.specs.Laws.Segments.{first-segment, no-segments}
 
 -- `id` and `type`
 module _ (name : List ℕ) (b : Bool) (is-b : b ≡ same name (105 ∷ 100 ∷ [])) where

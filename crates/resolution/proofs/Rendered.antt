@@ -11,18 +11,18 @@ use Rattle.names.specs.Lists.{maybe, select}
 use Rattle.names.specs.Names.{below}
 use Rattle.names.specs.Read.{wordAt}
 use Rattle.names.specs.Writer.{Stored}
-use Rattle.names.specs.Writer.Laws.{stored-text, stored-length}
+use Rattle.names.specs.Laws.Writers.{stored-text, stored-length}
 use Rattle.types.specs.Types.{Ty, render}
-use Rattle.types.specs.Types.Texts.{Small, text-bound}
+use Rattle.types.specs.Laws.Texts.{Small, text-bound}
 use Rattle.types.specs.Meaning.{richOf}
 use Rattle.types.specs.declared.Rich.{Rich}
 use Rattle.types.specs.declared.Form.the-variants as Form
 use Rattle.schema.specs.Schema.{Schema}
 use Rattle.schema.specs.Find.{findEntity}
 use Rattle.schema.specs.Places.{schemaIn, isEntity, entityIn, FindsEntity}
-use Rattle.schema.specs.declared.Found.{Found}
-use Rattle.schema.specs.declared.Found.the-variants as Found
-use Rattle.schema.specs.declared.Row.{Row}
+use Rattle.names.specs.declared.Found.{Found}
+use Rattle.names.specs.declared.Found.the-variants as Found
+use Rattle.names.specs.declared.Row.{Row}
 use Rattle.targets.specs.Targets.{Narrowing}
 use Rattle.resolution.specs.Resolution as Resolution
 use Rattle.resolution.specs.Resolution.{typed, onEntity, admittedBy, renderings}
@@ -34,7 +34,7 @@ use Rattle.resolution.specs.declared.PathEnd.{PathEnd}
 use Rattle.resolution.specs.declared.PathEnd.the-variants as PathEnd
 use Rattle.resolution.specs.declared.Typed.{Typed}
 use Rattle.resolution.specs.declared.Typed.the-variants as Typed
-use Rattle.resolution.proofs.Segments.{no-segments}
+use Rattle.resolution.specs.Laws.Segments.{no-segments}
 use Rattle.resolution.proofs.Texts.{picked, picked-next}
 
 -- Two texts, each in a scratch of 512 bytes.

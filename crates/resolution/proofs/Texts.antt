@@ -8,7 +8,7 @@ use native.Mathlib.Omega.{arith}
 use lib.Dec.{eqb}
 use Rattle.names.specs.Lists.{maybe, first, every, select}
 use Rattle.names.specs.Names.{same, below, order}
-use Rattle.names.specs.Names.Laws.{and-left, and-right, same-eq, below-order, order-refl, order-flip, below-trans}
+use Rattle.names.specs.Laws.Names.{and-left, and-right, same-eq, below-order, order-refl, order-flip, below-trans}
 use Rattle.types.specs.Types.{Ty, render}
 use Rattle.schema.specs.Schema.{Schema}
 use Rattle.resolution.specs.Resolution.{insert, renderings}

@@ -2,3 +2,4 @@ pub mod Resolution
 pub mod Places
 pub mod Passes
 pub mod Examples
+pub mod Laws

@@ -10,9 +10,9 @@ use Rattle.names.specs.Fields.{stringOf}
 use Rattle.names.specs.Names.{pathName, plain}
 use Rattle.names.specs.Read.{wordAt, isRow, rowIn}
 use Rattle.types.specs.Types.{Ty}
-use Rattle.types.specs.Types.Texts.{Small}
+use Rattle.types.specs.Laws.Texts.{Small}
 use Rattle.types.specs.Meaning.{richOf}
-use Rattle.schema.specs.declared.Row.{Row}
+use Rattle.names.specs.declared.Row.{Row}
 use Rattle.targets.specs.declared.Narrowed.{Narrowed}
 use Rattle.targets.specs.declared.Narrowed.the-variants as Narrowed
 use Rattle.resolution.specs.Resolution as Resolution

@@ -1,8 +1,8 @@
 // Paths into a record.
 use crate::PathResolution;
 use crate::Typed;
-use schema::Found;
-use schema::Row;
+use names::Found;
+use names::Row;
 ghost use mathlib.Core.Path.{_≡_};
 ghost use mathlib.Core.Bool.{true};
 ghost use mathlib.Core.Option.{some};

@@ -2,7 +2,7 @@
 use crate::PathEnd;
 use crate::PathResolution;
 use crate::along::resolve_in;
-use schema::Row;
+use names::Row;
 use types::Base;
 use types::Rich;
 use types::Scalar;

@@ -1,8 +1,8 @@
 // What a rule's scope admits.
 use crate::Next;
 use crate::Typed;
-use schema::Found;
-use schema::Row;
+use names::Found;
+use names::Row;
 use targets::Narrowed;
 use types::Base;
 use types::Rich;

@@ -10,9 +10,9 @@ use Rattle.names.specs.Fields.{got}
 use Rattle.names.specs.Names.{same}
 use Rattle.names.specs.Read.{ending, wordAt}
 use Rattle.names.specs.declared.Read.the-variants.{Next}
-use Rattle.names.proofs.Laws.{accept, has-value, RowLeft}
-use Rattle.schema.specs.declared.Found.the-variants as Found
-use Rattle.schema.specs.declared.Row.{Row}
+use Rattle.names.specs.Laws.Readers.{accept, has-value, RowLeft}
+use Rattle.names.specs.declared.Found.the-variants as Found
+use Rattle.names.specs.declared.Row.{Row}
 use Rattle.schema.specs.Schema.{Action, Key, action, keyOf}
 use Rattle.schema.specs.Find.{actionType, findAction}
 use Rattle.schema.specs.Places.{pastWord, noAction, isAction, schemaIn, FindsAction, ActionsOf, isOf}

@@ -9,9 +9,9 @@ use borrow.Author.Tests.{leb-true, leb-false}
 use lib.Dec.{leb}
 use Rattle.names.specs.Fields.{got, Reader, u8, stringOf, choose}
 use Rattle.names.specs.Names.{pathName, plain}
-use Rattle.names.proofs.Laws.{u8-view, string-view, split, got-place, Each, each-below}
+use Rattle.names.specs.Laws.Readers.{u8-view, string-view, split, got-place, Each, each-below}
 use Rattle.schema.specs.Schema.{Declared, Attributes, kinds, ascending, typeAt, attributes, attributesOf}
-use Rattle.schema.proofs.ByKind.{ascending-string, choose-above}
+use Rattle.schema.specs.Laws.ByKind.{ascending-string, choose-above}
 use Rattle.schema.proofs.Levels.{none-left}
 
 module _ (f : Reader Declared) (ahead : (s : List ℕ) (at : ℕ) (t : Declared) (n : ℕ) → f s at ≡ got t n → at ≤ n) where

@@ -9,7 +9,7 @@ use Rattle.names.specs.Fields.{stringOf}
 use Rattle.names.specs.Lists.{anyOf}
 use Rattle.names.specs.Names.{same, pathName}
 use Rattle.names.specs.Read.{wordAt, isRow, rowIn, Listed}
-use Rattle.names.proofs.Row.{Remaining, remaining-all, remaining-over, strings-left}
+use Rattle.names.specs.Laws.Rows.{Remaining, remaining-all, remaining-over, strings-left}
 
 abbrev isAmong : List ℕ → List (List ℕ) → Bool
 isAmong name list = anyOf (λ a. same a name) list

@@ -12,8 +12,8 @@ use Rattle.names.specs.Fields.{got, choose, stringOf, levels}
 use Rattle.names.specs.Names.{pathName, same, simpleName}
 use Rattle.names.specs.Text.{text}
 use Rattle.names.specs.Read.{wordAt}
-use Rattle.names.proofs.Laws.{Split, split, string-view, accept, is-accepted, has-value, got-value, Each, each-below}
-use Rattle.names.proofs.Walk.{part-of-part, take-at-most}
+use Rattle.names.specs.Laws.Readers.{Split, split, string-view, accept, is-accepted, has-value, got-value, Each, each-below}
+use Rattle.names.specs.Laws.Walks.{part-of-part, take-at-most}
 use Rattle.types.specs.Types.{Ty, entity, array}
 use Rattle.types.specs.Meaning.{tagOf, baseOf, layered}
 use Rattle.types.specs.declared.Source.the-variants as Source

@@ -11,8 +11,8 @@ use Rattle.names.specs.Fields.{number, got}
 use Rattle.names.specs.Names.{same}
 use Rattle.names.specs.Read.{ending, wordAt}
 use Rattle.names.specs.declared.Read.the-variants.{Next}
-use Rattle.names.proofs.Laws.{RowLeft}
-use Rattle.schema.specs.declared.Found.the-variants as Found
+use Rattle.names.specs.Laws.Readers.{RowLeft}
+use Rattle.names.specs.declared.Found.the-variants as Found
 use Rattle.schema.specs.Schema.{EntityType, Schema, entityType}
 use Rattle.schema.specs.Find.{findEntity}
 use Rattle.schema.specs.Places.{noEntity, schemaIn, isSchema, isEntity, FindsEntity}

@@ -12,12 +12,12 @@ use Rattle.names.specs.Fields.{got, u8, levels}
 use Rattle.names.specs.Names.{plain, same}
 use Rattle.names.specs.Read.{ending, wordAt}
 use Rattle.names.specs.declared.Read.the-variants.{Next}
-use Rattle.names.proofs.Laws.{u8-view, string-view, split, accept, is-accepted, has-value, arrives, got-value}
-use Rattle.schema.specs.declared.Found.the-variants as Found
+use Rattle.names.specs.Laws.Readers.{u8-view, string-view, split, accept, is-accepted, has-value, arrives, got-value}
+use Rattle.names.specs.declared.Found.the-variants as Found
 use Rattle.schema.specs.Schema.{Declared, Attributes, nothing, ascending, typeAt, attributes, attributesOf}
 use Rattle.schema.specs.Find.{findAttribute}
 use Rattle.schema.specs.Places.{pastWord, isType, fieldsIn, areFields, Finds}
-use Rattle.schema.proofs.ByKind.{ascending-string}
+use Rattle.schema.specs.Laws.ByKind.{ascending-string}
 
 -- what is left of a row of attributes, n of them from `at`, answers as the whole row
 pub record Left (s name : List ℕ) (o : Option Declared) (n at : ℕ) : Type 0 where

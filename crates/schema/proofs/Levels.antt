@@ -9,9 +9,9 @@ use borrow.Author.Tests.{leb-true, leb-false}
 use lib.Dec.{leb}
 use Rattle.names.specs.Fields.{got, Reader, refuse, u8, choose}
 use Rattle.names.specs.Names.{plain}
-use Rattle.names.proofs.Laws.{Wider, next-wider, split, Each, each-below}
+use Rattle.names.specs.Laws.Readers.{Wider, next-wider, split, Each, each-below}
 use Rattle.schema.specs.Schema.{Declared, ascending, kinds, typeAt, attributes, attributesOf}
-use Rattle.schema.proofs.ByKind.{choose-above}
+use Rattle.schema.specs.Laws.ByKind.{choose-above}
 
 module _ (f g : Reader Declared) (wide : Wider f g) where
   row-wider : (n : ℕ) (before : Option (List ℕ)) → Wider (attributesOf f n before) (attributesOf g n before)

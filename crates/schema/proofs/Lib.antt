@@ -1,5 +1,4 @@
 -- Laws that several proofs cite.
-pub mod ByKind
 pub mod Rows
 pub mod Levels
 pub mod Ahead

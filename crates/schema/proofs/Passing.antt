@@ -13,12 +13,12 @@ use Rattle.names.specs.Names.{pathName, plain}
 use Rattle.names.specs.Read.{ending, accepted, row, isRow}
 use Rattle.names.specs.declared.Read.{Read}
 use Rattle.names.specs.declared.Read.the-variants.{Next}
-use Rattle.names.proofs.Laws.{Keeps, next-wider, u8-view, string-view, StringView, split, accept, Accepted, is-accepted, arrives, passes, got-place}
-use Rattle.names.proofs.Row.{Opens, opens, each-done, row-cons, row-append}
-use Rattle.schema.specs.declared.Row.{Row}
+use Rattle.names.specs.Laws.Readers.{Keeps, next-wider, u8-view, string-view, StringView, split, accept, Accepted, is-accepted, arrives, passes, got-place}
+use Rattle.names.specs.Laws.Rows.{Opens, opens, each-done, row-cons, row-append}
+use Rattle.names.specs.declared.Row.{Row}
 use Rattle.schema.specs.Schema.{Declared, Attributes, ascending, typeAt, attributes, attributesOf, entityType, action}
 use Rattle.schema.specs.Places.{pastWord, isType, areFields, areNames, isEntity, entityIn, areEntities, entitiesAt, isAction, actionIn, attributeAt, Opened, Below, Inside}
-use Rattle.schema.proofs.ByKind.{ascending-string, type-set, type-object, type-extension, type-entity, type-leaf}
+use Rattle.schema.specs.Laws.ByKind.{ascending-string, type-set, type-object, type-extension, type-entity, type-leaf}
 use Rattle.schema.proofs.Levels.{type-wider, attributes-wider}
 use Rattle.schema.proofs.Ahead.{type-ahead}
 use Rattle.schema.proofs.TypeViews.{open-type}

@@ -13,10 +13,10 @@ use Rattle.names.specs.declared.Read.{Read}
 use Rattle.names.specs.declared.Read.the-variants.{Next, Refused}
 use Rattle.names.specs.declared.Before.{Before}
 use Rattle.names.specs.declared.Before.the-variants.{Nothing, At}
-use Rattle.names.proofs.Laws.{u8-end, u8-got, last, stops, goes, split, string-view, row-done, row-stops, row-turn, got-value}
+use Rattle.names.specs.Laws.Readers.{u8-end, u8-got, last, stops, goes, split, string-view, row-done, row-stops, row-turn, got-value}
 use Rattle.schema.specs.Schema.{EntityType, Action, Key, ascending, typeAt, attributes, entityType, keyAfter, keyOf, action}
 use Rattle.schema.specs.Places.{keyAt, earlierKey}
-use Rattle.schema.proofs.ByKind.{ascending-word}
+use Rattle.schema.specs.Laws.ByKind.{ascending-word}
 
 -- A count of path names.
 module _ (s : List ℕ) where

@@ -7,9 +7,9 @@ use Prim.Native.Nat.{ℕ, _-_, _≤_, _<_}
 use Rattle.names.specs.Fields.{got, Reader}
 use Rattle.names.specs.Read.{ending, accepted, valueOr}
 use Rattle.names.specs.declared.Read.the-variants.{Next}
-use Rattle.names.proofs.Laws.{Keeps, is-accepted, has-value, arrives, RowLeft, RowFirst, row-first, row-over}
-use Rattle.schema.specs.declared.Found.{Found}
-use Rattle.schema.specs.declared.Found.the-variants as Found
+use Rattle.names.specs.Laws.Readers.{Keeps, is-accepted, has-value, arrives, RowLeft, RowFirst, row-first, row-over}
+use Rattle.names.specs.declared.Found.{Found}
+use Rattle.names.specs.declared.Found.the-variants as Found
 use Rattle.schema.specs.Places.{Answers}
 
 module _ {A K : Type 0} (key : A → K) (f : Option K → Reader A) (test : A → Bool) (other : A) (s : List ℕ) (o : Option A) where

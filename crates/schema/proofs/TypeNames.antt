@@ -12,13 +12,13 @@ use Rattle.names.specs.Fields.{got, stringOf}
 use Rattle.names.specs.Names.{same, pathName, joined}
 use Rattle.names.specs.Text.{text}
 use Rattle.names.specs.Read.{wordAt, row, isRow, rowIn}
-use Rattle.names.proofs.Laws.{accept, has-value}
-use Rattle.names.proofs.Row.{Remaining, remaining-over, strings-left, opens, row-empty, string-class}
-use Rattle.schema.specs.declared.Found.{Found}
-use Rattle.schema.specs.declared.Found.the-variants as Found
+use Rattle.names.specs.Laws.Readers.{accept, has-value}
+use Rattle.names.specs.Laws.Rows.{Remaining, remaining-over, strings-left, opens, row-empty, string-class}
+use Rattle.names.specs.declared.Found.{Found}
+use Rattle.names.specs.declared.Found.the-variants as Found
 use Rattle.schema.specs.Find.{actionType}
 use Rattle.schema.specs.Places.{goesOn, placeOf, isNamespace, namespaceIn}
-use Rattle.schema.specs.declared.Row.{Row}
+use Rattle.names.specs.declared.Row.{Row}
 use Rattle.schema.specs.declared.Namespace.{Namespace}
 use Rattle.schema.specs.declared.Namespace.the-variants as Namespace
 

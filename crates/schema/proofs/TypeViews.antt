@@ -11,12 +11,12 @@ use lib.ListN.{length, getD}
 use borrow.Author.Needs.{needs}
 use Rattle.names.specs.Fields.{got, Reader, u8, choose, stringOf, levels}
 use Rattle.names.specs.Names.{pathName}
-use Rattle.names.proofs.Laws.{u8-view, split, accept, Accepted, is-accepted, has-value, got-value, Each, each-below}
+use Rattle.names.specs.Laws.Readers.{u8-view, split, accept, Accepted, is-accepted, has-value, got-value, Each, each-below}
 use Rattle.schema.specs.Schema.{Declared, Attributes, never, nothing, object, kinds, typeAt, attributes}
 use Rattle.schema.specs.Places.{typeIn, isType, fieldsIn, areFields, FindsFields, Opened}
 use Rattle.schema.specs.Find.{fieldsOf}
-use Rattle.schema.specs.declared.Found.the-variants as Found
-use Rattle.schema.proofs.ByKind.{choose-above}
+use Rattle.names.specs.declared.Found.the-variants as Found
+use Rattle.schema.specs.Laws.ByKind.{choose-above}
 use Rattle.schema.proofs.Levels.{type-wider, attributes-wider}
 
 -- a type, accepted: its kind, and what follows it

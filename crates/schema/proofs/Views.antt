@@ -11,12 +11,12 @@ use Rattle.names.specs.Names.{pathName, plain}
 use Rattle.names.specs.Read.{ending, row, Listed}
 use Rattle.names.specs.declared.Read.{Read}
 use Rattle.names.specs.declared.Read.the-variants.{Next, Refused}
-use Rattle.names.proofs.Laws.{Keeps, split, held, string-view, u8-view, accept, is-accepted, has-value, got-value, got-place, arrives, not-refused, next-wider, u16-value, u16-place, heading-place, finished-value, whole-read}
-use Rattle.names.proofs.Row.{row-any, listed}
+use Rattle.names.specs.Laws.Readers.{Keeps, split, held, string-view, u8-view, accept, is-accepted, has-value, got-value, got-place, arrives, not-refused, next-wider, u16-value, u16-place, heading-place, finished-value, whole-read}
+use Rattle.names.specs.Laws.Rows.{row-any, listed}
 use Rattle.schema.specs.Schema.{EntityType, Action, Key, Schema, never, nothing, after, ascending, typeAt, attributes, entityType, keyAfter, action, keyOf, schemaRecord}
-use Rattle.schema.specs.declared.Row.{Row}
+use Rattle.names.specs.declared.Row.{Row}
 use Rattle.schema.specs.Places.{pastWord, areFields, fieldsIn, areNames, namesIn, isType, typeIn, schemaIn, isSchema, entityIn, isEntity, entitiesAt, areEntities, actionIn, isAction, Standing, ActionsOf}
-use Rattle.schema.proofs.ByKind.{ascending-string}
+use Rattle.schema.specs.Laws.ByKind.{ascending-string}
 
 abbrev pub nameOf : EntityType → List ℕ
 nameOf e = e .name

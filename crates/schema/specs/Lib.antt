@@ -1,3 +1,4 @@
 pub mod Schema
 pub mod Find
 pub mod Places
+pub mod Laws

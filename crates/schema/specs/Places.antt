@@ -12,9 +12,9 @@ use Rattle.names.specs.declared.Before.{Before}
 use Rattle.names.specs.declared.Before.the-variants.{Nothing, At}
 use Rattle.schema.specs.Schema.{Key, Declared, Attributes, EntityType, Action, Schema, never, nothing, ascending, typeAt, attributes, entityType, action, keyOf, schemaRecord}
 use Rattle.schema.specs.Find.{actionType}
-use Rattle.schema.specs.declared.Found.{Found}
-use Rattle.schema.specs.declared.Found.the-variants as Found
-use Rattle.schema.specs.declared.Row.{Row}
+use Rattle.names.specs.declared.Found.{Found}
+use Rattle.names.specs.declared.Found.the-variants as Found
+use Rattle.names.specs.declared.Row.{Row}
 use Rattle.schema.specs.declared.Namespace.{Namespace}
 use Rattle.schema.specs.declared.Namespace.the-variants as Namespace
 

@@ -1,7 +1,5 @@
 // What is looked up by name in a schema that was read.
-use crate::Found;
 use crate::Namespace;
-use crate::Row;
 use crate::parts::actions;
 use crate::parts::ancestors;
 use crate::past::count_at;
@@ -9,6 +7,8 @@ use crate::past::past_action;
 use crate::past::past_entity;
 use crate::past::past_type;
 use crate::rich::kind_at;
+use names::Found;
+use names::Row;
 ghost use mathlib.Core.Path.{_≡_};
 ghost use mathlib.Core.Bool.{true, _&&_};
 ghost use mathlib.Core.List.{List, _∷_, _++_};

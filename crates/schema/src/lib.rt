@@ -12,6 +12,7 @@ pub use find::entity;
 pub use find::has_ancestor;
 pub use find::has_name;
 pub use find::record_fields;
+use names::Row;
 pub use parts::actions;
 pub use parts::ancestors;
 pub use parts::context;
@@ -22,18 +23,6 @@ pub use read::read_schema;
 pub use rich::kind_at;
 pub use rich::rich_type;
 pub use rich::tag_at;
-
-// What a lookup by name gives: the position of what was found.
-pub enum Found {
-    At(usize),
-    Absent,
-}
-
-// So many things, one after another from a position.
-pub struct Row {
-    pub count: usize,
-    pub at: usize,
-}
 
 // The namespace of an action: all of the bytes given with it, or the names that stand in a row there, joined by `::`.
 pub enum Namespace {

@@ -1,9 +1,9 @@
 // Where the parts of a schema that was read stand: its actions, what an entity type and an action are made of.
-use crate::Row;
 use crate::past::count_at;
 use crate::past::past_entities;
 use crate::past::past_names;
 use names::Read;
+use names::Row;
 ghost use mathlib.Core.Path.{_≡_};
 ghost use mathlib.Core.Bool.{true};
 ghost use Rattle.names.specs.Fields.{counted, stringOf};

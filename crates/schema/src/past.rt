@@ -1,6 +1,6 @@
 // The place behind what stands in a schema that was read: lengths and counts are added up, and no string is looked at again.
-use crate::Row;
 use crate::rich::kind_at;
+use names::Row;
 ghost use mathlib.Core.Path.{_≡_};
 ghost use mathlib.Core.Bool.{true};
 ghost use mathlib.Core.Option.{none};

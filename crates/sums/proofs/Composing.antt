@@ -18,9 +18,9 @@ use Rattle.names.specs.Names.{identifier, joined}
 use Rattle.names.specs.Fields.{got, stringOf, many, counted, each}
 use Rattle.names.specs.Read.{ending, wordAt, row, isRow, rowIn, Listed}
 use Rattle.names.specs.Writer.{Stored}
-use Rattle.names.specs.Writer.Laws.{stored-none, stored-more, stored-length}
-use Rattle.names.proofs.Laws.{Accepted, accept, arrives, not-refused, string-view, has-value, got-place}
-use Rattle.names.proofs.Row.{opens, row-empty, counted-view, Remaining, remaining-all, remaining-over, strings-left, StringsLeft, listed-length}
+use Rattle.names.specs.Laws.Writers.{stored-none, stored-more, stored-length}
+use Rattle.names.specs.Laws.Readers.{Accepted, accept, arrives, not-refused, string-view, has-value, got-place}
+use Rattle.names.specs.Laws.Rows.{opens, row-empty, counted-view, Remaining, remaining-all, remaining-over, strings-left, StringsLeft, listed-length}
 use Rattle.condition.specs.Parts.{segmentsIn, SegmentsHere}
 use Rattle.condition.proofs.Pieces.{segments-index, segments-some, segments-listed}
 use Rattle.reports.specs.declared.Message.{Message}

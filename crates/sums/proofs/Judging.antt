@@ -12,7 +12,7 @@ use Rattle.names.specs.Lists.{maybe}
 use Rattle.names.specs.Names.{same, joined, lastOf}
 use Rattle.names.specs.Read.{wordAt}
 use Rattle.names.specs.Text.{text}
-use Rattle.names.proofs.Walk.{take-at-most}
+use Rattle.names.specs.Laws.Walks.{take-at-most}
 use Rattle.condition.specs.declared.Bound.{Bound}
 use Rattle.condition.specs.declared.Bound.the-variants.{Segments, Timepoint, Nothing}
 use Rattle.condition.specs.declared.SlotAt.{SlotAt}

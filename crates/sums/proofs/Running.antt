@@ -9,7 +9,7 @@ use Rattle.names.specs.declared.Read.{Read}
 use Rattle.names.specs.declared.Read.the-variants.{Next, Refused}
 use Rattle.names.specs.Fields.{Got, got, bad, either, whole}
 use Rattle.names.specs.Read.{ending, valueOr}
-use Rattle.names.proofs.Laws.{passes}
+use Rattle.names.specs.Laws.Readers.{passes}
 use Rattle.condition.specs.Condition.{Condition, opaque, conditionRecord}
 use lib.Seq.{length-take-le}
 use Rattle.condition.specs.Places.{nowhere, isRecord, recordIn}

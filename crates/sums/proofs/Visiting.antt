@@ -12,7 +12,7 @@ use Rattle.names.specs.Fields.{Got, got, bad, Reader, next, u8, refuse, choose,
 use Rattle.names.specs.Names.{plain, pathName}
 use Rattle.names.specs.Paths.{pathOf}
 use Rattle.names.specs.Lists.{gather}
-use Rattle.names.proofs.Laws.{split, got-value, Each, keysUpTo}
+use Rattle.names.specs.Laws.Readers.{split, got-value, Each, keysUpTo}
 use Rattle.condition.specs.declared.Operands.{Operands}
 use Rattle.condition.specs.declared.ComparisonAt.{ComparisonAt}
 use Rattle.condition.specs.declared.PredicateAt.{PredicateAt}

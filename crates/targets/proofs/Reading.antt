@@ -14,9 +14,9 @@ use Rattle.names.specs.Fields.{u8, stringOf, each, counted, heading, finished, 
 use Rattle.names.specs.Names.{pathName, pathOrNone, plain}
 use Rattle.names.specs.Paths.{pathOf}
 use Rattle.names.specs.Read.{ending}
-use Rattle.names.proofs.Laws.{u8-end, u8-got, via, last, stops, goes, Each, each-below, keysUpTo, choose-beyond}
-use Rattle.names.proofs.Record.{start-stops, start-goes, at-end}
-use Rattle.names.proofs.Row.{counted-end, counted-start, each-done, each-stops, each-turn}
+use Rattle.names.specs.Laws.Readers.{u8-end, u8-got, via, last, stops, goes, Each, each-below, keysUpTo, choose-beyond}
+use Rattle.names.specs.Laws.Records.{start-stops, start-goes, at-end}
+use Rattle.names.specs.Laws.Rows.{counted-end, counted-start, each-done, each-stops, each-turn}
 use Rattle.targets.specs.Targets.{narrowings, narrowing, target, targetRecord}
 use Rattle.targets.specs.PathRecord.{sides, scopeSide, pathRecord}
 

@@ -31,12 +31,6 @@ pub enum Narrowed {
     Member(usize),
 }
 
-// What a lookup by position gives: where the target stands.
-pub enum Found {
-    At(usize),
-    Absent,
-}
-
 pub enum Side {
     Principal,
     Resource,

@@ -1,6 +1,6 @@
 // The targets of an accepted target record: how many, one after another, and one by its position.
-use crate::Found;
 use crate::scope::past_narrowing;
+use names::Found;
 ghost use mathlib.Core.Path.{_≡_};
 ghost use mathlib.Core.Bool.{true};
 ghost use lib.ListN.{length};

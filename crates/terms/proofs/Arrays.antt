@@ -11,7 +11,7 @@ use lib.ListN.{length, getD}
 use Rattle.names.specs.declared.Read.the-variants.{Next}
 use Rattle.names.specs.Fields.{got, Reader, next, u8, choose, levels}
 use Rattle.names.specs.Read.{ending, accepted}
-use Rattle.names.proofs.Laws.{split, u8-view, accept, is-accepted, has-value, got-value, got-place}
+use Rattle.names.specs.Laws.Readers.{split, u8-view, accept, is-accepted, has-value, got-value, got-place}
 use Rattle.types.specs.Types.{Ty, sameType, array}
 use Rattle.types.specs.Meaning.{richOf, layered}
 use Rattle.types.specs.declared.Rich.{Rich}

@@ -5,7 +5,7 @@ use mathlib.Core.Option.{some}
 use Prim.Native.Nat.{ℕ}
 use Rattle.names.specs.Lists.{maybe}
 use Rattle.names.specs.Names.{same, lastOf}
-use Rattle.names.specs.Names.Laws.{same-refl}
+use Rattle.names.specs.Laws.Names.{same-refl}
 use Rattle.names.specs.Text.{text}
 use Rattle.types.specs.Types as types
 use Rattle.types.specs.Types.{scalar, fits}

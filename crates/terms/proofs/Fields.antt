@@ -11,7 +11,7 @@ use Rattle.names.specs.Lists.{maybe}
 use Rattle.names.specs.Names.{same, lastOf}
 use Rattle.names.specs.Read.{wordAt}
 use Rattle.names.specs.Text.{text}
-use Rattle.names.proofs.Walk.{past-end}
+use Rattle.names.specs.Laws.Walks.{past-end}
 use Rattle.types.specs.Types.{Ty}
 use Rattle.types.specs.Meaning.{richOf, layered}
 use Rattle.types.specs.declared.Source.the-variants as Source
@@ -23,11 +23,11 @@ use Rattle.types.specs.declared.Rich.{Rich}
 use Rattle.schema.specs.Schema.{Declared}
 use Rattle.schema.specs.Find.{fieldsOf, findAttribute, richType}
 use Rattle.schema.specs.Places.{isType, typeIn, areFields, fieldsIn, isAction, actionIn, foundIn, foundStands, Finds, FindsFields, Standing}
-use Rattle.schema.specs.declared.Found.{Found}
-use Rattle.schema.specs.declared.Found.the-variants as Found
+use Rattle.names.specs.declared.Found.{Found}
+use Rattle.names.specs.declared.Found.the-variants as Found
 use Rattle.condition.specs.Condition.{path}
 use Rattle.condition.specs.Parts.{segmentsIn}
-use Rattle.resolution.proofs.Sizes.{Bytes, type-small}
+use Rattle.resolution.specs.Laws.Sizes.{Bytes, type-small}
 use Rattle.resolution.specs.declared.Typed.{Typed}
 use Rattle.resolution.specs.declared.Typed.the-variants.{As, Nothing}
 use Rattle.terms.specs.Terms.{wordType, annotationType, fieldType, inputType}

@@ -11,7 +11,7 @@ use lib.ListN.{length, getD, take, drop}
 use Rattle.names.specs.Fields.{stringOf}
 use Rattle.names.specs.Names.{pathName, simpleName}
 use Rattle.names.specs.Read.{wordAt}
-use Rattle.names.proofs.Laws.{string-view}
+use Rattle.names.specs.Laws.Readers.{string-view}
 use Rattle.types.specs.Meaning.{bytesOf, tagOf, layered}
 use Rattle.types.specs.declared.Source.{Source}
 use Rattle.types.specs.declared.Source.the-variants as Source

@@ -13,14 +13,14 @@ use Rattle.names.specs.Text.{text}
 use Rattle.types.specs.Types.{Ty}
 use Rattle.types.specs.declared.Rich.{Rich}
 use Rattle.schema.specs.Places.{schemaIn, actionIn}
-use Rattle.schema.specs.declared.Row.{Row}
+use Rattle.names.specs.declared.Row.{Row}
 use Rattle.targets.specs.Targets.{Narrowing}
 use Rattle.targets.specs.Places.{narrowed}
 use Rattle.resolution.specs.Resolution as Resolution
 use Rattle.resolution.specs.Resolution.{scopeType, scopePath}
 use Rattle.resolution.specs.Passes.{scopeOf, briefly}
 use Rattle.resolution.specs.Places.{typesIn, areSegments, segmentsIn, Behind, typedOf, smallType, smallPath}
-use Rattle.resolution.proofs.Segments.{no-segments, first-segment}
+use Rattle.resolution.specs.Laws.Segments.{no-segments, first-segment}
 use Rattle.resolution.specs.declared.Typed.{Typed}
 use Rattle.resolution.specs.declared.Typed.the-variants.{As, Nothing}
 use Rattle.resolution.specs.declared.ScopePath.{ScopePath}

@@ -8,14 +8,14 @@ use native.Mathlib.Omega.{arith}
 use borrow.Author.Needs.{needs}
 use Rattle.names.specs.Fields.{levels}
 use Rattle.names.specs.Read.{wordAt}
-use Rattle.types.specs.Types.Texts.{numbers-small}
+use Rattle.types.specs.Laws.Texts.{numbers-small}
 use Rattle.types.specs.Meaning.{layered}
 use Rattle.types.specs.declared.Scalar.the-variants as Scalar
 use Rattle.types.specs.declared.Rich.{Rich}
 use Rattle.schema.specs.Places.{schemaIn, actionIn, foundIn}
-use Rattle.schema.specs.declared.Found.{Found}
-use Rattle.schema.specs.declared.Found.the-variants as Found
-use Rattle.schema.specs.declared.Row.{Row}
+use Rattle.names.specs.declared.Found.{Found}
+use Rattle.names.specs.declared.Found.the-variants as Found
+use Rattle.names.specs.declared.Row.{Row}
 use Rattle.targets.specs.Places.{narrowed, targetsIn}
 use Rattle.targets.specs.declared.Narrowed.{Narrowed}
 use Rattle.condition.specs.Condition.{Term, entity, literal, contextField, scopeField, var, wildcard, array, aggregate, sigil, timepoint, path, termAt}

@@ -9,7 +9,7 @@ use Rattle.types.specs.Types.{Ty}
 use Rattle.types.specs.Meaning.{tagOf, richOf}
 use Rattle.types.specs.declared.Tag.{Tag}
 use Rattle.types.specs.declared.Rich.{Rich}
-use Rattle.schema.specs.declared.Row.{Row}
+use Rattle.names.specs.declared.Row.{Row}
 use Rattle.condition.specs.Condition.{Annotation}
 use Rattle.condition.specs.Places.{pathIn}
 use Rattle.resolution.specs.Places.{areSegments, segmentsIn, typedOf, smallType}

@@ -1,6 +1,6 @@
 -- The bounds of the types that terms have, by the numbers of the code's values alone: with them their texts are bounded.
 use Prim.Native.Nat.{ℕ, _≤_}
-use Rattle.types.specs.Types.Texts.{tagLength}
+use Rattle.types.specs.Laws.Texts.{tagLength}
 use Rattle.resolution.specs.declared.Typed.{Typed}
 use Rattle.resolution.specs.declared.Typed.the-variants.{As, Nothing}
 

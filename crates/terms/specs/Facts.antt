@@ -10,7 +10,7 @@ use Rattle.condition.specs.Places.{isRecord, recordIn}
 use Rattle.condition.specs.Index.{Index}
 use Rattle.condition.specs.Walk.{binders}
 use Rattle.condition.specs.Environment.{Environment}
-use Rattle.schema.specs.declared.Found.{Found}
+use Rattle.names.specs.declared.Found.{Found}
 use Rattle.resolution.specs.Places.{typedOf, smallType}
 use Rattle.resolution.specs.declared.Typed.{Typed}
 use Rattle.terms.specs.declared.Common.{Common}

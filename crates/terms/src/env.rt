@@ -1,8 +1,8 @@
 // The flat environment: what type a name has, and an annotation.
 use crate::Facts;
 use condition::Bound;
+use names::Found;
 use resolution::Typed;
-use schema::Found;
 use types::Base;
 use types::Rich;
 use types::Scalar;

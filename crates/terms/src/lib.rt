@@ -6,9 +6,9 @@ mod target;
 mod term;
 
 pub use env::var_type;
+use names::Found;
+use names::Row;
 use resolution::Typed;
-use schema::Found;
-use schema::Row;
 pub use target::facts_of;
 use targets::Narrowed;
 pub use term::term_type;

@@ -1,8 +1,8 @@
 // `principal` and `resource` under the rule's scope, and paths of their attributes.
 use crate::Facts;
+use names::Row;
 use resolution::ScopePath;
 use resolution::Typed;
-use schema::Row;
 use targets::Narrowed;
 ghost use mathlib.Core.Path.{_≡_};
 ghost use mathlib.Core.Bool.{true};

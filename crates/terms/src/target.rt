@@ -1,7 +1,7 @@
 // The facts of a target.
 use crate::Common;
 use crate::Facts;
-use schema::Found;
+use names::Found;
 ghost use mathlib.Core.Path.{_≡_};
 ghost use mathlib.Core.Bool.{true};
 ghost use Rattle.targets.specs.Places.{areTargets};

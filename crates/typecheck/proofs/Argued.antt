@@ -21,14 +21,14 @@ use Rattle.condition.specs.declared.ArgumentAt.{ArgumentAt}
 use Rattle.condition.proofs.Pieces.{arguments-over}
 use Rattle.schema.specs.Schema.{Action}
 use Rattle.schema.specs.Places.{schemaIn, isAction, actionIn, foundIn, foundStands, Answers}
-use Rattle.schema.specs.declared.Found.{Found}
-use Rattle.schema.specs.declared.Found.the-variants as Found
+use Rattle.names.specs.declared.Found.{Found}
+use Rattle.names.specs.declared.Found.the-variants as Found
 use Rattle.resolution.specs.Resolution.{contextType}
 use Rattle.resolution.specs.Places.{typedOf, smallType}
 use Rattle.resolution.specs.declared.Typed.{Typed}
 use Rattle.resolution.specs.declared.Typed.the-variants.{Nothing}
-use Rattle.resolution.proofs.Sizes as sizes
-use Rattle.resolution.proofs.Sizes.{Bytes}
+use Rattle.resolution.specs.Laws.Sizes as sizes
+use Rattle.resolution.specs.Laws.Sizes.{Bytes}
 use Rattle.reports.specs.Kept.{fold}
 use Rattle.reports.specs.Sink.{Sink, Sound, pushAll}
 use Rattle.reports.specs.Sink.Laws as sinks

@@ -11,8 +11,8 @@ use lib.ListN.{length}
 use Rattle.names.specs.Lists.{maybe}
 use Rattle.names.specs.Read.{wordAt}
 use Rattle.schema.specs.Places.{foundIn}
-use Rattle.schema.specs.declared.Found.{Found}
-use Rattle.schema.specs.declared.Found.the-variants as Found
+use Rattle.names.specs.declared.Found.{Found}
+use Rattle.names.specs.declared.Found.the-variants as Found
 use Rattle.condition.specs.Condition as tree
 use Rattle.condition.specs.Condition.{Span, Condition, Term, Literal, integer, decimal, string, bool, Slot, named, paramRef, binderRef, One, negation, formerly, previous, refine, Two, and, or, since, Operator, le, lt, ge, gt, eq, notEq, one, two, predicate, comparison, exists, tp, opaque, entity, literal, contextField, scopeField, var, wildcard, array, aggregate, sigil}
 use Rattle.condition.specs.Kinds.{kindOf, spanOf, termKindOf, operatorNumber}

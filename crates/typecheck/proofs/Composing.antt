@@ -5,9 +5,9 @@ use Prim.Native.Nat.{ℕ, _≤_}
 use native.Mathlib.Omega.{arith}
 use borrow.Author.Needs.{needs}
 use lib.ListN.{length}
-use Rattle.names.specs.Writer.Laws.{stored-more}
+use Rattle.names.specs.Laws.Writers.{stored-more}
 use Rattle.types.specs.Types.{Ty, display}
-use Rattle.types.specs.Types.Texts.{Small, text-bound}
+use Rattle.types.specs.Laws.Texts.{Small, text-bound}
 use Rattle.types.specs.declared.Form.the-variants as Form
 use Rattle.reports.specs.declared.Message.{Message}
 use Rattle.reports.specs.Messages.{words}

@@ -7,7 +7,7 @@ use Prim.Native.Nat.{ℕ}
 use lib.ListN.{length}
 use Rattle.types.specs.Types as types
 use Rattle.types.specs.Types.{Ty, scalar, anyArray, fits}
-use Rattle.types.specs.Types.Laws.{isArray, any-array, any-array-right}
+use Rattle.types.specs.Laws.Types.{isArray, any-array, any-array-right}
 use Rattle.types.specs.Examples.{Row, Hold, end, _and_}
 use Rattle.types.proofs.Examples as types-proofs
 use Rattle.resolution.proofs.Examples as resolution-proofs

@@ -7,7 +7,7 @@ use borrow.Author.Needs.{needs}
 use Rattle.names.specs.Lists.{maybe}
 use Rattle.types.specs.Types as types
 use Rattle.types.specs.Types.{Ty, scalar, isNumeric, accepts, compatible, sameType}
-use Rattle.types.specs.Types.Texts.{Small}
+use Rattle.types.specs.Laws.Texts.{Small}
 use Rattle.types.specs.Meaning.{richOf, layered}
 use Rattle.types.specs.declared.Rich.{Rich}
 use Rattle.resolution.specs.Places.{typedOf, smallType}

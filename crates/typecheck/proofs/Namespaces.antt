@@ -11,11 +11,11 @@ use Rattle.names.specs.Fields.{stringOf}
 use Rattle.names.specs.Names.{same, pathName, simpleName, lastOf, joined}
 use Rattle.names.specs.Read.{wordAt, isRow, rowIn, Listed}
 use Rattle.names.specs.Text.{text}
-use Rattle.names.proofs.Row.{Remaining, remaining-all, strings-left, listed-length, listed-over, listed-front}
+use Rattle.names.specs.Laws.Rows.{Remaining, remaining-all, strings-left, listed-length, listed-over, listed-front}
 use Rattle.schema.specs.Find.{findAction}
 use Rattle.schema.specs.Places.{schemaIn, isAction, actionIn, Answers}
-use Rattle.schema.specs.declared.Found.{Found}
-use Rattle.schema.specs.declared.Row.{Row}
+use Rattle.names.specs.declared.Found.{Found}
+use Rattle.names.specs.declared.Row.{Row}
 use Rattle.typecheck.specs.Check.{withoutAction, predicateAction}
 
 -- ---- the last name: what is left of the names has the same last one

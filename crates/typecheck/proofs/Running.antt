@@ -13,14 +13,14 @@ use Rattle.names.specs.Fields.{whole}
 use Rattle.names.specs.Read.{ending, readNumber, valueOr, Listed}
 use Rattle.names.specs.declared.Read.{Read}
 use Rattle.names.specs.declared.Read.the-variants as Read
-use Rattle.names.proofs.Laws.{accept, passes, refused-by, refuses}
-use Rattle.names.proofs.Row.{listed-first, listed-over}
+use Rattle.names.specs.Laws.Readers.{accept, passes, refused-by, refuses}
+use Rattle.names.specs.Laws.Rows.{listed-first, listed-over}
 use Rattle.schema.specs.Schema.{Schema, Action, schemaRecord}
 use Rattle.schema.specs.Find.{findAction}
 use Rattle.schema.specs.Places.{isSchema, schemaIn, isAction, actionIn, foundIn, foundStands, FindsAction, ActionsOf}
-use Rattle.schema.specs.declared.Found.{Found}
-use Rattle.schema.specs.declared.Row.{Row}
-use Rattle.schema.specs.declared.Found.the-variants as Found
+use Rattle.names.specs.declared.Found.{Found}
+use Rattle.names.specs.declared.Row.{Row}
+use Rattle.names.specs.declared.Found.the-variants as Found
 use Rattle.targets.specs.Targets.{Scope, Target, Targets, target, targetRecord}
 use Rattle.targets.specs.Places.{areTargets, targetsIn, isTarget, targetIn}
 use Rattle.condition.specs.Condition.{Condition, conditionRecord}

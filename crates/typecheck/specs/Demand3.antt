@@ -9,7 +9,7 @@ use mathlib.Core.List.{List, [], _∷_, _++_}
 use mathlib.Core.Option.{Option, none, some}
 use lib.ListN.{length, drop}
 use Rattle.names.specs.Lists.{maybe, gather}
-use Rattle.names.specs.Lists.Laws.{gather-append}
+use Rattle.names.specs.Laws.Lists.{gather-append}
 use Rattle.names.specs.Fields.{whole}
 use Rattle.schema.specs.Schema.{Schema, Action}
 use Rattle.schema.specs.Find.{findAction}

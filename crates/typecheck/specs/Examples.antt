@@ -7,7 +7,7 @@ use mathlib.Core.Option.{some}
 use Prim.Native.Nat.{ℕ}
 use lib.ListN.{length}
 use Rattle.types.specs.Types.{Ty}
-use Rattle.types.specs.Types.Laws.{isArray}
+use Rattle.types.specs.Laws.Types.{isArray}
 use Rattle.types.specs.Examples as types
 use Rattle.types.specs.Examples.{Row, ofAll}
 use Rattle.resolution.specs.Examples as resolution

@@ -9,7 +9,7 @@ ghost use Prim.Native.Nat.{_+_, _<_, _≤_};
 ghost use lib.ListN.{length};
 ghost use Rattle.names.specs.Writer.{Stored};
 ghost use Rattle.types.specs.Types.{display};
-ghost use Rattle.types.specs.Types.Texts.{Small};
+ghost use Rattle.types.specs.Laws.Texts.{Small};
 ghost use Rattle.types.specs.Meaning.{richOf};
 ghost use Rattle.reports.specs.Messages.{part, words, from, message};
 ghost use Rattle.reports.specs.Messages.Laws.{Left};

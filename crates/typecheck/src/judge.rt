@@ -18,7 +18,7 @@ ghost use Rattle.names.specs.Lists.{maybe};
 ghost use Rattle.types.specs.Types as types;
 ghost use Rattle.types.specs.Types.{scalar, isNumeric, sameType};
 ghost use Rattle.types.specs.Meaning.{richOf};
-ghost use Rattle.types.specs.Types.Texts.{Small};
+ghost use Rattle.types.specs.Laws.Texts.{Small};
 ghost use Rattle.resolution.specs.Places.{typedOf, smallType};
 ghost use Rattle.reports.specs.Sink.{sink, Sound, pushAll};
 ghost use Rattle.typecheck.specs.Check.{both, notLongHere, numericBreaches, likeBreaches, operandsBy, argumentBreach, timepointBreach};

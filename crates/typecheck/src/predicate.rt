@@ -1,11 +1,11 @@
 // The arguments of a predicate, each judged where its action and its field resolve, and reported at the predicate's own span.
 use crate::judge::argument;
 use condition::PredicateAt;
+use names::Found;
+use names::Row;
 use reports::State;
 use resolution::Typed;
-use schema::Found;
 use schema::Namespace;
-use schema::Row;
 use terms::Facts;
 ghost use mathlib.Core.Path.{_≡_};
 ghost use mathlib.Core.Bool.{true};

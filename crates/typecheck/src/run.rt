@@ -1,10 +1,10 @@
 // The run: the records read in their order, the condition indexed once, then each target and each reached node under it.
 use crate::node::node;
+use names::Found;
 use names::Read;
 use reports::Answer;
 use reports::State;
 use reports::refused;
-use schema::Found;
 use schema::Namespace;
 use terms::Common;
 use terms::Facts;

@@ -2,7 +2,7 @@
 use mathlib.Core.Path.{refl, _∙_}
 use mathlib.Core.Bool.{true}
 use Rattle.types.specs.Types.{fits, tagFits}
-use Rattle.types.specs.Types.Laws.{any-array-inside, any-array-inside-right, entities-fit, decimals-fit}
+use Rattle.types.specs.Laws.Types.{any-array-inside, any-array-inside-right, entities-fit, decimals-fit}
 use Rattle.types.specs.Examples.{Hold, end, _and_, Arrays, Entities, rows}
 
 pub examples : Hold rows

@@ -9,7 +9,7 @@ use mathlib.Core.Option.{none, some}
 use Prim.Native.Nat.{ℕ, zero, suc, _≤_, _<_}
 use native.Mathlib.Nat.{not-suc-le-zero, le-of-suc-le-suc, le-antisymm}
 use Rattle.types.specs.Types.{Ty, scalar, entity, anyArray, mixedArray, array, fits}
-use Rattle.types.specs.Types.Laws.{layers-same}
+use Rattle.types.specs.Laws.Types.{layers-same}
 use Rattle.types.specs.Meaning.{scalarOf, tagOf, baseOf, layered}
 use Rattle.types.specs.Rules.{loose, tagsBy, fitsBy, plainFits, untaggedFits, anyArrayFits, mixedArrayFits, unknownFits}
 use Rattle.types.specs.declared.Scalar.{Scalar}

@@ -11,10 +11,10 @@ use lib.ListN.{length, getD, length-append}
 use lib.Dec.{lit<}
 use Rattle.names.specs.Text.{text}
 use Rattle.names.specs.Names.{same}
-use Rattle.names.proofs.Table.{Entry, right, rightBelow, entry}
+use Rattle.names.specs.Laws.Tables.{Entry, right, rightBelow, entry}
 use Rattle.types.specs.Types.{Ty, rank, word, array, display, render}
 use Rattle.types.specs.Types as types
-use Rattle.types.specs.Types.Texts.{array-text}
+use Rattle.types.specs.Laws.Texts.{array-text}
 use Rattle.types.specs.Meaning.{scalarOf, baseOf, tagPart, layered}
 use Rattle.types.specs.Words.{textBy, words, typeWord, wordOf, repeated}
 use Rattle.types.specs.declared.Base.{Base}

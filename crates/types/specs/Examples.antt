@@ -6,7 +6,7 @@ use mathlib.Core.List.{List, [], _∷_}
 use mathlib.Core.Option.{Option}
 use Prim.Native.Nat.{ℕ}
 use Rattle.types.specs.Types.{Ty, scalar, entity, anyArray, array, long, decimal, sameType, accepts, compatible, isNumeric}
-use Rattle.types.specs.Types.Laws.{isArray}
+use Rattle.types.specs.Laws.Types.{isArray}
 use Rattle.types.specs.Meaning.{layered}
 
 infixr 5 _and_

@@ -3,3 +3,4 @@ pub mod Meaning
 pub mod Rules
 pub mod Words
 pub mod Examples
+pub mod Laws

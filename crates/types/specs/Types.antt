@@ -6,8 +6,6 @@ use mathlib.Core.Option.{Option, none, some}
 use lib.Dec.{eqb}
 use Rattle.names.specs.Text.{text}
 use Rattle.names.specs.Names.{same}
-pub mod Laws
-pub mod Texts
 
 pub data Scalar : Type 0 where
   long string decimal bool timepoint object never : Scalar

@@ -1,6 +1,6 @@
 -- `dogwood::dogwood_read_condition` meets its contract. Assumes nothing.
 use borrow.Author.Needs.{needs}
-use Rattle.names.proofs.Laws.{number-of}
+use Rattle.names.specs.Laws.Readers.{number-of}
 use Rattle.dogwood.proofs.dogwood_read_condition.Statement.{statement}
 use Rattle.dogwood.proofs.dogwood_read_condition.Tie as tie
 

@@ -1,6 +1,6 @@
 -- `dogwood::dogwood_read_schema` meets its contract. Assumes nothing.
 use borrow.Author.Needs.{needs}
-use Rattle.names.proofs.Laws.{number-of}
+use Rattle.names.specs.Laws.Readers.{number-of}
 use Rattle.dogwood.proofs.dogwood_read_schema.Statement.{statement}
 use Rattle.dogwood.proofs.dogwood_read_schema.Tie as tie
 

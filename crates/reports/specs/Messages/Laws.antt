@@ -10,7 +10,7 @@ use lib.Dec.{lit<, lit≤}
 use Rattle.names.specs.Lists.{gather}
 use Rattle.names.specs.Text.{text}
 use Rattle.names.specs.Writer.{Stored}
-use Rattle.names.specs.Writer.Laws.{stored-more, stored-length}
+use Rattle.names.specs.Laws.Writers.{stored-more, stored-length}
 use Rattle.reports.specs.declared.Message.{Message}
 use Rattle.reports.specs.declared.Message.the-variants.{WrongArgument, WrongTimepoint, NotNumeric, UnlikeTypes, WildcardInside, NotLong, CannotSum, CannotSumTimepoint, CannotSumDecimal}
 use Rattle.reports.specs.Messages.{parts, part, words, textSize, filled, from, message}

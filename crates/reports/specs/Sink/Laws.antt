@@ -15,9 +15,9 @@ use lib.Seq.{take-append-seam, drop-append-seam, drop-append-add, drop-drop}
 use lib.Dec.{leb, ltb}
 use borrow.Author.Tests.{leb-true, leb-false, le-leb, lt-leb}
 use Rattle.names.specs.Lists.{anyOf, gather}
-use Rattle.names.specs.Lists.Laws.{gather-append}
+use Rattle.names.specs.Laws.Lists.{gather-append}
 use Rattle.names.specs.Writer.{store, Stored}
-use Rattle.names.specs.Writer.Laws.{stored-more, stored-length, stored-text}
+use Rattle.names.specs.Laws.Writers.{stored-more, stored-length, stored-text}
 use Rattle.reports.specs.declared.State.{State}
 use Rattle.reports.specs.Reports.{Breach, samePair, once, encoded, fitting, reported}
 use Rattle.reports.specs.Decode.{header, length-header, encoded-parts, width, width-is, size, reports, Whole, reports-encoded, whole-encoded}

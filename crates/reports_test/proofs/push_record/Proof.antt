@@ -6,8 +6,8 @@ use native.Mathlib.Omega.{arith}
 use lib.ListN.{length, getD, take, drop}
 use Rattle.names.specs.Fields.{number}
 use Rattle.names.specs.Writer.{Stored}
-use Rattle.names.specs.Writer.Laws.{stored-text}
-use Rattle.names.proofs.Walk.{take-at-most}
+use Rattle.names.specs.Laws.Writers.{stored-text}
+use Rattle.names.specs.Laws.Walks.{take-at-most}
 use Rattle.reports.specs.declared.Message.the-variants.{NotLong}
 use Rattle.reports.specs.Messages.{message}
 use Rattle.reports.specs.Messages.Laws.{Ahead, message-short, message-fits}

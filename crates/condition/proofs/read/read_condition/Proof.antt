@@ -9,7 +9,7 @@ use Rattle.names.specs.declared.Read.{Read}
 use Rattle.names.specs.declared.Read.the-variants.{Next, Refused}
 use Rattle.names.specs.Fields.{heading, whole, levels}
 use Rattle.names.specs.Read.{ending}
-use Rattle.names.proofs.Laws.{via, stops, goes, finished-here, finished-not}
+use Rattle.names.specs.Laws.Readers.{via, stops, goes, finished-here, finished-not}
 use Rattle.condition.specs.Condition.{conditionAt, conditionRecord}
 use Rattle.condition.proofs.read.read_condition.Statement.{statement}
 use Rattle.condition.proofs.read.read_condition.Tie as tie

@@ -6,8 +6,8 @@ use native.Mathlib.Omega.{arith}
 use lib.ListN.{length, drop, getD}
 use borrow.Author.Needs.{needs}
 use Rattle.names.specs.Names.{same, below, order}
-use Rattle.names.specs.Names.Laws.{order-less, order-more, order-equal}
-use Rattle.names.proofs.Walk.{here, done}
+use Rattle.names.specs.Laws.Names.{order-less, order-more, order-equal}
+use Rattle.names.specs.Laws.Walks.{here, done}
 use Rattle.names.proofs.bytewise.compare.Statement.{statement}
 use Rattle.names.proofs.bytewise.compare.Tie as tie
 

@@ -8,7 +8,7 @@ use borrow.Author.Needs.{needs}
 use Rattle.names.specs.declared.Order.{Order}
 use Rattle.names.specs.declared.Order.the-variants.{Less, Same, More}
 use Rattle.names.specs.Names.{below, order}
-use Rattle.names.specs.Names.Laws.{below-order}
+use Rattle.names.specs.Laws.Names.{below-order}
 use Rattle.names.specs.Order.{orderNumber}
 use Rattle.names.proofs.bytewise.is_below.Statement.{statement}
 use Rattle.names.proofs.bytewise.is_below.Tie as tie

@@ -8,8 +8,8 @@ use lib.ListN.{length, drop, getD}
 use borrow.Author.Needs.{needs}
 use borrow.Author.Tests.{eq-eqb, ne-eqb}
 use Rattle.names.specs.Names.{same}
-use Rattle.names.specs.Names.Laws.{same-lengths}
-use Rattle.names.proofs.Walk.{here, done}
+use Rattle.names.specs.Laws.Names.{same-lengths}
+use Rattle.names.specs.Laws.Walks.{here, done}
 use Rattle.names.proofs.bytewise.same.Statement.{statement}
 use Rattle.names.proofs.bytewise.same.Tie as tie
 

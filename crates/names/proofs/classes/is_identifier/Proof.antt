@@ -9,7 +9,7 @@ use borrow.Author.Needs.{needs}
 use borrow.Author.Tests.{not-true, not-false}
 use Rattle.names.specs.Lists.{every}
 use Rattle.names.specs.Names.{identifier, letter, letterOrDigit}
-use Rattle.names.proofs.Walk.{here, done}
+use Rattle.names.specs.Laws.Walks.{here, done}
 use Rattle.names.proofs.classes.is_identifier.Statement.{statement}
 use Rattle.names.proofs.classes.is_identifier.Tie as tie
 

@@ -9,7 +9,7 @@ use borrow.Author.Needs.{needs}
 use Rattle.names.specs.declared.Place.{Place}
 use Rattle.names.specs.Names.{pathName}
 use Rattle.names.specs.Class.{pathFrom}
-use Rattle.names.proofs.Walk.{here, done}
+use Rattle.names.specs.Laws.Walks.{here, done}
 use Rattle.names.proofs.classes.is_path_name.Statement.{statement}
 use Rattle.names.proofs.classes.is_path_name.Tie as tie
 

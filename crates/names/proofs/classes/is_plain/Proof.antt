@@ -8,7 +8,7 @@ use borrow.Author.Needs.{needs}
 use borrow.Author.Tests.{not-true, not-false}
 use Rattle.names.specs.Lists.{every}
 use Rattle.names.specs.Names.{plain, plainByte}
-use Rattle.names.proofs.Walk.{here, done}
+use Rattle.names.specs.Laws.Walks.{here, done}
 use Rattle.names.proofs.classes.is_plain.Statement.{statement}
 use Rattle.names.proofs.classes.is_plain.Tie as tie
 

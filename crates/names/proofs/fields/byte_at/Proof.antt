@@ -4,7 +4,7 @@ use mathlib.Core.List.{List}
 use Prim.Native.Nat.{ℕ, _≤_}
 use lib.ListN.{length, getD}
 use borrow.Author.Needs.{needs}
-use Rattle.names.proofs.Walk.{past-end}
+use Rattle.names.specs.Laws.Walks.{past-end}
 use Rattle.names.proofs.fields.byte_at.Statement.{statement}
 use Rattle.names.proofs.fields.byte_at.Tie as tie
 

@@ -7,7 +7,7 @@ use native.Mathlib.Omega.{arith}
 use lib.ListN.{length, take, drop, length-drop}
 use lib.Seq.{take-nil, take-all}
 use borrow.Author.Needs.{needs}
-use Rattle.names.proofs.Walk.{done}
+use Rattle.names.specs.Laws.Walks.{done}
 use Rattle.names.proofs.fields.part_of.Statement.{statement}
 use Rattle.names.proofs.fields.part_of.Tie as tie
 

@@ -8,7 +8,7 @@ use borrow.Author.Needs.{needs}
 use Rattle.names.specs.declared.Read.the-variants.{Next, Refused}
 use Rattle.names.specs.Fields.{bytes}
 use Rattle.names.specs.Read.{ending}
-use Rattle.names.proofs.Laws.{bytes-end, bytes-got}
+use Rattle.names.specs.Laws.Readers.{bytes-end, bytes-got}
 use Rattle.names.proofs.fields.read_bytes.Statement.{statement}
 use Rattle.names.proofs.fields.read_bytes.Tie as tie
 

@@ -1,6 +1,6 @@
 -- `names::fields::read_end` meets its contract. Assumes nothing.
 use borrow.Author.Needs.{needs}
-use Rattle.names.proofs.Laws.{finished-here, finished-not}
+use Rattle.names.specs.Laws.Readers.{finished-here, finished-not}
 use Rattle.names.proofs.fields.read_end.Statement.{statement}
 use Rattle.names.proofs.fields.read_end.Tie as tie
 

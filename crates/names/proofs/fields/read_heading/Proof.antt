@@ -15,7 +15,7 @@ use Rattle.names.specs.declared.Read.the-variants.{Next, Refused}
 use Rattle.names.specs.Fields.{Got, next, holds, u16, number, heading}
 use Rattle.names.specs.Names.{same}
 use Rattle.names.specs.Read.{ending}
-use Rattle.names.proofs.Laws.{via, bytes-end, bytes-got, stops, goes, u16-value}
+use Rattle.names.specs.Laws.Readers.{via, bytes-end, bytes-got, stops, goes, u16-value}
 use Rattle.names.proofs.fields.read_heading.Statement.{statement}
 use Rattle.names.proofs.fields.read_heading.Tie as tie
 

@@ -1,6 +1,6 @@
 -- `names::fields::read_start` meets its contract. Assumes nothing.
 use borrow.Author.Needs.{needs}
-use Rattle.names.proofs.Record.{too-long, not-long}
+use Rattle.names.specs.Laws.Records.{too-long, not-long}
 use Rattle.names.proofs.fields.read_start.Statement.{statement}
 use Rattle.names.proofs.fields.read_start.Tie as tie
 

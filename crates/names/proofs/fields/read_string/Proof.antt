@@ -12,7 +12,7 @@ use Rattle.names.specs.declared.Read.the-variants.{Next, Refused}
 use Rattle.names.specs.Class.{classOf}
 use Rattle.names.specs.Fields.{stringOf}
 use Rattle.names.specs.Read.{ending, wordAt}
-use Rattle.names.proofs.Laws.{string-end, string-short, string-outside, string-got}
+use Rattle.names.specs.Laws.Readers.{string-end, string-short, string-outside, string-got}
 use Rattle.names.proofs.fields.read_string.Statement.{statement}
 use Rattle.names.proofs.fields.read_string.Tie as tie
 

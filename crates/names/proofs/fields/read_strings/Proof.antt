@@ -8,7 +8,7 @@ use Rattle.names.specs.declared.Class.{Class}
 use Rattle.names.specs.Class.{classOf}
 use Rattle.names.specs.Fields.{each, counted, stringOf}
 use Rattle.names.specs.Read.{ending, row}
-use Rattle.names.proofs.Row.{counted-end, counted-start, each-done, each-stops, each-turn}
+use Rattle.names.specs.Laws.Rows.{counted-end, counted-start, each-done, each-stops, each-turn}
 use Rattle.names.proofs.fields.read_strings.Statement.{statement}
 use Rattle.names.proofs.fields.read_strings.Tie as tie
 

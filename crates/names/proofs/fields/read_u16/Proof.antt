@@ -6,7 +6,7 @@ use borrow.Author.Needs.{needs}
 use Rattle.names.specs.declared.Read.{Read}
 use Rattle.names.specs.Fields.{bytes, u16}
 use Rattle.names.specs.Read.{ending}
-use Rattle.names.proofs.Laws.{last}
+use Rattle.names.specs.Laws.Readers.{last}
 use Rattle.names.proofs.fields.read_u16.Statement.{statement}
 use Rattle.names.proofs.fields.read_u16.Tie as tie
 

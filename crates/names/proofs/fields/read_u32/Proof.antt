@@ -6,7 +6,7 @@ use borrow.Author.Needs.{needs}
 use Rattle.names.specs.declared.Read.{Read}
 use Rattle.names.specs.Fields.{bytes, u32}
 use Rattle.names.specs.Read.{ending}
-use Rattle.names.proofs.Laws.{last}
+use Rattle.names.specs.Laws.Readers.{last}
 use Rattle.names.proofs.fields.read_u32.Statement.{statement}
 use Rattle.names.proofs.fields.read_u32.Tie as tie
 

@@ -7,7 +7,7 @@ use borrow.Author.Needs.{needs}
 use Rattle.names.specs.declared.Read.the-variants.{Next, Refused}
 use Rattle.names.specs.Fields.{u8}
 use Rattle.names.specs.Read.{ending}
-use Rattle.names.proofs.Laws.{u8-end, u8-got}
+use Rattle.names.specs.Laws.Readers.{u8-end, u8-got}
 use Rattle.names.proofs.fields.read_u8.Statement.{statement}
 use Rattle.names.proofs.fields.read_u8.Tie as tie
 

@@ -7,7 +7,7 @@ use native.Mathlib.Omega.{arith}
 use lib.ListN.{length, getD, take, drop}
 use borrow.Author.Needs.{needs}
 use Rattle.names.specs.Fields.{number}
-use Rattle.names.proofs.Walk.{here, done}
+use Rattle.names.specs.Laws.Walks.{here, done}
 use Rattle.names.proofs.fields.u16_at.Statement.{statement}
 use Rattle.names.proofs.fields.u16_at.Tie as tie
 

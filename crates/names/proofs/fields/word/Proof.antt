@@ -1,13 +1,14 @@
 -- `names::fields::word` meets its contract. Assumes nothing.
 use mathlib.Core.Path.{_≡_, sym}
 use mathlib.Core.List.{List}
-use Prim.Native.Nat.{ℕ, _+_, _≤_}
+use Prim.Native.Nat.{ℕ, _+_, _<_, _≤_}
 use native.Mathlib.Omega.{arith}
-use lib.ListN.{length, getD, take, drop}
+use lib.ListN.{length, getD, take, drop, length-take}
+use native.Mathlib.Nat.{min-le-left}
 use lib.Seq.{take-nil}
 use borrow.Author.Needs.{needs}
 use Rattle.names.specs.Read.{wordAt}
-use Rattle.names.proofs.Walk.{done}
+use Rattle.names.specs.Laws.Walks.{done}
 use Rattle.names.proofs.fields.word.Statement.{statement}
 use Rattle.names.proofs.fields.word.Tie as tie
 
@@ -18,7 +19,13 @@ module _ (s : List ℕ) (at : ℕ) where
   whole : (n : ℕ) → n ≡ getD s at 0 → (p : List ℕ) → p ≡ take n (drop (at + 1) s) → p ≡ wordAt s at
   whole n size p is = rw (← size) is
 
-ruleset steps = (needs, no-length, whole)
+no-bytes : (s : List ℕ) → length (take 0 s) ≤ 255
+no-bytes s = simp length-take (omega arith)
+
+short : (n : ℕ) → n < 256 → (l p : List ℕ) → p ≡ take n l → length p ≤ 255
+short n small l p is = rw is (simp length-take (omega (arith, min-le-left n (length l))))
+
+ruleset steps = (needs, no-length, whole, no-bytes, short)
 
 slice-aggregate-result : tie.Need-slice-aggregate-result
 slice-aggregate-result c = search steps

@@ -7,7 +7,7 @@ use lib.ListN.{length, getD, take, drop}
 use lib.Seq.{take-nil}
 use borrow.Author.Needs.{needs}
 use Rattle.names.specs.Read.{wordAt}
-use Rattle.names.proofs.Walk.{done}
+use Rattle.names.specs.Laws.Walks.{done}
 use Rattle.names.proofs.fields.word_after.Statement.{statement}
 use Rattle.names.proofs.fields.word_after.Tie as tie
 

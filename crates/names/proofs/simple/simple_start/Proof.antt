@@ -9,7 +9,7 @@ use lib.ListN.{length, getD, drop}
 use borrow.Author.Needs.{needs}
 use borrow.Author.Tests.{eq-eqb, ne-eqb}
 use Rattle.names.specs.Names.{simpleFrom, simpleName}
-use Rattle.names.proofs.Walk.{here, done}
+use Rattle.names.specs.Laws.Walks.{here, done}
 use Rattle.names.proofs.simple.simple_start.Statement.{statement}
 use Rattle.names.proofs.simple.simple_start.Tie as tie
 

@@ -6,7 +6,7 @@ use borrow.Author.Needs.{needs}
 use Rattle.names.specs.declared.Read.{Read}
 use Rattle.names.specs.Fields.{whole}
 use Rattle.names.specs.Read.{ending, readNumber}
-use Rattle.names.proofs.Laws.{number-of}
+use Rattle.names.specs.Laws.Readers.{number-of}
 use Rattle.schema.specs.Schema.{schemaRecord}
 use Rattle.condition.specs.Condition.{conditionRecord}
 use Rattle.targets.specs.Targets.{targetRecord}

@@ -4,7 +4,7 @@ use mathlib.Core.List.{List}
 use Prim.Native.Nat.{ℕ, _<_}
 use native.Mathlib.Omega.{arith}
 use lib.ListN.{length, take, drop}
-use Rattle.names.proofs.Walk.{take-at-most}
+use Rattle.names.specs.Laws.Walks.{take-at-most}
 use Rattle.reports.specs.Sink.{Sink, push}
 use borrow.Author.Needs.{needs}
 use Rattle.reports.proofs.buffer.push_scratch.Statement.{statement}

@@ -4,9 +4,9 @@ use Prim.Native.Nat.{ℕ, _+_, _≤_}
 use native.Mathlib.Omega.{arith}
 use lib.ListN.{length}
 use Rattle.names.specs.Fields.{digits}
-use Rattle.names.specs.Fields.Laws.{length-digits}
+use Rattle.names.specs.Laws.Fields.{length-digits}
 use Rattle.names.specs.Writer.{Stored}
-use Rattle.names.specs.Writer.Laws.{stored-more, stored-length}
+use Rattle.names.specs.Laws.Writers.{stored-more, stored-length}
 use Rattle.reports.specs.Decode.{header}
 use borrow.Author.Needs.{needs}
 use Rattle.reports.proofs.buffer.put_header.Statement.{statement}

@@ -8,7 +8,7 @@ use lib.ListN.{length, take, drop, length-take, length-drop}
 use lib.Seq.{drop-drop}
 use borrow.Author.Tests.{eq-eqb, ne-eqb}
 use Rattle.names.specs.Names.{same}
-use Rattle.names.specs.Names.Laws.{same-lengths}
+use Rattle.names.specs.Laws.Names.{same-lengths}
 use Rattle.names.specs.Fields.{number}
 use Rattle.reports.specs.Reports.{Breach, samePair}
 use Rattle.reports.specs.Decode.{longAt, report}

@@ -1,5 +1,5 @@
 -- `reports::pieces::put_part` meets its contract: two writers, one behind the other. Assumes nothing.
-use Rattle.names.specs.Writer.Laws.{stored-more}
+use Rattle.names.specs.Laws.Writers.{stored-more}
 use borrow.Author.Needs.{needs}
 use Rattle.reports.proofs.pieces.put_part.Statement.{statement}
 use Rattle.reports.proofs.pieces.put_part.Tie as tie

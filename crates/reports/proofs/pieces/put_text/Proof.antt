@@ -7,7 +7,7 @@ use lib.ListN.{getD}
 use Rattle.names.specs.Lists.{gather}
 use Rattle.names.specs.Names.{same}
 use Rattle.names.specs.Text.{text}
-use Rattle.names.proofs.Table.{Entry, right, rightBelow, entry}
+use Rattle.names.specs.Laws.Tables.{Entry, right, rightBelow, entry}
 use Rattle.reports.specs.Messages.{parts}
 use Rattle.reports.specs.Messages.Laws.{pieces}
 use borrow.Author.Needs.{needs}

@@ -1,5 +1,5 @@
 -- `resolution::along::behind` meets its contract. Assumes nothing.
-use Rattle.resolution.proofs.Segments.{contexts}
+use Rattle.resolution.specs.Laws.Segments.{contexts}
 use Rattle.resolution.proofs.along.behind.Statement.{statement}
 use Rattle.resolution.proofs.along.behind.Tie as tie
 

@@ -1,5 +1,5 @@
 -- `resolution::along::context_path` meets its contract. Assumes nothing.
-use Rattle.resolution.proofs.Segments.{contexts}
+use Rattle.resolution.specs.Laws.Segments.{contexts}
 use Rattle.resolution.proofs.along.context_path.Statement.{statement}
 use Rattle.resolution.proofs.along.context_path.Tie as tie
 

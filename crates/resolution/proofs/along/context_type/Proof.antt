@@ -1,5 +1,5 @@
 -- `resolution::along::context_type` meets its contract. Assumes nothing.
-use Rattle.resolution.proofs.Segments.{ends}
+use Rattle.resolution.specs.Laws.Segments.{ends}
 use Rattle.resolution.proofs.along.context_type.Statement.{statement}
 use Rattle.resolution.proofs.along.context_type.Tie as tie
 

@@ -3,7 +3,7 @@ use Rattle.names.specs.Read.{wordAt}
 use Rattle.schema.specs.Places.{fieldsIn}
 use Rattle.resolution.specs.Resolution.{resolveIn}
 use Rattle.resolution.specs.Places.{segmentsIn}
-use Rattle.resolution.proofs.Segments.{Left, along}
+use Rattle.resolution.specs.Laws.Segments.{Left, along}
 use Rattle.resolution.proofs.along.resolve_in.Statement.{statement}
 use Rattle.resolution.proofs.along.resolve_in.Tie as tie
 

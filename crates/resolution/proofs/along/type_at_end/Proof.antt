@@ -1,5 +1,5 @@
 -- `resolution::along::type_at_end` meets its contract. Assumes nothing.
-use Rattle.resolution.proofs.Segments.{ends}
+use Rattle.resolution.specs.Laws.Segments.{ends}
 use Rattle.resolution.proofs.along.type_at_end.Statement.{statement}
 use Rattle.resolution.proofs.along.type_at_end.Tie as tie
 

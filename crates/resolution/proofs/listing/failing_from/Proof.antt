@@ -4,7 +4,7 @@ use Rattle.names.specs.Read.{wordAt}
 use Rattle.schema.specs.Places.{schemaIn}
 use Rattle.targets.specs.Places.{narrowed}
 use Rattle.resolution.specs.Places.{segmentsIn}
-use Rattle.resolution.proofs.Failing.{Failing, failingPass}
+use Rattle.resolution.specs.Laws.Failing.{Failing, failingPass}
 use Rattle.resolution.proofs.listing.failing_from.Statement.{statement}
 use Rattle.resolution.proofs.listing.failing_from.Tie as tie
 

@@ -1,5 +1,5 @@
 -- `resolution::listing::fails_at` meets its contract. Assumes nothing.
-use Rattle.resolution.proofs.Failing.{failures}
+use Rattle.resolution.specs.Laws.Failing.{failures}
 use Rattle.resolution.proofs.listing.fails_at.Statement.{statement}
 use Rattle.resolution.proofs.listing.fails_at.Tie as tie
 

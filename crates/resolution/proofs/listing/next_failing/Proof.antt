@@ -1,5 +1,5 @@
 -- `resolution::listing::next_failing` meets its contract. Assumes nothing.
-use Rattle.resolution.proofs.Failing.{failingPath}
+use Rattle.resolution.specs.Laws.Failing.{failingPath}
 use Rattle.resolution.proofs.listing.next_failing.Statement.{statement}
 use Rattle.resolution.proofs.listing.next_failing.Tie as tie
 

@@ -3,7 +3,7 @@
 use mathlib.Core.Path.{_≡_}
 use Rattle.names.specs.Read.{ending, earlier}
 use Rattle.schema.specs.Schema.{typeAt, attributes, attributesOf}
-use Rattle.schema.proofs.ByKind.{types}
+use Rattle.schema.specs.Laws.ByKind.{types}
 use Prim.Native.Nat.{ℕ, _+_, _<_}
 use borrow.Fn.Kinds.{In}
 use borrow.Fn.PlainCycle.{Measures, is, falls, and}

@@ -11,7 +11,7 @@ use Rattle.names.specs.declared.Read.the-variants.{Next, Refused}
 use Rattle.names.specs.Class.{classOf}
 use Rattle.names.specs.Fields.{stringOf}
 use Rattle.names.specs.Read.{ending, wordAt, earlier}
-use Rattle.names.proofs.Laws.{stops, goes, string-view}
+use Rattle.names.specs.Laws.Readers.{stops, goes, string-view}
 use Rattle.schema.specs.Schema.{after, ascending}
 use Rattle.schema.proofs.read.read_name.Statement.{statement}
 use Rattle.schema.proofs.read.read_name.Tie as tie

@@ -9,8 +9,8 @@ use Rattle.names.specs.declared.Read.{Read}
 use Rattle.names.specs.declared.Read.the-variants.{Next, Refused}
 use Rattle.names.specs.Fields.{got, heading, u16, number, many, finished, whole}
 use Rattle.names.specs.Read.{ending}
-use Rattle.names.proofs.Laws.{stops, goes, u16-value}
-use Rattle.names.proofs.Record.{start-stops, start-goes, at-end}
+use Rattle.names.specs.Laws.Readers.{stops, goes, u16-value}
+use Rattle.names.specs.Laws.Records.{start-stops, start-goes, at-end}
 use Rattle.schema.specs.Schema.{entityType, action, keyOf, schemaRecord}
 use Rattle.schema.proofs.Views.{nameOf}
 use Rattle.schema.proofs.read.read_schema.Statement.{statement}

@@ -5,7 +5,7 @@ use Prim.Native.Nat.{ℕ, _+_, _≤_}
 use native.Mathlib.Omega.{arith}
 use lib.ListN.{length}
 use Rattle.names.specs.Writer.{Stored}
-use Rattle.names.specs.Writer.Laws.{stored-more, stored-length}
+use Rattle.names.specs.Laws.Writers.{stored-more, stored-length}
 use Rattle.types.specs.Meaning.{baseOf, tagPart}
 use Rattle.types.specs.Words.{textBy, typeWord, wordOf}
 use Rattle.types.specs.declared.Base.{Base}

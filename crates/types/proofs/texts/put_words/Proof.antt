@@ -7,7 +7,7 @@ use native.Mathlib.Numerals.{add-one}
 use native.Mathlib.Omega.{arith}
 use lib.ListN.{length}
 use Rattle.names.specs.Writer.{Stored}
-use Rattle.names.specs.Writer.Laws.{stored-none, stored-more, stored-length}
+use Rattle.names.specs.Laws.Writers.{stored-none, stored-more, stored-length}
 use Rattle.types.specs.Words.{typeWord, repeated}
 use Rattle.types.proofs.Words.{repeated-room}
 use borrow.Author.Needs.{needs}

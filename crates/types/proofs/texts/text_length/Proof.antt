@@ -4,7 +4,7 @@ use mathlib.Core.List.{List}
 use Prim.Native.Nat.{ℕ, _+_, _*_, _<_}
 use native.Mathlib.Omega.{arith}
 use lib.ListN.{length}
-use Rattle.types.specs.Types.Texts.{length-layers}
+use Rattle.types.specs.Laws.Texts.{length-layers}
 use Rattle.types.specs.Meaning.{baseOf, tagPart, layered}
 use Rattle.types.specs.Words.{textBy, typeWord, wordOf}
 use Rattle.types.specs.declared.Base.{Base}

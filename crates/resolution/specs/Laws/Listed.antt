@@ -11,7 +11,7 @@ use Prim.Native.Nat.{ℕ}
 use native.Mathlib.Omega.{arith}
 use Rattle.names.specs.Lists.{maybe, first, every, select}
 use Rattle.names.specs.Names.{same}
-use Rattle.names.specs.Names.Laws.{same-eq}
+use Rattle.names.specs.Laws.Names.{same-eq}
 use Rattle.types.specs.Types.{Ty, sameType}
 use Rattle.schema.specs.Schema.{Schema, EntityType}
 use Rattle.schema.specs.Find.{findEntity}
@@ -19,7 +19,7 @@ use Rattle.targets.specs.Targets.{Narrowing}
 use Rattle.resolution.specs.Resolution as Resolution
 use Rattle.resolution.specs.Resolution.{OnType, ambiguous, unknown, failed, missingAt, namesOf, typesOf, agreed, failure, verdict, onEntity, onTypes, declaredAll, admittedBy, admitted, scopePath, renderings}
 use Rattle.resolution.specs.Passes.{briefly, listed, withList, failsAt, failing, above, typeOn, typesOn, renderingsOn}
-use Rattle.resolution.proofs.Failing.{both}
+use Rattle.resolution.specs.Laws.Failing.{both}
 
 pub with-its-list : (o : Resolution.ScopePath) → withList (briefly o) (listed o) ≡ o
 unfolding withList briefly listed

@@ -11,18 +11,18 @@ use mir.Val.{Fits}
 use mir.Syntax.{w8}
 use Rattle.names.specs.Fields.{Got, got, bad, u8, choose, refuse, stringOf, levels}
 use Rattle.names.specs.Names.{pathName, same, simpleName}
-use Rattle.names.specs.Names.Joined.{simple-end}
+use Rattle.names.specs.Laws.Joined.{simple-end}
 use Rattle.names.specs.Read.{wordAt}
 use Rattle.names.specs.Text.{text}
-use Rattle.names.proofs.Laws.{split, string-view, accept, has-value, got-value, Each, each-below}
-use Rattle.names.proofs.Walk.{take-at-most}
+use Rattle.names.specs.Laws.Readers.{split, string-view, accept, has-value, got-value, Each, each-below}
+use Rattle.names.specs.Laws.Walks.{take-at-most}
 use Rattle.types.specs.Types as types
 use Rattle.types.specs.Types.{scalar}
-use Rattle.types.specs.Types.Texts.{layersIn, tagIn, Small}
+use Rattle.types.specs.Laws.Texts.{layersIn, tagIn, Small}
 use Rattle.schema.specs.Schema.{Declared, long, string, bool, extension, set, anySet, object, entity, severalEntities, anyEntity, never, kinds, typeAt, attributes}
 use Rattle.schema.specs.Find.{richType}
 use Rattle.schema.specs.Places.{typeIn, isType}
-use Rattle.schema.proofs.ByKind.{choose-above}
+use Rattle.schema.specs.Laws.ByKind.{choose-above}
 
 -- the elements of a list are bytes
 abbrev pub Bytes : List ℕ → Type 0

@@ -12,7 +12,7 @@ use Rattle.names.specs.declared.Read.{Read}
 use Rattle.names.specs.declared.Read.the-variants.{Next, Refused}
 use Rattle.names.specs.Fields.{got, Reader, next, u8, bytes, stringOf, many, each, counted}
 use Rattle.names.specs.Read.{ending, accepted, valueOr, wordAt, row, isRow, rowIn, Listed}
-use Rattle.names.proofs.Laws.{u8-end, u8-got, u8-view, string-view, split, held, stops, goes, last, accept, is-accepted, has-value, got-value, got-place, arrives}
+use Rattle.names.specs.Laws.Readers.{u8-end, u8-got, u8-view, string-view, split, held, stops, goes, last, accept, is-accepted, has-value, got-value, got-place, arrives}
 
 module _ {A : Type 0} (f : Reader A) (s : List ℕ) where
   -- what stands before says nothing

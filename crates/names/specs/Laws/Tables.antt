@@ -9,7 +9,7 @@ use lib.ListN.{length, getD, take, drop}
 use lib.Dec.{leb, eqb}
 use borrow.Author.Tests.{leb-true, eqb-true, eqb-false}
 use Rattle.names.specs.Names.{same}
-use Rattle.names.specs.Names.Laws.{same-eq, and-left, and-right}
+use Rattle.names.specs.Laws.Names.{same-eq, and-left, and-right}
 
 module _ (table ends : List ℕ) (word : ℕ → List ℕ) where
   abbrev part : ℕ → List ℕ

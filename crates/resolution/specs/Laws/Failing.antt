@@ -8,16 +8,16 @@ use native.Mathlib.Omega.{arith}
 use borrow.Author.Needs.{needs}
 use Rattle.names.specs.Lists.{maybe, first, every, select}
 use Rattle.names.specs.Names.{same}
-use Rattle.names.specs.Names.Laws.{same-eq}
+use Rattle.names.specs.Laws.Names.{same-eq}
 use Rattle.names.specs.Read.{wordAt}
 use Rattle.types.specs.Types.{Ty, sameType}
 use Rattle.types.specs.declared.Rich.{Rich}
 use Rattle.schema.specs.Schema.{Schema, EntityType}
 use Rattle.schema.specs.Find.{findEntity}
 use Rattle.schema.specs.Places.{schemaIn, isEntity, entityIn, FindsEntity}
-use Rattle.schema.specs.declared.Found.{Found}
-use Rattle.schema.specs.declared.Found.the-variants as Found
-use Rattle.schema.specs.declared.Row.{Row}
+use Rattle.names.specs.declared.Found.{Found}
+use Rattle.names.specs.declared.Found.the-variants as Found
+use Rattle.names.specs.declared.Row.{Row}
 use Rattle.targets.specs.Targets.{Narrowing}
 use Rattle.resolution.specs.Resolution as Resolution
 use Rattle.resolution.specs.Resolution.{OnType, ambiguous, unknown, failed, missingAt, namesOf, typesOf, agreed, failure, verdict, onEntity, onTypes, declaredAll, admittedBy, admitted, scopePath, renderings}
@@ -27,7 +27,7 @@ use Rattle.resolution.specs.declared.Next.{Next}
 use Rattle.resolution.specs.declared.Next.the-variants as Next
 use Rattle.resolution.specs.declared.PathEnd.{PathEnd}
 use Rattle.resolution.specs.declared.PathEnd.the-variants as PathEnd
-use Rattle.resolution.proofs.Segments.{no-segments}
+use Rattle.resolution.specs.Laws.Segments.{no-segments}
 
 -- the test on one end
 module _ (c : List ℕ) (p : ℕ) (e : PathEnd) where

@@ -11,20 +11,20 @@ use Rattle.names.specs.Lists.{maybe}
 use Rattle.names.specs.Fields.{stringOf}
 use Rattle.names.specs.Names.{plain}
 use Rattle.names.specs.Read.{wordAt, Listed, rowIn}
-use Rattle.names.proofs.Row.{Remaining, remaining-all, remaining-over, StringsLeft, strings-left}
+use Rattle.names.specs.Laws.Rows.{Remaining, remaining-all, remaining-over, StringsLeft, strings-left}
 use Rattle.types.specs.Meaning.{richOf}
-use Rattle.types.specs.Types.Texts.{Small}
+use Rattle.types.specs.Laws.Texts.{Small}
 use Rattle.types.specs.declared.Rich.{Rich}
 use Rattle.schema.specs.Schema.{Declared, Attributes, Action}
 use Rattle.schema.specs.Find.{findAttribute, fieldsOf, richType}
 use Rattle.schema.specs.Places.{typeIn, isType, fieldsIn, areFields, actionIn, Finds, FindsFields, Standing}
-use Rattle.schema.specs.declared.Found.{Found}
-use Rattle.schema.specs.declared.Found.the-variants as Found
-use Rattle.schema.specs.declared.Row.{Row}
+use Rattle.names.specs.declared.Found.{Found}
+use Rattle.names.specs.declared.Found.the-variants as Found
+use Rattle.names.specs.declared.Row.{Row}
 use Rattle.resolution.specs.Resolution as Resolution
 use Rattle.resolution.specs.Resolution.{nested, descend, resolveIn, contextPath, contextType, typeAtEnd}
 use Rattle.resolution.specs.Places.{areSegments, segmentsIn, Behind, resolutionOf, typedOf, leafOf, smallResolution, smallType}
-use Rattle.resolution.proofs.Sizes.{Bytes, type-small}
+use Rattle.resolution.specs.Laws.Sizes.{Bytes, type-small}
 use Rattle.resolution.specs.declared.PathResolution.{PathResolution}
 use Rattle.resolution.specs.declared.PathResolution.the-variants as PathResolution
 use Rattle.resolution.specs.declared.Typed.{Typed}

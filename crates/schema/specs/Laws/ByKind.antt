@@ -19,7 +19,7 @@ use borrow.Author.Needs.{needs}
 use Rattle.names.specs.Read.{ending, earlier, wordAt}
 use Rattle.names.specs.declared.Read.{Read}
 use Rattle.names.specs.declared.Read.the-variants.{Next, Refused}
-use Rattle.names.proofs.Laws.{u8-end, u8-got, via, last, stops, goes, split, held, string-view, Each, each-below}
+use Rattle.names.specs.Laws.Readers.{u8-end, u8-got, via, last, stops, goes, split, held, string-view, Each, each-below}
 use Rattle.schema.specs.Schema.{Declared, kinds, typeAt, attributes, attributesOf, ascending, after}
 
 -- a name of a row, accepted: the string there

@@ -11,7 +11,7 @@ use Rattle.names.specs.declared.Read.{Read}
 use Rattle.names.specs.declared.Read.the-variants.{Next, Refused}
 use Rattle.names.specs.Fields.{Got, got, bad, Reader, _>>=_, heading, finished, whole, holds}
 use Rattle.names.specs.Read.{ending}
-use Rattle.names.proofs.Laws.{via, stops, goes}
+use Rattle.names.specs.Laws.Readers.{via, stops, goes}
 
 -- by the size
 module _ {A : Type 0} (f : Reader A) (s : List ℕ) where
