@@ -1,46 +1,26 @@
 -- The aggregates of terms in a row, one after another, and those of a comparison's operands. Assumes nothing.
 use mathlib.Core.Path.{_≡_, refl, sym, ap, _∙_}
-use mathlib.Core.Bool.{Bool, true, false}
+use mathlib.Core.Bool.{true, false}
 use mathlib.Core.List.{List, [], _∷_, _++_, append-assoc, append-nil}
-use mathlib.Core.Option.{Option, none, some}
 use Prim.Native.Nat.{ℕ, zero, suc, _+_, _-_, _≤_, _<_}
 use native.Mathlib.Numerals.{add-one, sub-one}
 use native.Mathlib.Omega.{arith}
 use borrow.Author.Needs.{needs}
-use lib.ListN.{length, getD}
+use lib.ListN.{length}
 use Rattle.names.specs.Lists.{gather}
-use Rattle.names.specs.Laws.Lists.{gather-append}
-use Rattle.names.specs.Fields.{Got, got, Reader, many, each, levels}
-use Rattle.names.specs.Read.{accepted, valueOr, row, isRow, rowIn}
+use Rattle.names.specs.Fields.{Got, got, many, levels}
+use Rattle.names.specs.Read.{row, rowIn}
 use Rattle.names.specs.Laws.Readers.{is-accepted, has-value}
 use Rattle.names.specs.Laws.Rows.{Opens, opens, row-cons, row-empty}
-use Rattle.condition.specs.declared.Several.{Several}
-use Rattle.condition.specs.declared.NextAggregate.{NextAggregate}
-use Rattle.condition.specs.declared.NextAggregate.the-variants.{At, Done}
 use Rattle.condition.specs.Condition.{Span, Operator, Condition, Term, Aggregate, comparison, entity, literal, contextField, scopeField, var, wildcard, array, aggregate, sigil, termAt}
 use Rattle.condition.specs.Condition as tree
-use Rattle.condition.specs.Walk.{declaredBy, operandAggregates, operandBinders}
-use Rattle.condition.specs.Places.{isCondition, conditionIn, isTerm, termIn, isAggregate, aggregateIn}
+use Rattle.condition.specs.Walk.{operandAggregates}
+use Rattle.condition.specs.Places.{isCondition, conditionIn, isTerm, termIn, aggregateIn}
 use Rattle.condition.specs.Kinds.{kindOf, spanOf, termKindOf}
 use Rattle.condition.specs.Open.{Skipped, TermOpened, AggregateHere}
-use Rattle.condition.specs.Parts.{isTerms, aggregatesIn, AggregateNext, NextIs, OperandsHere}
+use Rattle.condition.specs.Parts.{isTerms, aggregatesIn, AggregateNext, OperandsHere}
 use Rattle.condition.proofs.Opens.{Stands, stood, ends-at, term-stands, term-index, arith-here, comparison-here}
-use Rattle.condition.proofs.Filling.{term-value}
 use Rattle.condition.proofs.Pieces.{term-ahead}
-
--- an operand's binders are what its aggregates declare, in order
-pub binders-of-aggregates : (t : Term) → operandBinders t ≡ gather declaredBy (operandAggregates t)
-unfolding operandBinders operandAggregates gather
-binders-of-aggregates (entity n) = refl
-binders-of-aggregates (literal l) = refl
-binders-of-aggregates (contextField p) = refl
-binders-of-aggregates (scopeField p) = refl
-binders-of-aggregates (var v) = refl
-binders-of-aggregates wildcard = refl
-binders-of-aggregates (array ts) = refl
-binders-of-aggregates (aggregate a) = sym (append-nil (declaredBy a))
-binders-of-aggregates (tree.arith l r) = rw (binders-of-aggregates l, binders-of-aggregates r) (sym (gather-append declaredBy (operandAggregates l) (operandAggregates r)))
-binders-of-aggregates sigil = refl
 
 -- an operand that is no aggregate and no arithmetic has none
 no-aggregates : (x : Term) → (termKindOf x ≡ 12 → ⊥) → (termKindOf x ≡ 11 → ⊥) → operandAggregates x ≡ []

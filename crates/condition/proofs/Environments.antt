@@ -10,22 +10,22 @@ use borrow.Author.Tests.{ltb-true, ltb-false, eqb-true, eqb-false}
 use lib.Dec.{eqb, ltb}
 use lib.ListN.{length, getD, take, set, length-set}
 use lib.Seq.{length-take-le, take-set-lt, getD-set-same, getD-set-other}
-use Rattle.names.specs.Lists.{maybe}
+use Rattle.names.specs.Lists.{maybe, select}
 use Rattle.names.specs.Names.{same, below}
 use Rattle.names.specs.Laws.Names.{same-refl, same-eq, below-order, order-refl}
 use Rattle.names.specs.Read.{wordAt}
 use Rattle.condition.specs.declared.Spot.{Spot}
-use Rattle.condition.specs.declared.Names.{Names}
 use Rattle.condition.specs.declared.Bound.{Bound}
 use Rattle.condition.specs.declared.Bound.the-variants.{Nothing}
 use Rattle.condition.specs.Condition.{Slot, named, paramRef, binderRef, Annotation, Binder, slot}
-use Rattle.condition.specs.Walk.{namedHere, lastNamed}
-use Rattle.condition.specs.Places.{isSlot, slotIn, isAnnotation, annotationIn, isBinder, binderIn}
+use Rattle.condition.specs.Walk.{binders, hasName, namedOnes, namedHere, lastNamed}
+use Rattle.condition.specs.Places.{isRecord, recordIn, isSlot, slotIn, isAnnotation, annotationIn, isBinder, binderIn}
+use Rattle.condition.specs.Sizes.{named-append, record-bytes}
 use Rattle.condition.specs.Open.{Skipped}
 use Rattle.condition.specs.Parts.{Says}
-use Rattle.condition.specs.Environment.{hasName, nameAt, Sorted, Entry, Environment, SpotOf, insertAt, Inserted, Held, Extended}
+use Rattle.condition.specs.Environment.{nameAt, Sorted, Entry, Environment, SpotOf, insertAt, Inserted, MayDeclare, Declared}
 use Rattle.condition.proofs.Pieces.{slot-index, slot-name, slot-param, slot-binder}
-use Rattle.condition.proofs.ByPlace.{prefix}
+use Rattle.condition.proofs.ByPlace.{prefix, record-small}
 use Rattle.condition.proofs.Bindings.{last-append, says-nothing, binder-slot, binder-annotation, slot-is, annotation-is}
 use Rattle.condition.proofs.Spots.{Beside, before, here, behind, beside, insert-length, insert-before, insert-here, insert-behind}
 
@@ -35,7 +35,7 @@ module _ (s : List ℕ) (at : ℕ) (acc : isBinder s at ≡ true) where
   pub binder-index : at < length s
   binder-index = slot-index s at (binder-slot s at acc)
 
-  pub place-small : {t : List ℕ} {known : Names} → Held s t known → at < 65536
+  pub place-small : {new : List Binder} {t : List ℕ} {n : ℕ} → MayDeclare s new t n → at < 65536
   place-small h = omega (arith, binder-index, h .small)
 
   first-byte : getD s at 0 ≡ 0 → (binderIn s at) .slot ≡ named (wordAt s (at + 1))
@@ -107,14 +107,14 @@ module _ (v w : List ℕ) (h : below v w ≡ true) where
       go true e = let z : w ≡ v = same-eq w v e in absurd (false≢true (sym (below-self v) ∙ rw z at h))
       go false e = e
 
--- ---- the environment with one binder more: unnamed, in place of the one of its name, put in, or left out
+-- ---- the environment with one binder more: unnamed, in place of the one of its name, or put in
 
-module _ (s : List ℕ) (bs : List Binder) (whole : Bool) (l : List ℕ) (env : Environment s bs whole l) (at : ℕ) where
-  unnamed-on : hasName ((binderIn s at) .slot) ≡ false → Environment s (bs ++ (binderIn s at ∷ [])) whole l
+module _ (s : List ℕ) (bs : List Binder) (l : List ℕ) (env : Environment s bs l) (at : ℕ) where
+  unnamed-on : hasName ((binderIn s at) .slot) ≡ false → Environment s (bs ++ (binderIn s at ∷ [])) l
   unnamed-on h = record {
     entries = λ i k. let e = env .entries i k in record { stands = e .stands; slot = e .slot; last = unnamed-last bs (binderIn s at) _ h ∙ e .last };
     sorted = env .sorted;
-    complete = λ x name n. unnamed-last bs (binderIn s at) name h ∙ env .complete x name n;
+    complete = λ name n. unnamed-last bs (binderIn s at) name h ∙ env .complete name n;
   }
 
 -- the names, with a place of the same name in place of the i-th
@@ -166,7 +166,7 @@ module _ (s l : List ℕ) (at i : ℕ) (h : i ≤ length l) (low : (k : ℕ) →
       go true q = above-differs _ _ (low k (ltb-true k i q))
       go false q = below-differs _ _ (high k (ltb-false k i q) p)
 
-module _ (s : List ℕ) (bs : List Binder) (whole : Bool) (l : List ℕ) (env : Environment s bs whole l) (at : ℕ) (acc : isBinder s at ≡ true) (has : hasName ((binderIn s at) .slot) ≡ true) where
+module _ (s : List ℕ) (bs : List Binder) (l : List ℕ) (env : Environment s bs l) (at : ℕ) (acc : isBinder s at ≡ true) (has : hasName ((binderIn s at) .slot) ≡ true) where
   own-entry : Entry s (bs ++ (binderIn s at ∷ [])) at
   own-entry = record { stands = acc; slot = own-slot s at acc has; last = own-last bs (binderIn s at) _ (wordAt s (at + 1)) (own-slot s at acc has) (same-refl _) }
 
@@ -175,16 +175,16 @@ module _ (s : List ℕ) (bs : List Binder) (whole : Bool) (l : List ℕ) (env : 
   kept-entry k p h = let e = env .entries k p in record { stands = e .stands; slot = e .slot; last = other-last bs (binderIn s at) _ (wordAt s (at + 1)) (own-slot s at acc has) h ∙ e .last }
 
   -- a name that no entry has, nor the new one
-  kept-none : (name : List ℕ) → whole ≡ true → same (wordAt s (at + 1)) name ≡ false → ((k : ℕ) → k < length l → same (nameAt s l k) name ≡ false) → lastNamed name (bs ++ (binderIn s at ∷ [])) ≡ none
-  kept-none name x h n = other-last bs (binderIn s at) name (wordAt s (at + 1)) (own-slot s at acc has) h ∙ env .complete x name n
+  kept-none : (name : List ℕ) → same (wordAt s (at + 1)) name ≡ false → ((k : ℕ) → k < length l → same (nameAt s l k) name ≡ false) → lastNamed name (bs ++ (binderIn s at ∷ [])) ≡ none
+  kept-none name h n = other-last bs (binderIn s at) name (wordAt s (at + 1)) (own-slot s at acc has) h ∙ env .complete name n
 
-  replaced-on : (i : ℕ) → i < length l → nameAt s l i ≡ wordAt s (at + 1) → Environment s (bs ++ (binderIn s at ∷ [])) whole (set l i at)
+  replaced-on : (i : ℕ) → i < length l → nameAt s l i ≡ wordAt s (at + 1) → Environment s (bs ++ (binderIn s at ∷ [])) (set l i at)
   replaced-on i h e = record {
     entries = λ k p. entry k (rw (length-set l i at) at p) (beside i k);
     sorted = set-sorted s l at i h e (env .sorted);
-    complete = λ x name n.
+    complete = λ name n.
         let m : (k : ℕ) → k < length l → same (nameAt s l k) name ≡ false = λ k p. rw (name-set s l at i h e k) at (n k (rw (length-set l i at) p)) in
-        kept-none name x (rw e at (m i h)) m;
+        kept-none name (rw e at (m i h)) m;
   }
     where
       entry : (k : ℕ) → k < length l → Beside i k → Entry s (bs ++ (binderIn s at ∷ [])) (getD (set l i at) k 0)
@@ -193,16 +193,13 @@ module _ (s : List ℕ) (bs : List Binder) (whole : Bool) (l : List ℕ) (env : 
       entry k p (behind m y z) = rw (getD-set-other l i k at 0 (λ q. omega arith)) (kept-entry k p (rw (← e) (below-differs _ _ (env .sorted .ascend i k (omega arith) p))))
 
   module _ (i : ℕ) (h : i ≤ length l) (low : (k : ℕ) → k < i → below (nameAt s l k) (wordAt s (at + 1)) ≡ true) (high : (k : ℕ) → i ≤ k → k < length l → below (wordAt s (at + 1)) (nameAt s l k) ≡ true) where
-    full-on : Environment s (bs ++ (binderIn s at ∷ [])) false l
-    full-on = record { entries = λ k p. kept-entry k p (apart s l at i h low high k p); sorted = env .sorted; complete = λ x. absurd (false≢true x) }
-
-    inserted-on : Environment s (bs ++ (binderIn s at ∷ [])) whole (insertAt i at l)
+    inserted-on : Environment s (bs ++ (binderIn s at ∷ [])) (insertAt i at l)
     inserted-on = record {
       entries = λ k p. entry k (rw (insert-length i at l h) at p) (beside i k);
       sorted = insert-sorted s l at i h low high (env .sorted);
-      complete = λ x name n.
+      complete = λ name n.
           let own : same (wordAt s (at + 1)) name ≡ false = rw (name-here s l at i h low high) at (n i (rw (insert-length i at l h) (omega arith))) in
-          kept-none name x own (λ k p. others name n k p (ltb k i) refl);
+          kept-none name own (λ k p. others name n k p (ltb k i) refl);
     }
       where
         entry : (k : ℕ) → k < length l + 1 → Beside i k → Entry s (bs ++ (binderIn s at ∷ [])) (getD (insertAt i at l) k 0)
@@ -214,53 +211,64 @@ module _ (s : List ℕ) (bs : List Binder) (whole : Bool) (l : List ℕ) (env : 
         others name n k p true q = rw (name-before s l at i h low high k (ltb-true k i q)) at (n k (rw (insert-length i at l h) (omega arith)))
         others name n k p false q = rw (name-behind s l at i h low high k (ltb-false k i q)) at (n (k + 1) (rw (insert-length i at l h) (omega arith)))
 
--- ---- the same of the table and its state
+-- ---- the same of the table and the number of its entries
 
 module _ (s : List ℕ) where
-  pub same-table : (t : List ℕ) (known : Names) → Held s t known → Extended s [] t known t known
-  same-table t known h = record { held = h; size = refl; on = λ bs env. rw (append-nil bs) env }
+  pub same-table : (t : List ℕ) (n : ℕ) {new : List Binder} → MayDeclare s new t n → Declared s [] t n t n
+  unfolding namedOnes select
+  same-table t n h = record { sorted = h .sorted; count = omega arith; size = refl; on = λ bs env. rw (append-nil bs) env }
 
-  pub extended-more : {xs ys : List Binder} {t u v : List ℕ} {a b c : Names} → Extended s xs t a u b → Extended s ys u b v c → Extended s (xs ++ ys) t a v c
-  extended-more {xs} {ys} p q = record { held = q .held; size = q .size ∙ p .size; on = λ bs env. rw (← append-assoc bs xs ys) (q .on (bs ++ xs) (p .on bs env)) }
+  pub declared-more : {xs ys : List Binder} {t u v : List ℕ} {a b c : ℕ} → Declared s xs t a u b → Declared s ys u b v c → Declared s (xs ++ ys) t a v c
+  declared-more {xs} {ys} p q = record {
+    sorted = q .sorted;
+    count = omega (arith, named-append xs ys, p .count, q .count);
+    size = q .size ∙ p .size;
+    on = λ bs env. rw (← append-assoc bs xs ys) (q .on (bs ++ xs) (p .on bs env));
+  }
 
-  module _ (at : ℕ) (acc : isBinder s at ≡ true) (old : List ℕ) (known : Names) (held : Held s old known) where
-    pub unnamed-table : (b : Bool) → b ≡ hasName ((binderIn s at) .slot) → b ≡ false → Extended s (binderIn s at ∷ []) old known old known
-    unnamed-table b e h = record { held = held; size = refl; on = λ bs env. unnamed-on s bs (known .whole) (take (known .count) old) env at (sym e ∙ h) }
+  module _ (at : ℕ) (acc : isBinder s at ≡ true) (old : List ℕ) (n : ℕ) (may : MayDeclare s (binderIn s at ∷ []) old n) where
+    pub unnamed-table : (b : Bool) → b ≡ hasName ((binderIn s at) .slot) → b ≡ false → Declared s (binderIn s at ∷ []) old n old n
+    unnamed-table b e h = record { sorted = may .sorted; count = omega arith; size = refl; on = λ bs env. unnamed-on s bs (take n old) env at (sym e ∙ h) }
 
-    short : length (take (known .count) old) ≡ known .count
-    short = length-take-le (known .count) old (held .within)
+    short : length (take n old) ≡ n
+    short = length-take-le n old (omega (arith, may .room))
 
-    module _ (has : hasName ((binderIn s at) .slot) ≡ true) (p : Spot) (o : SpotOf s (take (known .count) old) (wordAt s (at + 1)) p) where
+    module _ (has : hasName ((binderIn s at) .slot) ≡ true) (p : Spot) (o : SpotOf s (take n old) (wordAt s (at + 1)) p) where
+      one-named : length (namedOnes (binderIn s at ∷ [])) ≡ 1
+      unfolding namedOnes select
+      one-named = rw has
+
       module _ (is : p .found ≡ true) where
-        spot-count : p .at < known .count
+        spot-count : p .at < n
         spot-count = rw short at (o .found is .0)
 
         pub spot-index : p .at < length old
-        spot-index = omega (arith, spot-count, held .within)
+        spot-index = omega (arith, spot-count, may .room)
 
-        pub replaced-table : (t : List ℕ) → t ≡ set old (p .at) at → Extended s (binderIn s at ∷ []) old known t known
+        pub replaced-table : (t : List ℕ) → t ≡ set old (p .at) at → Declared s (binderIn s at ∷ []) old n t n
         replaced-table t e =
-            let f : take (known .count) t ≡ set (take (known .count) old) (p .at) at = ap (take (known .count)) e ∙ take-set-lt (known .count) old (p .at) at spot-count in
-            let size : length t ≡ length old = ap length e ∙ length-set old (p .at) at in
+            let f : take n t ≡ set (take n old) (p .at) at = ap (take n) e ∙ take-set-lt n old (p .at) at spot-count in
             record {
-              held = record { small = held .small; within = rw size (held .within); sorted = rw f (set-sorted s _ at (p .at) (o .found is .0) (o .found is .1) (held .sorted)) };
-              size = size;
-              on = λ bs env. rw f (replaced-on s bs (known .whole) _ env at acc has (p .at) (o .found is .0) (o .found is .1));
+              sorted = rw f (set-sorted s _ at (p .at) (o .found is .0) (o .found is .1) (may .sorted));
+              count = omega arith;
+              size = ap length e ∙ length-set old (p .at) at;
+              on = λ bs env. rw f (replaced-on s bs _ env at acc has (p .at) (o .found is .0) (o .found is .1));
             }
 
       module _ (is : p .found ≡ false) where
-        pub insert-index : p .at ≤ known .count
+        pub insert-index : p .at ≤ n
         insert-index = rw short at (o .within)
 
-        pub inserted-table : known .count < length old → (t : List ℕ) → Inserted old (known .count) (p .at) at t → Extended s (binderIn s at ∷ []) old known t (record { count = known .count + 1; whole = known .whole })
-        inserted-table h t e = record {
-          held = record { small = held .small; within = omega (arith, e .size); sorted = rw (e .entries) (insert-sorted s _ at (p .at) (o .within) (o .before) (o .missing is) (held .sorted)) };
-          size = e .size;
-          on = λ bs env. rw (e .entries) (inserted-on s bs (known .whole) _ env at acc has (p .at) (o .within) (o .before) (o .missing is));
-        }
+        pub insert-room : n < length old
+        insert-room = omega (arith, may .room, one-named)
 
-        pub full-table : Extended s (binderIn s at ∷ []) old known old (record { count = known .count; whole = false })
-        full-table = record { held = record { small = held .small; within = held .within; sorted = held .sorted }; size = refl; on = λ bs env. full-on s bs (known .whole) _ env at acc has (p .at) (o .within) (o .before) (o .missing is) }
+        pub inserted-table : (t : List ℕ) → Inserted old n (p .at) at t → Declared s (binderIn s at ∷ []) old n t (n + 1)
+        inserted-table t e = record {
+          sorted = rw (e .entries) (insert-sorted s _ at (p .at) (o .within) (o .before) (o .missing is) (may .sorted));
+          count = omega (arith, one-named);
+          size = e .size;
+          on = λ bs env. rw (e .entries) (inserted-on s bs _ env at acc has (p .at) (o .within) (o .before) (o .missing is));
+        }
 
 -- the name as the code has it
 pub spot-there : (s l : List ℕ) (at : ℕ) (w : List ℕ) → w ≡ wordAt s (at + 1) → (p : Spot) → SpotOf s l w p → SpotOf s l (wordAt s (at + 1)) p
@@ -269,28 +277,33 @@ spot-there s l at w e p o = rw e at o
 pub named-is : (s : List ℕ) (at : ℕ) (b : Bool) → b ≡ hasName ((binderIn s at) .slot) → b ≡ true → hasName ((binderIn s at) .slot) ≡ true
 named-is s at b e h = sym e ∙ h
 
-pub ruleset spotting = (needs, prefix, spot-there)
+pub spot-room : (s : List ℕ) (new : List Binder) (t : List ℕ) (n : ℕ) → MayDeclare s new t n → n ≤ length t
+spot-room s new t n h = omega (arith, h .room)
 
-pub ruleset declaring-one = (needs, place-small, named-is, unnamed-table, spot-index, replaced-table, insert-index, inserted-table, full-table)
+pub ruleset spotting = (needs, prefix, spot-room, spot-there)
+
+pub ruleset declaring-one = (needs, place-small, named-is, unnamed-table, spot-index, replaced-table, insert-index, insert-room, inserted-table)
 
 -- ---- from no binder on
 
 module _ (s t : List ℕ) where
-  pub held-none : length s ≤ 65536 → Held s t (record { count = 0; whole = true })
-  held-none h = record { small = h; within = omega arith; sorted = record { ascend = λ i j k l. absurd (omega arith) } }
+  -- a record's named binders take three bytes each
+  pub room-for-all : isRecord s ≡ true → 10921 ≤ length t → MayDeclare s (binders (recordIn s)) t 0
+  room-for-all acc h = record { small = omega (arith, record-small s acc); sorted = record { ascend = λ i j k l. absurd (omega arith) }; room = omega (arith, record-bytes s acc, record-small s acc) }
 
-  pub environment-is : (bs : List Binder) (u : List ℕ) (r : Names) → Extended s bs t (record { count = 0; whole = true }) u r → Environment s bs (r .whole) (take (r .count) u)
-  unfolding lastNamed
-  environment-is bs u r q = q .on [] (record { entries = λ i h. absurd (omega arith); sorted = record { ascend = λ i j k l. absurd (omega arith) }; complete = λ _ _ _. refl })
+  module _ (bs : List Binder) (u : List ℕ) (r : ℕ) (q : Declared s bs t 0 u r) where
+    pub entries-fit : MayDeclare s bs t 0 → r ≤ length u
+    entries-fit h = omega (arith, q .count, q .size, h .room)
 
-  pub environment-none : (bs : List Binder) → Environment s bs false (take 0 t)
-  environment-none bs = record { entries = λ i h. absurd (omega arith); sorted = record { ascend = λ i j k l. absurd (omega arith) }; complete = λ x. absurd (false≢true x) }
+    pub environment-is : Environment s bs (take r u)
+    unfolding lastNamed
+    environment-is = q .on [] (record { entries = λ i h. absurd (omega arith); sorted = record { ascend = λ i j k l. absurd (omega arith) }; complete = λ _ _. refl })
 
-pub ruleset beginning = (needs, held-none, environment-is, environment-none)
+pub ruleset beginning = (needs, room-for-all, entries-fit, environment-is)
 
 -- ---- the search for a name
 
-module _ (s table name : List ℕ) (bs : List Binder) (whole : Bool) (env : Environment s bs whole table) (p : Spot) (o : SpotOf s table name p) where
+module _ (s table name : List ℕ) (bs : List Binder) (env : Environment s bs table) (p : Spot) (o : SpotOf s table name p) where
   module _ (is : p .found ≡ true) where
     pub found-index : p .at < length table
     found-index = o .found is .0
@@ -315,8 +328,8 @@ module _ (s table name : List ℕ) (bs : List Binder) (whole : Bool) (env : Envi
             let f : lastNamed name bs ≡ some (annotationIn s m) = ap (λ w. lastNamed w bs) (sym found-name) ∙ found .last ∙ ap some (annotation-is s q (found .stands) m z) in
             rw f y
 
-  pub none-says : p .found ≡ false → whole ≡ true → Says s (lastNamed name bs) Nothing
-  none-says is all = rw (env .complete all name (λ i h. differ i h (ltb i (p .at)) refl)) (says-nothing s)
+  pub none-says : p .found ≡ false → Says s (lastNamed name bs) Nothing
+  none-says is = rw (env .complete name (λ i h. differ i h (ltb i (p .at)) refl)) (says-nothing s)
     where
       differ : (i : ℕ) → i < length table → (b : Bool) → ltb i (p .at) ≡ b → same (nameAt s table i) name ≡ false
       differ i h true e = below-differs _ _ (o .before i (ltb-true i (p .at) e))

@@ -3,7 +3,6 @@ pub mod Leaves
 pub mod Sequences
 pub mod ByKind
 pub mod Levels
-pub mod Forward
 pub mod Views
 pub mod Opens
 pub mod Filling

@@ -18,7 +18,7 @@ use Rattle.condition.specs.Walk.{reached, reachedBody}
 use Rattle.condition.specs.Places.{isCondition, conditionIn, isTerm, termIn, aggregateAt, isAggregate, aggregateIn, isSlot, isBinder}
 use Rattle.condition.specs.Kinds.{kindOf, oneKind, twoKind, termKindOf, aggregateKindOf}
 use Rattle.condition.specs.Open.{placeOf, Skipped, Opened, TermOpened, AggregateOpened, AggregateHere, BodyHere}
-use Rattle.condition.proofs.Forward.{Forward, nine-condition, forward-slot, forward-binder, forward-counted, forward-condition, forward-term}
+use Rattle.condition.specs.Sizes.{Forward, nine-condition, forward-slot, forward-binder, forward-counted, forward-condition, forward-term}
 use Rattle.condition.proofs.Views.{conditionNumber, termNumber, Head, head-view, OneView, one-view, TwoView, two-view, ComparisonView, comparison-view, ExistsView, exists-view, span-view, inside, term-inside, term-number, PartView, aggregate-view, ArithView, arith-view, aggregate-head-view, SumView, sum-view, CountView, count-view, CallView, call-view}
 
 -- what is accepted, and the place behind it

@@ -28,7 +28,7 @@ use Rattle.condition.specs.Places.{isCondition, conditionIn, isTerm, ter
 use Rattle.condition.specs.Kinds.{kindOf, spanOf, ownSpanOf, termKindOf, aggregateKindOf, aggregateSpanOf, operatorNumber}
 use Rattle.condition.specs.Open.{placeOf, Skipped, Opened, TermOpened, AggregateOpened}
 use Rattle.condition.specs.Parts.{EndsHere, Spans, ComparisonHere, ArithHere, PredicateHere, ArgumentHere, TimepointHere, ExistsHere, ElementsHere, ElementHere, PathHere, SummandHere, isBinders, bindersIn, BindersHere, slotOf, segmentsIn, SegmentsHere}
-use Rattle.condition.proofs.Forward.{Forward, Takes, forward-counted, forward-string, forward-path, one-term}
+use Rattle.condition.specs.Sizes.{Forward, Takes, forward-counted, forward-string, forward-path, one-term}
 use Rattle.condition.proofs.Levels.{term-anywhere}
 use Rattle.condition.proofs.Views.{by-kind, no-value, head-view, span-view, operator-view, PredicateView, predicate-view, TimepointView, timepoint-view, aggregate-head-view, PartView, entity-view, context-view, scope-view, var-view, array-view}
 use Rattle.condition.proofs.Opens.{Stands, skipped, stood, ends-at, condition-stands, condition-room, raw-kind, comparison-here, exists-here, term-stands, term-index, raw-term, arith-here, aggregate-stands, aggregate-kind-here, sum-here, count-here, counts}

@@ -1,6 +1,6 @@
 -- The binders of a record in a table: for each name the place of its last binder, sorted by name, so that a name is found by halving.
 use mathlib.Core.Path.{_≡_}
-use mathlib.Core.Bool.{Bool, true, false}
+use mathlib.Core.Bool.{true, false}
 use mathlib.Core.List.{List, _∷_, _++_}
 use mathlib.Core.Option.{none, some}
 use Prim.Native.Nat.{ℕ, _+_, _≤_, _<_}
@@ -8,16 +8,9 @@ use lib.ListN.{length, getD, take, drop}
 use Rattle.names.specs.Names.{same, below}
 use Rattle.names.specs.Read.{wordAt}
 use Rattle.condition.specs.declared.Spot.{Spot}
-use Rattle.condition.specs.declared.Names.{Names}
-use Rattle.condition.specs.Condition.{Binder, Slot, named, paramRef, binderRef}
-use Rattle.condition.specs.Walk.{lastNamed}
+use Rattle.condition.specs.Condition.{Binder, named}
+use Rattle.condition.specs.Walk.{namedOnes, lastNamed}
 use Rattle.condition.specs.Places.{isBinder, binderIn}
-
--- a slot with a name
-abbrev pub hasName : Slot → Bool
-hasName (named name) = true
-hasName paramRef = false
-hasName binderRef = false
 
 -- the name of the i-th entry: an entry is the place of a named binder, whose name stands behind the slot's byte
 unfoldable pub nameAt : List ℕ → List ℕ → ℕ → List ℕ
@@ -33,11 +26,11 @@ pub record Entry (s : List ℕ) (bs : List Binder) (p : ℕ) : Type 0 where
   pub slot : (binderIn s p) .slot ≡ named (wordAt s (p + 1))
   pub last : lastNamed (wordAt s (p + 1)) bs ≡ some ((binderIn s p) .annotation)
 
--- the table is the environment of the binders bs; where it is whole, a name that it does not have is declared by none of them
-pub record Environment (s : List ℕ) (bs : List Binder) (whole : Bool) (table : List ℕ) : Type 0 where
+-- the table is the environment of the binders bs: a name that it does not have is declared by none of them
+pub record Environment (s : List ℕ) (bs : List Binder) (table : List ℕ) : Type 0 where
   pub entries : (i : ℕ) → i < length table → Entry s bs (getD table i 0)
   pub sorted : Sorted s table
-  pub complete : whole ≡ true → (name : List ℕ) → ((i : ℕ) → i < length table → same (nameAt s table i) name ≡ false) → lastNamed name bs ≡ none
+  pub complete : (name : List ℕ) → ((i : ℕ) → i < length table → same (nameAt s table i) name ≡ false) → lastNamed name bs ≡ none
 
 -- where a name stands in a sorted table, or where it belongs: those before it are below it
 pub record SpotOf (s table name : List ℕ) (r : Spot) : Type 0 where
@@ -55,14 +48,15 @@ pub record Inserted (old : List ℕ) (n at p : ℕ) (table : List ℕ) : Type 0 
   pub entries : take (n + 1) table ≡ insertAt at p (take n old)
   pub size : length table ≡ length old
 
--- the entries so far are in the table, and sorted; a place fits an entry
-pub record Held (s table : List ℕ) (names : Names) : Type 0 where
+-- the first n entries are sorted, a place fits an entry, and there is room for so many binders more
+pub record MayDeclare (s : List ℕ) (new : List Binder) (table : List ℕ) (n : ℕ) : Type 0 where
   pub small : length s ≤ 65536
-  pub within : names .count ≤ length table
-  pub sorted : Sorted s (take (names .count) table)
+  pub sorted : Sorted s (take n table)
+  pub room : n + length (namedOnes new) ≤ length table
 
 -- the table with these binders declared besides: what was the environment of some binders is that of those and these
-pub record Extended (s : List ℕ) (new : List Binder) (old : List ℕ) (before : Names) (table : List ℕ) (after : Names) : Type 0 where
-  pub held : Held s table after
+pub record Declared (s : List ℕ) (new : List Binder) (old : List ℕ) (n : ℕ) (table : List ℕ) (m : ℕ) : Type 0 where
+  pub sorted : Sorted s (take m table)
+  pub count : m ≤ n + length (namedOnes new)
   pub size : length table ≡ length old
-  pub on : (bs : List Binder) → Environment s bs (before .whole) (take (before .count) old) → Environment s (bs ++ new) (after .whole) (take (after .count) table)
+  pub on : (bs : List Binder) → Environment s bs (take n old) → Environment s (bs ++ new) (take m table)

@@ -1,6 +1,7 @@
 pub mod Condition
 pub mod Walk
 pub mod Places
+pub mod Sizes
 pub mod Kinds
 pub mod Open
 pub mod Index

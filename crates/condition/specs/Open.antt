@@ -1,6 +1,6 @@
 -- What is known at a position of an accepted record once the code has looked there.
 use mathlib.Core.Path.{_≡_}
-use mathlib.Core.Bool.{Bool, true, false}
+use mathlib.Core.Bool.{true}
 use mathlib.Core.List.{List}
 use Prim.Native.Nat.{ℕ, _+_, _≤_, _<_}
 use lib.ListN.{length}
@@ -8,8 +8,8 @@ use Rattle.names.specs.Fields.{Got, levels}
 use Rattle.names.specs.Read.{ending}
 use Rattle.names.specs.declared.Read.{Read}
 use Rattle.names.specs.declared.Read.the-variants.{Next, Refused}
-use Rattle.condition.specs.Condition.{Term, aggregate, conditionAt}
-use Rattle.condition.specs.Places.{isCondition, conditionIn, isTerm, termIn, aggregateAt, isAggregate, aggregateIn}
+use Rattle.condition.specs.Condition.{aggregate, conditionAt}
+use Rattle.condition.specs.Places.{isCondition, conditionIn, termIn, aggregateAt, isAggregate, aggregateIn}
 use Rattle.condition.specs.Kinds.{kindOf, termKindOf, aggregateKindOf}
 use Rattle.condition.specs.Walk.{reached, reachedBody}
 

@@ -3,11 +3,11 @@ use mathlib.Core.Path.{_≡_}
 use mathlib.Core.Bool.{Bool, true, false}
 use mathlib.Core.List.{List, [], _∷_, _++_}
 use mathlib.Core.Option.{Option, none, some}
-use Prim.Native.Nat.{ℕ, _+_, _-_, _≤_, _<_}
+use Prim.Native.Nat.{ℕ, _+_, _-_, _<_}
 use lib.ListN.{getD, take, drop}
 use Rattle.names.specs.Lists.{gather}
 use Rattle.names.specs.Fields.{Reader, levels, number, stringOf, each, counted}
-use Rattle.names.specs.Names.{plain, pathName, identifier}
+use Rattle.names.specs.Names.{pathName, identifier}
 use Rattle.names.specs.Read.{accepted, valueOr, wordAt, Listed, isRow, rowIn}
 use Rattle.condition.specs.declared.Ends.{Ends}
 use Rattle.condition.specs.declared.ComparisonAt.{ComparisonAt}
@@ -21,9 +21,9 @@ use Rattle.condition.specs.declared.Bound.{Bound}
 use Rattle.condition.specs.declared.Bound.the-variants.{Segments, Timepoint, Nothing}
 use Rattle.condition.specs.declared.NextAggregate.{NextAggregate}
 use Rattle.condition.specs.declared.NextAggregate.the-variants.{At, Done}
-use Rattle.condition.specs.Condition.{Span, Slot, named, paramRef, binderRef, Annotation, timepoint, path, Binder, Operator, Condition, Arguments, Term, Terms, Aggregate, termAt, predicate, comparison, tp, argument, array, arith, cons, sum, binder}
+use Rattle.condition.specs.Condition.{Span, Slot, named, paramRef, binderRef, Annotation, timepoint, path, Binder, Operator, Condition, Term, Aggregate, termAt, predicate, comparison, tp, argument, array, arith, cons, sum, binder}
 use Rattle.condition.specs.Walk.{operandAggregates, declaredBy, declares}
-use Rattle.condition.specs.Places.{isCondition, conditionIn, isTerm, termIn, isAggregate, aggregateIn, isArguments, argumentsIn, isElements, elementsIn, isPath, pathIn, isSlot, slotIn, isAnnotation, annotationIn, isBinder, binderIn}
+use Rattle.condition.specs.Places.{conditionIn, isTerm, termIn, isAggregate, aggregateIn, isArguments, argumentsIn, isElements, elementsIn, isPath, pathIn, isSlot, slotIn, isBinder, binderIn}
 use Rattle.condition.specs.Kinds.{spanOf, ownSpanOf, aggregateSpanOf, operatorNumber}
 
 -- the two numbers of a span that starts there
@@ -139,17 +139,6 @@ BoundStands s Nothing = Unit {0}
 pub record Says (s : List ℕ) (o : Option Annotation) (r : Bound) : Type 0 where
   pub stands : BoundStands s r
   pub value : boundIn s r ≡ o
-
--- the second, unless it is nothing
-abbrev pub laterOf : Bound → Bound → Bound
-laterOf a (Segments p) = Segments p
-laterOf a Timepoint = Timepoint
-laterOf a Nothing = a
-
-abbrev pub isBound : Bound → Bool
-isBound (Segments p) = true
-isBound Timepoint = true
-isBound Nothing = false
 
 -- strings of whatever class, behind their count
 unfoldable pub stringsAt : Reader (List (List ℕ))

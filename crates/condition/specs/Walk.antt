@@ -1,9 +1,9 @@
 -- What the walk of a condition reaches, and the binders that it passes, in its order.
 use Prim.Native.Nat.{ℕ}
-use mathlib.Core.Bool.{cond}
+use mathlib.Core.Bool.{Bool, true, false, cond}
 use mathlib.Core.List.{List, [], _∷_, _++_}
 use mathlib.Core.Option.{Option, none, some}
-use Rattle.names.specs.Lists.{maybe, gather}
+use Rattle.names.specs.Lists.{maybe, gather, select}
 use Rattle.names.specs.Names.{same}
 use Rattle.condition.specs.Condition.{Condition, Term, Aggregate, Binder, Slot, named, paramRef, binderRef, Annotation, one, two, predicate, comparison, exists, tp, opaque, entity, literal, contextField, scopeField, var, wildcard, array, aggregate, arith, sigil, sum, count, call}
 
@@ -26,18 +26,9 @@ operandAggregates (aggregate a) = a ∷ []
 operandAggregates (arith l r) = operandAggregates l ++ operandAggregates r
 operandAggregates sigil = []
 
--- the binders of an operand's aggregates (`for_each_operand_agg`): itself, or those of an Arith's left, then right
+-- the binders of an operand's aggregates
 unfoldable pub operandBinders : Term → List Binder
-operandBinders (entity n) = []
-operandBinders (literal l) = []
-operandBinders (contextField p) = []
-operandBinders (scopeField p) = []
-operandBinders (var v) = []
-operandBinders wildcard = []
-operandBinders (array ts) = []
-operandBinders (aggregate a) = declaredBy a
-operandBinders (arith l r) = operandBinders l ++ operandBinders r
-operandBinders sigil = []
+operandBinders t = gather declaredBy (operandAggregates t)
 
 -- the reached conditions of document 01, in the order of the Rust's `walk` and `descend`
 unfoldable mutual
@@ -80,6 +71,16 @@ declares (opaque span) = []
 -- all binders, in the order of the walk
 unfoldable pub binders : Condition → List Binder
 binders c = gather declares (reached c)
+
+-- a slot with a name
+abbrev pub hasName : Slot → Bool
+hasName (named name) = true
+hasName paramRef = false
+hasName binderRef = false
+
+-- the binders that have a name
+unfoldable pub namedOnes : List Binder → List Binder
+namedOnes bs = select (λ b. hasName (b .slot)) bs
 
 -- what a binder says of a name
 unfoldable pub namedHere : List ℕ → Annotation → Slot → Option Annotation

@@ -7,9 +7,9 @@
 // |---|---|
 // | read | `read_condition(s)`: `ending (whole conditionRecord s)`, for all bytes |
 // | index | `index_record(s, table)`: the places of the reached conditions in walk order, `Index s (take r table)` |
-// | places | `reached_at(s, places, i)`: `Reached`; `last_binder(s, places, name)`: `Says` of `lastNamed name (binders (recordIn s))`; `next_aggregate(s, count, first)`: `NextIs` of `aggregatesIn s count first` |
+// | places | `reached_at(s, places, i)`: `Reached`; `next_aggregate(s, count, first)`: `NextIs` of `aggregatesIn s count first` |
 // | parts | kinds, spans and parts of conditions, terms, aggregates, slots, paths and annotations |
-// | flat | `environment(s, places, table)`: the last binder of each name, sorted by name, `Environment s (binders (recordIn s)) ..`; `bound_in(s, table, whole, places, name)`: as `last_binder`, by halving |
+// | flat | `environment(s, places, table)`: the last binder of each name, sorted by name, `Environment s (binders (recordIn s)) (take r table)`; `bound_in(s, table, name)`: `Says` of `lastNamed name (binders (recordIn s))`, by halving |
 // | sorted | a table of places that is sorted by name: `spot`, `replace`, `insert` |
 mod flat;
 mod index;
@@ -48,7 +48,6 @@ pub use parts::summand_at;
 pub use parts::term_kind_at;
 pub use parts::timepoint_at;
 pub use parts::var_at;
-pub use places::last_binder;
 pub use places::next_aggregate;
 pub use places::operands_at;
 pub use places::reached_at;
@@ -125,10 +124,4 @@ pub enum NextAggregate {
 pub struct Spot {
     pub at: usize,
     pub found: bool,
-}
-
-// A table of the last binders by name: how many entries it has, and whether it has all names.
-pub struct Names {
-    pub count: usize,
-    pub whole: bool,
 }

@@ -36,7 +36,7 @@ use names::Read;
 ghost use mathlib.Core.Path.{_≡_};
 ghost use mathlib.Core.Bool.{true, false};
 ghost use Prim.Native.Nat.{_+_, _*_, _<_, _≤_};
-ghost use lib.ListN.{length, getD, take, drop};
+ghost use lib.ListN.{length, take, drop};
 ghost use Rattle.names.specs.Fields.{each, counted, stringOf, number, levels};
 ghost use Rattle.names.specs.Names.{plain, pathName, identifier, lastOf};
 ghost use Rattle.names.specs.Paths.{pathOf};

@@ -2,7 +2,7 @@
 use names::Class;
 use names::Read;
 ghost use mathlib.Core.Path.{_≡_};
-ghost use mathlib.Core.Bool.{Bool, true, false};
+ghost use mathlib.Core.Bool.{true, false};
 ghost use Rattle.names.specs.Read.{ending};
 ghost use Rattle.names.specs.Fields.{each, counted, whole};
 ghost use Rattle.condition.specs.Condition.{One, Two, span, slot, annotation, binder, operator, timepointOf, argumentList, elementList, unary, binary, predicateOf, comparisonOf, existsOf, sumOf, countOf, aggregateOf, arithOf, conditionAt, termAt, conditionRecord};

@@ -2,7 +2,7 @@
 use mathlib.Core.Path.{_≡_, refl, sym, ap, _∙_}
 use mathlib.Core.Bool.{true}
 use mathlib.Core.List.{List}
-use mathlib.Core.Option.{Option, none, some}
+use mathlib.Core.Option.{none, some}
 use Prim.Native.Nat.{ℕ}
 use borrow.Author.Needs.{needs}
 use lib.Seq.{length-take-le}
@@ -21,10 +21,9 @@ use Rattle.targets.specs.PathRecord.{targetAt}
 use Rattle.targets.specs.Places.{targetsIn, isTarget, targetIn, FindsTarget}
 use Rattle.condition.specs.Condition.{Condition, one, two, predicate, comparison, exists, tp, opaque, conditionRecord}
 use Rattle.condition.specs.Kinds.{kindOf, spanOf}
-use Rattle.condition.specs.Places.{isRecord, recordIn, isCondition, conditionIn, isTerm, termIn}
+use Rattle.condition.specs.Places.{recordIn, isCondition, conditionIn, isTerm, termIn}
 use Rattle.condition.specs.Open.{Opened}
 use Rattle.condition.specs.Parts.{ComparisonHere}
-use Rattle.condition.specs.Index.{Index}
 use Rattle.condition.specs.Walk.{binders}
 use Rattle.condition.specs.Environment.{Environment}
 use Rattle.condition.specs.declared.ComparisonAt.{ComparisonAt}
@@ -56,7 +55,7 @@ no-operand which (exists span b c) h = refl
 no-operand which (tp span s) h = refl
 no-operand which (opaque span) h = refl
 
-module _ (s c n places env : List ℕ) (f : Facts) (known : Known s c places env f) where
+module _ (s c n env : List ℕ) (f : Facts) (known : Known s c env f) where
   pub root-stands : isCondition c 5 ≡ true
   root-stands = record-starts c (known .condition)
 
@@ -97,8 +96,8 @@ pub ruleset comparing = (needs, root-stands, no-comparison, a-comparison, operan
 -- ---- the facts of a target
 
 module _ (s c n : List ℕ) (read : Records s c n) (found : Found) (stands : foundStands (isAction s) found ≡ true) (common : Common) (f : Facts) (k : FactsOf n found common f) where
-  pub facts-known : (places env : List ℕ) → Index c places → Environment c (binders (recordIn c)) (common .complete) env → ActionsOf s (common .actions) → Known s c places env f
-  facts-known places env x e g = record { schema = read .schema; condition = read .condition; index = x; named = rw (k .shared) e; action = rw (k .action) stands; actions = rw (k .shared) g }
+  pub facts-known : (env : List ℕ) → Environment c (binders (recordIn c)) env → ActionsOf s (common .actions) → Known s c env f
+  facts-known env e g = record { schema = read .schema; condition = read .condition; named = e; action = rw (k .action) stands; actions = rw (k .shared) g }
 
   pub facts-answered : (which : Operand) (b : List ℕ) (a : Answer) (t : List ℕ) → outcomeOf a t ≡ answered which (factsIn s c n f) b
       → outcomeOf a t ≡ answered which (factsOf (schemaIn s) (recordIn c) (targetsIn n .scope) (foundIn (actionIn s) found)) b

@@ -39,19 +39,18 @@ fn under_facts<'a>(
     schema: &'a [u8],
     condition: &'a [u8],
     targets: &[u8],
-    places: &[u16],
     env: &[u16],
     facts: Facts,
     which: Operand,
     out: &mut [u8],
 ) -> Answer
-    requires { ⌜ Known (now schema) (now condition) (now places) (now env) facts ⌝ }
+    requires { ⌜ Known (now schema) (now condition) (now env) facts ⌝ }
     ensures { λ r. ⌜ outcomeOf r (now (out .exit)) ≡ answered which (factsIn (now (schema .entry)) (now (condition .entry)) (now (targets .entry)) facts) (now (out .entry)) ⌝ }
 {
     if condition::kind_at(condition, ROOT) == 8 {
         let parts = condition::comparison_at(condition, ROOT);
         let at = place_of(parts, which);
-        let typed = terms::term_type(schema, condition, targets, places, env, facts, at);
+        let typed = terms::term_type(schema, condition, targets, env, facts, at);
         return show_type(schema, condition, typed, out);
     }
     Answer::NoComparison
@@ -62,7 +61,6 @@ fn with_common<'a>(
     schema: &'a [u8],
     condition: &'a [u8],
     targets: &[u8],
-    places: &[u16],
     env: &[u16],
     common: Common,
     own: Found,
@@ -70,14 +68,13 @@ fn with_common<'a>(
     out: &mut [u8],
 ) -> Answer
     requires { ⌜ Records (now schema) (now condition) (now targets) ⌝ }
-    requires { ⌜ Index (now condition) (now places) ⌝ }
-    requires { ⌜ Environment (now condition) (binders (recordIn (now condition))) (common .complete) (now env) ⌝ }
+    requires { ⌜ Environment (now condition) (binders (recordIn (now condition))) (now env) ⌝ }
     requires { ⌜ ActionsOf (now schema) (common .actions) ⌝ }
     requires { ⌜ foundStands (isAction (now schema)) own ≡ true ⌝ }
     ensures { λ r. ⌜ outcomeOf r (now (out .exit)) ≡ answered which (factsOf (schemaIn (now (schema .entry))) (recordIn (now (condition .entry))) (targetsIn (now (targets .entry)) .scope) (foundIn (actionIn (now (schema .entry))) own)) (now (out .entry)) ⌝ }
 {
     let facts = terms::facts_of(targets, own, common);
-    under_facts(schema, condition, targets, places, env, facts, which, out)
+    under_facts(schema, condition, targets, env, facts, which, out)
 }
 
 // The operand over the reached nodes: the binders are put into a table by name.
@@ -95,18 +92,15 @@ fn over_places<'a>(
     requires { ⌜ foundStands (isAction (now schema)) own ≡ true ⌝ }
     ensures { λ r. ⌜ outcomeOf r (now (out .exit)) ≡ answered which (factsOf (schemaIn (now (schema .entry))) (recordIn (now (condition .entry))) (targetsIn (now (targets .entry)) .scope) (foundIn (actionIn (now (schema .entry))) own)) (now (out .entry)) ⌝ }
 {
-    let mut table = [0u16; 6560];
-    let known = condition::environment(condition, places, &mut table);
-    let k = known.count;
+    let mut table = [0u16; 10921];
+    let k = condition::environment(condition, places, &mut table);
     let common = Common {
-        complete: known.whole,
         actions: schema::actions(schema),
     };
     with_common(
         schema,
         condition,
         targets,
-        places,
         &table[..k],
         common,
         own,

@@ -8,7 +8,7 @@ use native.Mathlib.Numerals.{sub-one}
 use mir.Syntax.{w64}
 use mir.Val.{Fits}
 use borrow.Author.Needs.{needs, fits-under}
-use lib.ListN.{length, getD, take, drop, length-append, length-drop}
+use lib.ListN.{length, getD, drop, length-append, length-drop}
 use lib.Seq.{length-take-le}
 use Rattle.names.specs.declared.Read.{Read}
 use Rattle.names.specs.declared.Read.the-variants.{Next, Refused}
@@ -30,8 +30,7 @@ use Rattle.reports.specs.Decode.{header}
 use Rattle.reports.specs.Messages.{message, words, textSize}
 use Rattle.reports.specs.Messages.Laws.{Left, left-all, word-fits, rest-left, rest-done, last-fits, last-done, message-length, message-short}
 use Rattle.reports.specs.Pairs.{sumOf}
-use Rattle.reports.specs.Reports.{Breach}
-use Rattle.reports.specs.Sink.{Sink, sink, roomFor, append, appendAll}
+use Rattle.reports.specs.Sink.{sink, roomFor}
 use Rattle.reports.specs.Sink.Laws.{header-room, message-room, count-room, append-stored, append-stopped, append-one}
 use Rattle.sums.specs.Joined.{behind, JoinedSize}
 use Rattle.sums.specs.Measured.{Measured}

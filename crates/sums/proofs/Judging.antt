@@ -1,8 +1,7 @@
 -- The report of one Sum: the cases of the code, as it learns them. Assumes nothing.
-use mathlib.Core.Path.{_≡_, refl, sym, ap, _∙_}
-use mathlib.Core.Bool.{Bool, true, false, cond, _||_}
+use mathlib.Core.Path.{_≡_, sym, ap, _∙_}
+use mathlib.Core.Bool.{Bool, true, false, _||_}
 use mathlib.Core.List.{List, [], _∷_}
-use mathlib.Core.Option.{Option, none, some}
 use Prim.Native.Nat.{ℕ, _+_, _≤_, _<_}
 use native.Mathlib.Omega.{arith}
 use borrow.Author.Needs.{needs}
@@ -19,8 +18,8 @@ use Rattle.condition.specs.declared.SlotAt.{SlotAt}
 use Rattle.condition.specs.declared.SlotAt.the-variants.{Named, ParamRef, BinderRef}
 use Rattle.condition.specs.declared.Ends.{Ends}
 use Rattle.condition.specs.Condition.{Span, Slot, sum, path}
-use Rattle.condition.specs.Kinds.{aggregateKindOf, aggregateSpanOf}
-use Rattle.condition.specs.Places.{recordIn, isAggregate, aggregateIn, isSlot, slotIn}
+use Rattle.condition.specs.Kinds.{aggregateSpanOf}
+use Rattle.condition.specs.Places.{recordIn, aggregateIn, slotIn}
 use Rattle.condition.specs.Parts.{segmentsIn, SegmentsHere, boundIn, BoundStands, Says, slotOf, SummandHere, Spans}
 use Rattle.condition.specs.Walk.{binders, lastNamed}
 use Rattle.reports.specs.declared.Message.the-variants.{CannotSum, CannotSumTimepoint, CannotSumDecimal}

@@ -1,5 +1,5 @@
 -- A whole run of Sums. Assumes nothing.
-use mathlib.Core.Path.{_≡_, refl, sym, ap, _∙_}
+use mathlib.Core.Path.{_≡_, refl, ap, _∙_}
 use mathlib.Core.Bool.{true}
 use mathlib.Core.List.{List}
 use Prim.Native.Nat.{ℕ}
@@ -15,7 +15,7 @@ use lib.Seq.{length-take-le}
 use Rattle.condition.specs.Places.{nowhere, isRecord, recordIn}
 use Rattle.condition.proofs.ByPlace.{record-small}
 use Rattle.reports.specs.declared.Answer.{Answer}
-use Rattle.reports.specs.Reports.{Outcome, refusal, reported}
+use Rattle.reports.specs.Reports.{refusal, reported}
 use Rattle.reports.specs.Sink.Laws.{sound-start}
 use Rattle.reports.specs.Answers.{outcomeOf, Refuses, appended}
 use Rattle.sums.specs.Sums.{breaches, sums}

@@ -1,26 +1,25 @@
 -- The Sums of terms, arguments and reached conditions, one after the other. Assumes nothing.
 use mathlib.Core.Path.{_≡_, refl, sym, ap, _∙_}
 use mathlib.Core.Bool.{Bool, true, false, cond, _&&_}
-use mathlib.Core.List.{List, [], _∷_, _++_}
-use Prim.Native.Nat.{ℕ, zero, suc, _+_, _-_, _≤_, _<_}
+use mathlib.Core.List.{List, []}
+use Prim.Native.Nat.{ℕ, zero, suc, _+_, _-_, _≤_}
 use native.Mathlib.Omega.{arith}
 use borrow.Author.Needs.{needs}
 use lib.Dec.{leb, eqb}
 use borrow.Author.Tests.{eqb-true, eqb-false}
 use lib.ListN.{length, drop, drop-of-length-le}
-use Rattle.names.specs.Fields.{Got, got, bad, Reader, next, u8, refuse, choose, levels, stringOf}
+use Rattle.names.specs.Fields.{Got, got, Reader, next, u8, refuse, choose, levels, stringOf}
 use Rattle.names.specs.Names.{plain, pathName}
 use Rattle.names.specs.Paths.{pathOf}
-use Rattle.names.specs.Lists.{gather}
 use Rattle.names.specs.Laws.Readers.{split, got-value, Each, keysUpTo}
 use Rattle.condition.specs.declared.Operands.{Operands}
 use Rattle.condition.specs.declared.ComparisonAt.{ComparisonAt}
 use Rattle.condition.specs.declared.PredicateAt.{PredicateAt}
 use Rattle.condition.specs.declared.ArgumentAt.{ArgumentAt}
-use Rattle.condition.specs.Condition.{Condition, Term, Terms, Aggregate, Arguments, one, two, predicate, comparison, exists, tp, opaque, noArgument, entity, literal, contextField, scopeField, var, wildcard, array, aggregate, sigil, nil, cons, sum, count, call, integer, decimal, string, bool, elements, elementList, arithOf, termKinds, tooDeep, conditionAt, termAt}
+use Rattle.condition.specs.Condition.{Condition, Term, Terms, Aggregate, Arguments, one, two, predicate, comparison, exists, tp, opaque, entity, literal, contextField, scopeField, var, wildcard, array, aggregate, sigil, sum, count, call, integer, decimal, string, bool, elements, elementList, arithOf, termKinds, tooDeep, conditionAt, termAt}
 use Rattle.condition.specs.Condition as tree
 use Rattle.condition.specs.Kinds.{kindOf, termKindOf, aggregateKindOf}
-use Rattle.condition.specs.Places.{recordIn, isCondition, conditionIn, isTerm, termIn, isAggregate, aggregateIn, isArguments, argumentsIn}
+use Rattle.condition.specs.Places.{recordIn, conditionIn, isTerm, termIn, aggregateIn, isArguments, argumentsIn}
 use Rattle.condition.specs.Open.{Opened, TermOpened, AggregateOpened, AggregateHere}
 use Rattle.condition.specs.Parts.{ArithHere, ComparisonHere, PredicateHere, ArgumentHere}
 use Rattle.condition.specs.Index.{nodesOf, Index, Reached}

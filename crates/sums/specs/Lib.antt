@@ -2,4 +2,3 @@ pub mod Sums
 pub mod Joined
 pub mod Measured
 pub mod Named
-pub mod Tables

@@ -9,22 +9,17 @@ ghost use Prim.Native.Nat.{_≤_};
 ghost use lib.ListN.{length, take};
 ghost use Rattle.condition.specs.Places.{isRecord, recordIn};
 ghost use Rattle.condition.specs.Index.{Index};
+ghost use Rattle.condition.specs.Walk.{binders};
+ghost use Rattle.condition.specs.Environment.{Environment};
 ghost use Rattle.reports.specs.Reports.{reported};
 ghost use Rattle.reports.specs.Sink.{sink, Sound, start, appendAll};
 ghost use Rattle.reports.specs.Answers.{outcomeOf};
 ghost use Rattle.sums.specs.Sums.{breaches, sums};
-ghost use Rattle.sums.specs.Tables.{Tables};
 
 // The reached conditions, in the order of the walk.
-fn in_places(
-    s: &[u8],
-    places: &[u16],
-    env: &[u16],
-    complete: bool,
-    buf: &mut [u8],
-    state: State,
-) -> State
-    requires { ⌜ Tables (now s) (now places) (now env) complete ⌝ }
+fn in_places(s: &[u8], places: &[u16], env: &[u16], buf: &mut [u8], state: State) -> State
+    requires { ⌜ Index (now s) (now places) ⌝ }
+    requires { ⌜ Environment (now s) (binders (recordIn (now s))) (now env) ⌝ }
     requires { ⌜ length (now s) ≤ 32768 ⌝ }
     requires { ⌜ Sound (sink (now buf) state) ⌝ }
     ensures { λ r. ⌜ sink (now (buf .exit)) r ≡ appendAll (sink (now (buf .entry)) state) (breaches (recordIn (now (s .entry)))) ⌝ }
@@ -33,7 +28,7 @@ fn in_places(
     let mut i = 0;
     while i < places.len() {
         let at = condition::reached_at(s, places, i);
-        now = in_condition(s, places, env, complete, at, buf, now);
+        now = in_condition(s, env, at, buf, now);
         i += 1;
     }
     now
@@ -42,25 +37,24 @@ fn in_places(
 // The conditions at these places, from no report on: the binders are put into a table by name once.
 fn over_places(s: &[u8], places: &[u16], buf: &mut [u8]) -> State
     requires { ⌜ Index (now s) (now places) ⌝ }
-    requires { ⌜ length (now s) ≤ 32768 ⌝ }
+    requires { ⌜ isRecord (now s) ≡ true ⌝ }
     ensures { λ r. ⌜ sink (now (buf .exit)) r ≡ appendAll (start (now (buf .entry))) (breaches (recordIn (now (s .entry)))) ⌝ }
 {
-    let mut env = [0u16; 6560];
-    let known = condition::environment(s, places, &mut env);
-    let k = known.count;
+    let mut env = [0u16; 10921];
+    let k = condition::environment(s, places, &mut env);
     let none = State {
         used: 0,
         count: 0,
         full: false,
     };
-    in_places(s, places, &env[..k], known.whole, buf, none)
+    in_places(s, places, &env[..k], buf, none)
 }
 
 // The conditions whose places are the first n entries of a table.
 fn in_table(s: &[u8], table: &[u16], n: usize, buf: &mut [u8]) -> State
     requires { ⌜ n ≤ length (now table) ⌝ }
     requires { ⌜ Index (now s) (take n (now table)) ⌝ }
-    requires { ⌜ length (now s) ≤ 32768 ⌝ }
+    requires { ⌜ isRecord (now s) ≡ true ⌝ }
     ensures { λ r. ⌜ sink (now (buf .exit)) r ≡ appendAll (start (now (buf .entry))) (breaches (recordIn (now (s .entry)))) ⌝ }
 {
     over_places(s, &table[..n], buf)

@@ -17,10 +17,11 @@ ghost use Rattle.condition.specs.Condition.{path};
 ghost use Rattle.condition.specs.Kinds.{aggregateKindOf};
 ghost use Rattle.condition.specs.Places.{recordIn, isAggregate, aggregateIn};
 ghost use Rattle.condition.specs.Parts.{segmentsIn, SegmentsHere, boundIn, BoundStands};
+ghost use Rattle.condition.specs.Walk.{binders};
+ghost use Rattle.condition.specs.Environment.{Environment};
 ghost use Rattle.reports.specs.Sink.{sink, Sound, appendAll};
 ghost use Rattle.sums.specs.Named.{Name};
 ghost use Rattle.sums.specs.Sums.{summandBreach, aggregateBreaches};
-ghost use Rattle.sums.specs.Tables.{Tables};
 
 fn is_decimal(word: &[u8]) -> bool
     ensures { λ r. ⌜ r ≡ (same (now (word .entry)) (text "decimal") || same (now (word .entry)) (text "Decimal")) ⌝ }
@@ -93,18 +94,10 @@ fn named<'a>(s: &'a [u8], at: usize) -> &'a [u8]
 }
 
 // The Sum whose own kind byte stands at `at`; a summand that is a macro's parameter or binder is passed.
-pub fn in_sum(
-    s: &[u8],
-    places: &[u16],
-    env: &[u16],
-    complete: bool,
-    at: usize,
-    buf: &mut [u8],
-    state: State,
-) -> State
+pub fn in_sum(s: &[u8], env: &[u16], at: usize, buf: &mut [u8], state: State) -> State
     requires { ⌜ isAggregate (now s) at ≡ true ⌝ }
     requires { ⌜ aggregateKindOf (aggregateIn (now s) at) ≡ 1 ⌝ }
-    requires { ⌜ Tables (now s) (now places) (now env) complete ⌝ }
+    requires { ⌜ Environment (now s) (binders (recordIn (now s))) (now env) ⌝ }
     requires { ⌜ length (now s) ≤ 32768 ⌝ }
     requires { ⌜ Sound (sink (now buf) state) ⌝ }
     ensures { λ r. ⌜ sink (now (buf .exit)) r ≡ appendAll (sink (now (buf .entry)) state) (aggregateBreaches (recordIn (now (s .entry))) (aggregateIn (now (s .entry)) at)) ⌝ }
@@ -113,7 +106,7 @@ pub fn in_sum(
     match slot {
         SlotAt::Named(p) => {
             let name = named(s, p);
-            let bound = condition::bound_in(s, env, complete, places, name);
+            let bound = condition::bound_in(s, env, name);
             let span = condition::aggregate_span_at(s, at);
             return by_bound(s, bound, name, span.start, span.end, buf, state);
         }

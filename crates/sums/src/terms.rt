@@ -7,22 +7,15 @@ ghost use Prim.Native.Nat.{_≤_};
 ghost use lib.ListN.{length};
 ghost use Rattle.condition.specs.Kinds.{kindOf};
 ghost use Rattle.condition.specs.Places.{recordIn, isCondition, conditionIn, isTerm, termIn, isArguments, argumentsIn};
+ghost use Rattle.condition.specs.Walk.{binders};
+ghost use Rattle.condition.specs.Environment.{Environment};
 ghost use Rattle.reports.specs.Sink.{sink, Sound, appendAll};
 ghost use Rattle.sums.specs.Sums.{termBreaches, argumentsBreaches, conditionBreaches};
-ghost use Rattle.sums.specs.Tables.{Tables};
 
 // A term is a Sum, or an arithmetic: its left, then its right. (An array holds none, and the bodies of aggregates are conditions of their own.)
-fn in_term(
-    s: &[u8],
-    places: &[u16],
-    env: &[u16],
-    complete: bool,
-    at: usize,
-    buf: &mut [u8],
-    state: State,
-) -> State
+fn in_term(s: &[u8], env: &[u16], at: usize, buf: &mut [u8], state: State) -> State
     requires { ⌜ isTerm (now s) at ≡ true ⌝ }
-    requires { ⌜ Tables (now s) (now places) (now env) complete ⌝ }
+    requires { ⌜ Environment (now s) (binders (recordIn (now s))) (now env) ⌝ }
     requires { ⌜ length (now s) ≤ 32768 ⌝ }
     requires { ⌜ Sound (sink (now buf) state) ⌝ }
     ensures { λ r. ⌜ sink (now (buf .exit)) r ≡ appendAll (sink (now (buf .entry)) state) (termBreaches (recordIn (now (s .entry))) (termIn (now (s .entry)) at)) ⌝ }
@@ -32,13 +25,13 @@ fn in_term(
         let p = condition::arith_at(s, at);
         let left = p.left;
         let right = p.right;
-        let first = in_term(s, places, env, complete, left, buf, state);
-        return in_term(s, places, env, complete, right, buf, first);
+        let first = in_term(s, env, left, buf, state);
+        return in_term(s, env, right, buf, first);
     }
     if kind == 11 {
         let aggregate = condition::aggregate_at(s, at);
         if condition::aggregate_kind_at(s, aggregate) == 1 {
-            return in_sum(s, places, env, complete, aggregate, buf, state);
+            return in_sum(s, env, aggregate, buf, state);
         }
     }
     state
@@ -47,16 +40,14 @@ fn in_term(
 // So many arguments of a predicate, one after the other.
 fn in_arguments(
     s: &[u8],
-    places: &[u16],
     env: &[u16],
-    complete: bool,
     count: usize,
     first: usize,
     buf: &mut [u8],
     state: State,
 ) -> State
     requires { ⌜ isArguments (now s) count first ≡ true ⌝ }
-    requires { ⌜ Tables (now s) (now places) (now env) complete ⌝ }
+    requires { ⌜ Environment (now s) (binders (recordIn (now s))) (now env) ⌝ }
     requires { ⌜ length (now s) ≤ 32768 ⌝ }
     requires { ⌜ Sound (sink (now buf) state) ⌝ }
     ensures { λ r. ⌜ sink (now (buf .exit)) r ≡ appendAll (sink (now (buf .entry)) state) (argumentsBreaches (recordIn (now (s .entry))) (argumentsIn (now (s .entry)) count first)) ⌝ }
@@ -67,7 +58,7 @@ fn in_arguments(
     while 0 < rest {
         let p = condition::argument_at(s, rest, at);
         let term = p.term;
-        now = in_term(s, places, env, complete, term, buf, now);
+        now = in_term(s, env, term, buf, now);
         at = p.next;
         rest -= 1;
     }
@@ -75,18 +66,10 @@ fn in_arguments(
 }
 
 // The operands of a comparison.
-fn in_comparison(
-    s: &[u8],
-    places: &[u16],
-    env: &[u16],
-    complete: bool,
-    at: usize,
-    buf: &mut [u8],
-    state: State,
-) -> State
+fn in_comparison(s: &[u8], env: &[u16], at: usize, buf: &mut [u8], state: State) -> State
     requires { ⌜ isCondition (now s) at ≡ true ⌝ }
     requires { ⌜ kindOf (conditionIn (now s) at) ≡ 8 ⌝ }
-    requires { ⌜ Tables (now s) (now places) (now env) complete ⌝ }
+    requires { ⌜ Environment (now s) (binders (recordIn (now s))) (now env) ⌝ }
     requires { ⌜ length (now s) ≤ 32768 ⌝ }
     requires { ⌜ Sound (sink (now buf) state) ⌝ }
     ensures { λ r. ⌜ sink (now (buf .exit)) r ≡ appendAll (sink (now (buf .entry)) state) (conditionBreaches (recordIn (now (s .entry))) (conditionIn (now (s .entry)) at)) ⌝ }
@@ -94,35 +77,27 @@ fn in_comparison(
     let p = condition::comparison_at(s, at);
     let left = p.left;
     let right = p.right;
-    let first = in_term(s, places, env, complete, left, buf, state);
-    in_term(s, places, env, complete, right, buf, first)
+    let first = in_term(s, env, left, buf, state);
+    in_term(s, env, right, buf, first)
 }
 
 // One reached condition: a comparison's operands, a predicate's arguments.
-pub fn in_condition(
-    s: &[u8],
-    places: &[u16],
-    env: &[u16],
-    complete: bool,
-    at: usize,
-    buf: &mut [u8],
-    state: State,
-) -> State
+pub fn in_condition(s: &[u8], env: &[u16], at: usize, buf: &mut [u8], state: State) -> State
     requires { ⌜ isCondition (now s) at ≡ true ⌝ }
-    requires { ⌜ Tables (now s) (now places) (now env) complete ⌝ }
+    requires { ⌜ Environment (now s) (binders (recordIn (now s))) (now env) ⌝ }
     requires { ⌜ length (now s) ≤ 32768 ⌝ }
     requires { ⌜ Sound (sink (now buf) state) ⌝ }
     ensures { λ r. ⌜ sink (now (buf .exit)) r ≡ appendAll (sink (now (buf .entry)) state) (conditionBreaches (recordIn (now (s .entry))) (conditionIn (now (s .entry)) at)) ⌝ }
 {
     let kind = condition::kind_at(s, at);
     if kind == 8 {
-        return in_comparison(s, places, env, complete, at, buf, state);
+        return in_comparison(s, env, at, buf, state);
     }
     if kind == 7 {
         let p = condition::predicate_at(s, at);
         let count = p.count;
         let first = p.first;
-        return in_arguments(s, places, env, complete, count, first, buf, state);
+        return in_arguments(s, env, count, first, buf, state);
     }
     state
 }

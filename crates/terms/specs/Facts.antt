@@ -7,7 +7,6 @@ use Rattle.schema.specs.Places.{isSchema, schemaIn, isAction, actionIn, foundIn
 use Rattle.targets.specs.Targets.{Scope}
 use Rattle.targets.specs.Places.{narrowed, targetsIn}
 use Rattle.condition.specs.Places.{isRecord, recordIn}
-use Rattle.condition.specs.Index.{Index}
 use Rattle.condition.specs.Walk.{binders}
 use Rattle.condition.specs.Environment.{Environment}
 use Rattle.names.specs.declared.Found.{Found}
@@ -25,13 +24,12 @@ scopeIn n f = record { principal = narrowed n (f .principal); resource = narrowe
 abbrev pub factsIn : List ℕ → List ℕ → List ℕ → Facts → Terms.Facts
 factsIn s c n f = record { schema = schemaIn s; scope = scopeIn n f; action = foundIn (actionIn s) (f .action); whole = recordIn c }
 
--- what must hold of them: the records are accepted, the places are those of the reached conditions, the environment has the binders by name, the action
+-- what must hold of them: the records are accepted, the environment has the binders by name, the action
 -- stands in the schema, and the row is that of all its actions
-pub record Known (s c places env : List ℕ) (f : Facts) : Type 0 where
+pub record Known (s c env : List ℕ) (f : Facts) : Type 0 where
   pub schema : isSchema s ≡ true
   pub condition : isRecord c ≡ true
-  pub index : Index c places
-  pub named : Environment c (binders (recordIn c)) (f .common .complete) env
+  pub named : Environment c (binders (recordIn c)) env
   pub action : foundStands (isAction s) (f .action) ≡ true
   pub actions : ActionsOf s (f .common .actions)
 

@@ -16,7 +16,6 @@ ghost use Rattle.condition.specs.Condition.{path};
 ghost use Rattle.condition.specs.Places.{recordIn};
 ghost use Rattle.condition.specs.Walk.{binders};
 ghost use Rattle.condition.specs.Parts.{segmentsIn, SegmentsHere};
-ghost use Rattle.condition.specs.Index.{Index};
 ghost use Rattle.condition.specs.Environment.{Environment};
 ghost use Rattle.terms.specs.Terms.{fieldType, inputType};
 ghost use Rattle.terms.specs.Facts.{NameTyped};
@@ -143,20 +142,12 @@ fn segments_type(condition: &[u8], at: usize) -> Rich
 }
 
 // A name's type: by the last binder of that name in walk order, else by the input field.
-pub fn var_type(
-    schema: &[u8],
-    condition: &[u8],
-    places: &[u16],
-    env: &[u16],
-    facts: Facts,
-    name: &[u8],
-) -> Typed
-    requires { ⌜ Index (now condition) (now places) ⌝ }
-    requires { ⌜ Environment (now condition) (binders (recordIn (now condition))) (facts .common .complete) (now env) ⌝ }
+pub fn var_type(schema: &[u8], condition: &[u8], env: &[u16], facts: Facts, name: &[u8]) -> Typed
+    requires { ⌜ Environment (now condition) (binders (recordIn (now condition))) (now env) ⌝ }
     requires { ⌜ foundStands (isAction (now schema)) (facts .action) ≡ true ⌝ }
     ensures { λ r. ⌜ NameTyped (now (schema .entry)) (now (condition .entry)) facts (now (name .entry)) r ⌝ }
 {
-    let bound = condition::bound_in(condition, env, facts.common.complete, places, name);
+    let bound = condition::bound_in(condition, env, name);
     match bound {
         Bound::Segments(p) => Typed::As(segments_type(condition, p)),
         Bound::Timepoint => Typed::As(Rich {

@@ -14,9 +14,8 @@ use targets::Narrowed;
 pub use term::term_type;
 use types::Rich;
 
-// What is found once for all targets: whether the table of binders has all names, and where the schema's actions stand.
+// What is found once for all targets: where the schema's actions stand.
 pub struct Common {
-    pub complete: bool,
     pub actions: Row,
 }
 

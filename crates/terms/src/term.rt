@@ -77,12 +77,11 @@ pub fn term_type<'a>(
     schema: &'a [u8],
     condition: &'a [u8],
     targets: &[u8],
-    places: &[u16],
     env: &[u16],
     facts: Facts,
     at: usize,
 ) -> Typed
-    requires { ⌜ Known (now schema) (now condition) (now places) (now env) facts ⌝ }
+    requires { ⌜ Known (now schema) (now condition) (now env) facts ⌝ }
     requires { ⌜ isTerm (now condition) at ≡ true ⌝ }
     ensures { λ r. ⌜ TypeOf (now (schema .entry)) (now (condition .entry)) (termType (some (factsIn (now (schema .entry)) (now (condition .entry)) (now (targets .entry)) facts)) (termIn (now (condition .entry)) at)) r ⌝ }
 {
@@ -97,14 +96,7 @@ pub fn term_type<'a>(
     }
     if kind == 8 {
         let name = condition::var_at(condition, at);
-        return var_type(
-            schema,
-            condition,
-            places,
-            env,
-            facts,
-            names::word(condition, name),
-        );
+        return var_type(schema, condition, env, facts, names::word(condition, name));
     }
     plain_type(schema, condition, at)
 }

@@ -67,8 +67,8 @@ pub ruleset each-node = (needs, nodes-begin, nodes-turn, nodes-over)
 -- ---- under a target
 
 module _ (s c n places env : List ℕ) (found : Found) (common : Common) (f : Facts) (k : FactsOf n found common f) where
-  pub facts-known : Ready s c n places env common → foundStands (isAction s) found ≡ true → Known s c places env f
-  facts-known r h = record { schema = r .schema; condition = r .condition; index = r .index; named = rw (k .shared) (r .named); action = rw (k .action) h; actions = rw (k .shared) (r .actions) }
+  pub facts-known : Ready s c n places env common → foundStands (isAction s) found ≡ true → Known s c env f
+  facts-known r h = record { schema = r .schema; condition = r .condition; named = r .named; action = rw (k .action) h; actions = rw (k .shared) (r .actions) }
 
   pub under-facts : (now : Sink) {next : Sink} → next ≡ pushAll now (gather (nodeBreaches (factsIn s c n f)) (nodesOf c))
       → next ≡ pushAll now (gather (nodeBreaches (factsOf (schemaIn s) (recordIn c) (targetsIn n .scope) (foundIn (actionIn s) found))) (nodesOf c))
@@ -143,9 +143,9 @@ pub all-checked : (s : Schema) (c : Condition) (ts : Targets) (b : List ℕ) {t 
 unfolding checked
 all-checked s c ts b e a = pushed b (gather (breachesUnder s c (ts .scope)) (ts .list)) e a
 
-pub all-ready : (s c n places env : List ℕ) (all : Bool) (row : Row) → isSchema s ≡ true → isRecord c ≡ true → areTargets n ≡ true → Index c places → Environment c (binders (recordIn c)) all env → ActionsOf s row
-    → Ready s c n places env (record { complete = all; actions = row })
-all-ready s c n places env all row a b d x e g = record { schema = a; condition = b; targets = d; index = x; named = e; actions = g }
+pub all-ready : (s c n places env : List ℕ) (row : Row) → isSchema s ≡ true → isRecord c ≡ true → areTargets n ≡ true → Index c places → Environment c (binders (recordIn c)) env → ActionsOf s row
+    → Ready s c n places env (record { actions = row })
+all-ready s c n places env row a b d x e g = record { schema = a; condition = b; targets = d; index = x; named = e; actions = g }
 
 pub ruleset indexed = (needs, length-take-le, sound-start, all-ready, all-checked)
 

@@ -17,5 +17,5 @@ pub record Ready (s c n places env : List ℕ) (common : Common) : Type 0 where
   pub condition : isRecord c ≡ true
   pub targets : areTargets n ≡ true
   pub index : Index c places
-  pub named : Environment c (binders (recordIn c)) (common .complete) env
+  pub named : Environment c (binders (recordIn c)) env
   pub actions : ActionsOf s (common .actions)

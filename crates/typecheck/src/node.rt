@@ -33,14 +33,13 @@ fn one_leaf<'a>(
     schema: &'a [u8],
     condition: &'a [u8],
     targets: &[u8],
-    places: &[u16],
     env: &[u16],
     facts: Facts,
     at: usize,
     kind: u8,
 ) -> State
     requires { ⌜ Sound (sink (now buf) state) ⌝ }
-    requires { ⌜ Known (now schema) (now condition) (now places) (now env) facts ⌝ }
+    requires { ⌜ Known (now schema) (now condition) (now env) facts ⌝ }
     requires { ⌜ isTerm (now condition) at ≡ true ⌝ }
     requires { ⌜ TermOpened (now condition) at kind ⌝ }
     requires { ⌜ (kind ≡ 12 → ⊥) ⌝ }
@@ -55,7 +54,7 @@ fn one_leaf<'a>(
     if kind == 13 {
         return state;
     }
-    let typed = terms::term_type(schema, condition, targets, places, env, facts, at);
+    let typed = terms::term_type(schema, condition, targets, env, facts, at);
     not_long_here(buf, state, start, end, schema, condition, typed)
 }
 
@@ -68,13 +67,12 @@ fn leaf_breaches<'a>(
     schema: &'a [u8],
     condition: &'a [u8],
     targets: &[u8],
-    places: &[u16],
     env: &[u16],
     facts: Facts,
     at: usize,
 ) -> State
     requires { ⌜ Sound (sink (now buf) state) ⌝ }
-    requires { ⌜ Known (now schema) (now condition) (now places) (now env) facts ⌝ }
+    requires { ⌜ Known (now schema) (now condition) (now env) facts ⌝ }
     requires { ⌜ isTerm (now condition) at ≡ true ⌝ }
     ensures { λ after. ⌜ sink (now (buf .exit)) after ≡ pushAll (sink (now (buf .entry)) state) (leafBreaches (factsIn (now (schema .entry)) (now (condition .entry)) (now (targets .entry)) facts) (record { start = start; end = end }) (termIn (now (condition .entry)) at)) ⌝ }
 {
@@ -91,7 +89,6 @@ fn leaf_breaches<'a>(
             schema,
             condition,
             targets,
-            places,
             env,
             facts,
             left,
@@ -104,7 +101,6 @@ fn leaf_breaches<'a>(
             schema,
             condition,
             targets,
-            places,
             env,
             facts,
             right,
@@ -118,7 +114,6 @@ fn leaf_breaches<'a>(
         schema,
         condition,
         targets,
-        places,
         env,
         facts,
         at,
@@ -135,13 +130,12 @@ fn arithmetic_breaches<'a>(
     schema: &'a [u8],
     condition: &'a [u8],
     targets: &[u8],
-    places: &[u16],
     env: &[u16],
     facts: Facts,
     at: usize,
 ) -> State
     requires { ⌜ Sound (sink (now buf) state) ⌝ }
-    requires { ⌜ Known (now schema) (now condition) (now places) (now env) facts ⌝ }
+    requires { ⌜ Known (now schema) (now condition) (now env) facts ⌝ }
     requires { ⌜ isTerm (now condition) at ≡ true ⌝ }
     ensures { λ after. ⌜ sink (now (buf .exit)) after ≡ pushAll (sink (now (buf .entry)) state) (arithmeticBreaches (factsIn (now (schema .entry)) (now (condition .entry)) (now (targets .entry)) facts) (record { start = start; end = end }) (termIn (now (condition .entry)) at)) ⌝ }
 {
@@ -154,7 +148,6 @@ fn arithmetic_breaches<'a>(
             schema,
             condition,
             targets,
-            places,
             env,
             facts,
             at,
@@ -173,20 +166,19 @@ fn operand_breaches<'a>(
     schema: &'a [u8],
     condition: &'a [u8],
     targets: &[u8],
-    places: &[u16],
     env: &[u16],
     facts: Facts,
     left: usize,
     right: usize,
 ) -> State
     requires { ⌜ Sound (sink (now buf) state) ⌝ }
-    requires { ⌜ Known (now schema) (now condition) (now places) (now env) facts ⌝ }
+    requires { ⌜ Known (now schema) (now condition) (now env) facts ⌝ }
     requires { ⌜ isTerm (now condition) left ≡ true ⌝ }
     requires { ⌜ isTerm (now condition) right ≡ true ⌝ }
     ensures { λ after. ⌜ sink (now (buf .exit)) after ≡ pushAll (sink (now (buf .entry)) state) (both (termType (some (factsIn (now (schema .entry)) (now (condition .entry)) (now (targets .entry)) facts)) (termIn (now (condition .entry)) left)) (termType (some (factsIn (now (schema .entry)) (now (condition .entry)) (now (targets .entry)) facts)) (termIn (now (condition .entry)) right)) (operandsBy ordering (record { start = start; end = end }))) ⌝ }
 {
-    let l = terms::term_type(schema, condition, targets, places, env, facts, left);
-    let r = terms::term_type(schema, condition, targets, places, env, facts, right);
+    let l = terms::term_type(schema, condition, targets, env, facts, left);
+    let r = terms::term_type(schema, condition, targets, env, facts, right);
     operands(buf, state, start, end, ordering, schema, condition, l, r)
 }
 
@@ -199,14 +191,13 @@ fn both_arithmetic<'a>(
     schema: &'a [u8],
     condition: &'a [u8],
     targets: &[u8],
-    places: &[u16],
     env: &[u16],
     facts: Facts,
     left: usize,
     right: usize,
 ) -> State
     requires { ⌜ Sound (sink (now buf) state) ⌝ }
-    requires { ⌜ Known (now schema) (now condition) (now places) (now env) facts ⌝ }
+    requires { ⌜ Known (now schema) (now condition) (now env) facts ⌝ }
     requires { ⌜ isTerm (now condition) left ≡ true ⌝ }
     requires { ⌜ isTerm (now condition) right ≡ true ⌝ }
     ensures { λ after. ⌜ sink (now (buf .exit)) after ≡ pushAll (sink (now (buf .entry)) state) (arithmeticBreaches (factsIn (now (schema .entry)) (now (condition .entry)) (now (targets .entry)) facts) (record { start = start; end = end }) (termIn (now (condition .entry)) left) ++ arithmeticBreaches (factsIn (now (schema .entry)) (now (condition .entry)) (now (targets .entry)) facts) (record { start = start; end = end }) (termIn (now (condition .entry)) right)) ⌝ }
@@ -219,7 +210,6 @@ fn both_arithmetic<'a>(
         schema,
         condition,
         targets,
-        places,
         env,
         facts,
         left,
@@ -232,7 +222,6 @@ fn both_arithmetic<'a>(
         schema,
         condition,
         targets,
-        places,
         env,
         facts,
         right,
@@ -249,14 +238,13 @@ fn compared<'a>(
     schema: &'a [u8],
     condition: &'a [u8],
     targets: &[u8],
-    places: &[u16],
     env: &[u16],
     facts: Facts,
     left: usize,
     right: usize,
 ) -> State
     requires { ⌜ Sound (sink (now buf) state) ⌝ }
-    requires { ⌜ Known (now schema) (now condition) (now places) (now env) facts ⌝ }
+    requires { ⌜ Known (now schema) (now condition) (now env) facts ⌝ }
     requires { ⌜ isTerm (now condition) left ≡ true ⌝ }
     requires { ⌜ isTerm (now condition) right ≡ true ⌝ }
     ensures { λ after. ⌜ sink (now (buf .exit)) after ≡ pushAll (sink (now (buf .entry)) state) ((arithmeticBreaches (factsIn (now (schema .entry)) (now (condition .entry)) (now (targets .entry)) facts) (record { start = start; end = end }) (termIn (now (condition .entry)) left) ++ arithmeticBreaches (factsIn (now (schema .entry)) (now (condition .entry)) (now (targets .entry)) facts) (record { start = start; end = end }) (termIn (now (condition .entry)) right)) ++ both (termType (some (factsIn (now (schema .entry)) (now (condition .entry)) (now (targets .entry)) facts)) (termIn (now (condition .entry)) left)) (termType (some (factsIn (now (schema .entry)) (now (condition .entry)) (now (targets .entry)) facts)) (termIn (now (condition .entry)) right)) (operandsBy ordering (record { start = start; end = end }))) ⌝ }
@@ -269,7 +257,6 @@ fn compared<'a>(
         schema,
         condition,
         targets,
-        places,
         env,
         facts,
         left,
@@ -284,7 +271,6 @@ fn compared<'a>(
         schema,
         condition,
         targets,
-        places,
         env,
         facts,
         left,
@@ -299,13 +285,12 @@ fn comparison<'a>(
     schema: &'a [u8],
     condition: &'a [u8],
     targets: &[u8],
-    places: &[u16],
     env: &[u16],
     facts: Facts,
     at: usize,
 ) -> State
     requires { ⌜ Sound (sink (now buf) state) ⌝ }
-    requires { ⌜ Known (now schema) (now condition) (now places) (now env) facts ⌝ }
+    requires { ⌜ Known (now schema) (now condition) (now env) facts ⌝ }
     requires { ⌜ isCondition (now condition) at ≡ true ⌝ }
     requires { ⌜ kindOf (conditionIn (now condition) at) ≡ 8 ⌝ }
     ensures { λ after. ⌜ sink (now (buf .exit)) after ≡ pushAll (sink (now (buf .entry)) state) (nodeBreaches (factsIn (now (schema .entry)) (now (condition .entry)) (now (targets .entry)) facts) (conditionIn (now (condition .entry)) at)) ⌝ }
@@ -326,7 +311,6 @@ fn comparison<'a>(
         schema,
         condition,
         targets,
-        places,
         env,
         facts,
         left,
@@ -356,13 +340,12 @@ fn timepoint_breaches<'a>(
     schema: &'a [u8],
     condition: &'a [u8],
     targets: &[u8],
-    places: &[u16],
     env: &[u16],
     facts: Facts,
     at: usize,
 ) -> State
     requires { ⌜ Sound (sink (now buf) state) ⌝ }
-    requires { ⌜ Known (now schema) (now condition) (now places) (now env) facts ⌝ }
+    requires { ⌜ Known (now schema) (now condition) (now env) facts ⌝ }
     requires { ⌜ isSlot (now condition) at ≡ true ⌝ }
     ensures { λ after. ⌜ sink (now (buf .exit)) after ≡ pushAll (sink (now (buf .entry)) state) (timepointBreaches (factsIn (now (schema .entry)) (now (condition .entry)) (now (targets .entry)) facts) (record { start = start; end = end }) (slotIn (now (condition .entry)) at)) ⌝ }
 {
@@ -371,7 +354,7 @@ fn timepoint_breaches<'a>(
         return state;
     };
     let name = short_word(condition, p);
-    let typed = terms::var_type(schema, condition, places, env, facts, name);
+    let typed = terms::var_type(schema, condition, env, facts, name);
     timepoint(buf, state, start, end, name, schema, condition, typed)
 }
 
@@ -382,13 +365,12 @@ fn tp<'a>(
     schema: &'a [u8],
     condition: &'a [u8],
     targets: &[u8],
-    places: &[u16],
     env: &[u16],
     facts: Facts,
     at: usize,
 ) -> State
     requires { ⌜ Sound (sink (now buf) state) ⌝ }
-    requires { ⌜ Known (now schema) (now condition) (now places) (now env) facts ⌝ }
+    requires { ⌜ Known (now schema) (now condition) (now env) facts ⌝ }
     requires { ⌜ isCondition (now condition) at ≡ true ⌝ }
     requires { ⌜ kindOf (conditionIn (now condition) at) ≡ 10 ⌝ }
     ensures { λ after. ⌜ sink (now (buf .exit)) after ≡ pushAll (sink (now (buf .entry)) state) (nodeBreaches (factsIn (now (schema .entry)) (now (condition .entry)) (now (targets .entry)) facts) (conditionIn (now (condition .entry)) at)) ⌝ }
@@ -403,7 +385,6 @@ fn tp<'a>(
         schema,
         condition,
         targets,
-        places,
         env,
         facts,
         slot,
@@ -417,55 +398,24 @@ pub fn node<'a>(
     schema: &'a [u8],
     condition: &'a [u8],
     targets: &[u8],
-    places: &[u16],
     env: &[u16],
     facts: Facts,
     at: usize,
 ) -> State
     requires { ⌜ Sound (sink (now buf) state) ⌝ }
-    requires { ⌜ Known (now schema) (now condition) (now places) (now env) facts ⌝ }
+    requires { ⌜ Known (now schema) (now condition) (now env) facts ⌝ }
     requires { ⌜ isCondition (now condition) at ≡ true ⌝ }
     ensures { λ after. ⌜ sink (now (buf .exit)) after ≡ pushAll (sink (now (buf .entry)) state) (nodeBreaches (factsIn (now (schema .entry)) (now (condition .entry)) (now (targets .entry)) facts) (conditionIn (now (condition .entry)) at)) ⌝ }
 {
     let kind = condition::kind_at(condition, at);
     if kind == 7 {
-        return predicate(
-            buf,
-            state,
-            schema,
-            condition,
-            targets,
-            places,
-            env,
-            facts,
-            at,
-        );
+        return predicate(buf, state, schema, condition, targets, env, facts, at);
     }
     if kind == 8 {
-        return comparison(
-            buf,
-            state,
-            schema,
-            condition,
-            targets,
-            places,
-            env,
-            facts,
-            at,
-        );
+        return comparison(buf, state, schema, condition, targets, env, facts, at);
     }
     if kind == 10 {
-        return tp(
-            buf,
-            state,
-            schema,
-            condition,
-            targets,
-            places,
-            env,
-            facts,
-            at,
-        );
+        return tp(buf, state, schema, condition, targets, env, facts, at);
     }
     state
 }

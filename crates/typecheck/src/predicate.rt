@@ -144,7 +144,6 @@ fn one_argument<'a>(
     schema: &'a [u8],
     condition: &'a [u8],
     targets: &[u8],
-    places: &[u16],
     env: &[u16],
     facts: Facts,
     name: usize,
@@ -154,14 +153,14 @@ fn one_argument<'a>(
     term: usize,
 ) -> State
     requires { ⌜ Sound (sink (now buf) state) ⌝ }
-    requires { ⌜ Known (now schema) (now condition) (now places) (now env) facts ⌝ }
+    requires { ⌜ Known (now schema) (now condition) (now env) facts ⌝ }
     requires { ⌜ foundStands (isAction (now schema)) action ≡ true ⌝ }
     requires { ⌜ isPath (now condition) field ≡ true ⌝ }
     requires { ⌜ isTerm (now condition) term ≡ true ⌝ }
     ensures { λ after. ⌜ sink (now (buf .exit)) after ≡ pushAll (sink (now (buf .entry)) state) (both (contextType (foundIn (actionIn (now (schema .entry))) action) (pathIn (now (condition .entry)) field)) (termType (some (factsIn (now (schema .entry)) (now (condition .entry)) (now (targets .entry)) facts)) (termIn (now (condition .entry)) term)) (argumentBreach (record { start = start; end = end }) (wordAt (now (condition .entry)) at) (wordAt (now (condition .entry)) name))) ⌝ }
 {
     let expected = field_type(schema, condition, action, field);
-    let actual = terms::term_type(schema, condition, targets, places, env, facts, term);
+    let actual = terms::term_type(schema, condition, targets, env, facts, term);
     typed_argument(
         buf,
         state,
@@ -185,7 +184,6 @@ fn arguments<'a>(
     schema: &'a [u8],
     condition: &'a [u8],
     targets: &[u8],
-    places: &[u16],
     env: &[u16],
     facts: Facts,
     name: usize,
@@ -194,7 +192,7 @@ fn arguments<'a>(
     first: usize,
 ) -> State
     requires { ⌜ Sound (sink (now buf) state) ⌝ }
-    requires { ⌜ Known (now schema) (now condition) (now places) (now env) facts ⌝ }
+    requires { ⌜ Known (now schema) (now condition) (now env) facts ⌝ }
     requires { ⌜ foundStands (isAction (now schema)) action ≡ true ⌝ }
     requires { ⌜ isArguments (now condition) count first ≡ true ⌝ }
     ensures { λ after. ⌜ sink (now (buf .exit)) after ≡ pushAll (sink (now (buf .entry)) state) (argumentBreaches (factsIn (now (schema .entry)) (now (condition .entry)) (now (targets .entry)) facts) (record { start = start; end = end }) (wordAt (now (condition .entry)) name) (foundIn (actionIn (now (schema .entry))) action) (argumentsIn (now (condition .entry)) count first)) ⌝ }
@@ -212,7 +210,6 @@ fn arguments<'a>(
             schema,
             condition,
             targets,
-            places,
             env,
             facts,
             name,
@@ -234,13 +231,12 @@ pub fn predicate<'a>(
     schema: &'a [u8],
     condition: &'a [u8],
     targets: &[u8],
-    places: &[u16],
     env: &[u16],
     facts: Facts,
     at: usize,
 ) -> State
     requires { ⌜ Sound (sink (now buf) state) ⌝ }
-    requires { ⌜ Known (now schema) (now condition) (now places) (now env) facts ⌝ }
+    requires { ⌜ Known (now schema) (now condition) (now env) facts ⌝ }
     requires { ⌜ isCondition (now condition) at ≡ true ⌝ }
     requires { ⌜ kindOf (conditionIn (now condition) at) ≡ 7 ⌝ }
     ensures { λ after. ⌜ sink (now (buf .exit)) after ≡ pushAll (sink (now (buf .entry)) state) (nodeBreaches (factsIn (now (schema .entry)) (now (condition .entry)) (now (targets .entry)) facts) (conditionIn (now (condition .entry)) at)) ⌝ }
@@ -256,7 +252,6 @@ pub fn predicate<'a>(
         schema,
         condition,
         targets,
-        places,
         env,
         facts,
         parts.action,

@@ -35,14 +35,15 @@ fn nodes<'a>(
     facts: Facts,
 ) -> State
     requires { ⌜ Sound (sink (now buf) state) ⌝ }
-    requires { ⌜ Known (now schema) (now condition) (now places) (now env) facts ⌝ }
+    requires { ⌜ Index (now condition) (now places) ⌝ }
+    requires { ⌜ Known (now schema) (now condition) (now env) facts ⌝ }
     ensures { λ after. ⌜ sink (now (buf .exit)) after ≡ pushAll (sink (now (buf .entry)) state) (gather (nodeBreaches (factsIn (now (schema .entry)) (now (condition .entry)) (now (targets .entry)) facts)) (nodesOf (now (condition .entry)))) ⌝ }
 {
     let mut now = state;
     let mut i = 0;
     while i < places.len() {
         let at = condition::reached_at(condition, places, i);
-        now = node(buf, now, schema, condition, targets, places, env, facts, at);
+        now = node(buf, now, schema, condition, targets, env, facts, at);
         i += 1;
     }
     now
@@ -172,11 +173,9 @@ fn over_places<'a>(
     requires { ⌜ Index (now condition) (now places) ⌝ }
     ensures { λ r. ⌜ outcomeOf r (now (buf .exit)) ≡ checked (schemaIn (now (schema .entry))) (recordIn (now (condition .entry))) (targetsIn (now (targets .entry))) (now (buf .entry)) ⌝ }
 {
-    let mut table = [0u16; 6560];
-    let own = condition::environment(condition, places, &mut table);
-    let n = own.count;
+    let mut table = [0u16; 10921];
+    let n = condition::environment(condition, places, &mut table);
     let common = Common {
-        complete: own.whole,
         actions: schema::actions(schema),
     };
     let none = State {

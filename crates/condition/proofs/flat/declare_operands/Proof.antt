@@ -8,10 +8,10 @@ use Rattle.condition.proofs.flat.declare_operands.Statement.{statement}
 use Rattle.condition.proofs.flat.declare_operands.Tie as tie
 
 abbrev Inv-loop : tie.InvT-loop
-Inv-loop s table₀ at so-far₀ left₀ table so-far left = AggregatesOn s (declares (conditionIn s at)) table₀ so-far₀ left table so-far
+Inv-loop s table₀ n at so-far₀ left₀ table so-far left = AggregatesOn s (declares (conditionIn s at)) table₀ so-far₀ left table so-far
 
 abbrev μ-loop : tie.MeasureT-loop
-μ-loop s table₀ at so-far₀ left₀ table so-far left = length (aggregatesIn s (left .count) (left .first))
+μ-loop s table₀ n at so-far₀ left₀ table so-far left = length (aggregatesIn s (left .count) (left .first))
 
 pub declare-operands-spec : {M : Type 1} → statement M
 declare-operands-spec = tie.close (tie.spec Inv-loop μ-loop (λ c κs. search declaring-operands) (λ c. search declaring-operands) (λ c κs. search declaring-operands) (λ c. search declaring-operands) (λ c. search declaring-operands) (λ c. search declaring-operands) (λ c. search declaring-operands) (λ c κs. search declaring-operands) (λ c. search declaring-operands) (λ c. search declaring-operands))

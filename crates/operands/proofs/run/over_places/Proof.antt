@@ -19,7 +19,7 @@ slice-aggregate-with-common : tie.Need-slice-aggregate-with-common
 slice-aggregate-with-common c = search by-action
 
 with-common-requires : tie.Need-with-common-requires
-with-common-requires c κs = (search by-action, (search by-action, (search by-action, (search by-action, search by-action))))
+with-common-requires c κs = (search by-action, (search by-action, (search by-action, search by-action)))
 
 same-length : tie.Need-same-length
 same-length c = search by-action

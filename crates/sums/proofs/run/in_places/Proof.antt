@@ -10,11 +10,11 @@ use Rattle.sums.proofs.run.in_places.Statement.{statement}
 use Rattle.sums.proofs.run.in_places.Tie as tie
 
 abbrev Inv-loop : tie.InvT-loop
-Inv-loop s places env complete buf₀ now₀ i₀ buf now i =
+Inv-loop s places env buf₀ now₀ i₀ buf now i =
     (length buf ≡ length buf₀) × PlacesLeft s (appendAll (sink buf₀ now₀) (breaches (recordIn s))) (sink buf now) i
 
 abbrev μ-loop : tie.MeasureT-loop
-μ-loop s places env complete buf₀ now₀ i₀ buf now i = length places - i
+μ-loop s places env buf₀ now₀ i₀ buf now i = length places - i
 
 pub in-places-spec : {M : Type 1} → statement M
 in-places-spec = tie.close (tie.spec Inv-loop μ-loop (λ c. search placing) (λ c κs. search placing) (λ c κs. search placing) (λ c. search placing) (λ c. search placing) (λ c. search placing) (λ c. search placing) (λ c. search placing))

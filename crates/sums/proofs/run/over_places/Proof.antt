@@ -16,7 +16,7 @@ slice-aggregate-in-places : tie.Need-slice-aggregate-in-places
 slice-aggregate-in-places c = search run-over
 
 in-places-requires : tie.Need-in-places-requires
-in-places-requires c κs = search run-over
+in-places-requires c κs = (search run-over, (search run-over, (search run-over, search run-over)))
 
 same-length : tie.Need-same-length
 same-length c = search run-over

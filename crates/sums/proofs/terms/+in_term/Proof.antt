@@ -16,15 +16,15 @@ use Rattle.sums.proofs.summand.in_sum.Reads as in-sum-reads
 use Rattle.sums.proofs.terms.+in_term.{statement}
 use Rattle.sums.proofs.terms.+in_term.Tie.{close}
 
-abbrev μ-in-term : Measures 4 in-term-kinds.ps ℕ
-μ-in-term κs a = length (a .0 .now) - a .1 .1 .1 .1 .0
+abbrev μ-in-term : Measures 3 in-term-kinds.ps ℕ
+μ-in-term κs a = length (a .0 .now) - a .1 .1 .0
 
 -- What a member is given at the measure t, and what a call of it asks below t.
-abbrev in-term-at : ℕ → In 4 in-term-kinds.ps
-in-term-at t = and 4 in-term-kinds.ps (is 4 in-term-kinds.ps μ-in-term t) in-term.Pre
+abbrev in-term-at : ℕ → In 3 in-term-kinds.ps
+in-term-at t = and 3 in-term-kinds.ps (is 3 in-term-kinds.ps μ-in-term t) in-term.Pre
 
-abbrev in-term-below : ℕ → In 4 in-term-kinds.ps
-in-term-below t = and 4 in-term-kinds.ps (falls 4 in-term-kinds.ps _<_ μ-in-term t) in-term.Pre
+abbrev in-term-below : ℕ → In 3 in-term-kinds.ps
+in-term-below t = and 3 in-term-kinds.ps (falls 3 in-term-kinds.ps _<_ μ-in-term t) in-term.Pre
 
 abbrev in-term-given : ℕ → in-term-lts.Claims
 in-term-given t = (term-kind-at-reads.Asked, term-kind-at-reads.Learnt, arith-at-reads.Asked, arith-at-reads.Learnt, in-term-below t, in-term.Post, aggregate-at-reads.Asked, aggregate-at-reads.Learnt, aggregate-kind-at-reads.Asked, aggregate-kind-at-reads.Learnt, in-sum-reads.Asked, in-sum-reads.Learnt)

@@ -9,11 +9,11 @@ use Rattle.sums.proofs.terms.in_arguments.Statement.{statement}
 use Rattle.sums.proofs.terms.in_arguments.Tie as tie
 
 abbrev Inv-loop : tie.InvT-loop
-Inv-loop s places env complete count first buf₀ now₀ at₀ rest₀ buf now at rest =
+Inv-loop s env count first buf₀ now₀ at₀ rest₀ buf now at rest =
     (length buf ≡ length buf₀) × ArgumentsLeft s (appendAll (sink buf₀ now₀) (argumentsBreaches (recordIn s) (argumentsIn s count first))) (sink buf now) rest at
 
 abbrev μ-loop : tie.MeasureT-loop
-μ-loop s places env complete count first buf₀ now₀ at₀ rest₀ buf now at rest = rest
+μ-loop s env count first buf₀ now₀ at₀ rest₀ buf now at rest = rest
 
 pub in-arguments-spec : {M : Type 1} → statement M
 in-arguments-spec = tie.close (tie.spec Inv-loop μ-loop (λ c. search arguing) (λ c κs. search arguing) (λ c κs. search arguing) (λ c. search arguing) (λ c. search arguing) (λ c. search arguing) (λ c. search arguing) (λ c. search arguing))

@@ -13,14 +13,14 @@ use Rattle.typecheck.proofs.node.one_leaf.Reads as one-leaf-reads
 use Rattle.typecheck.proofs.node.+leaf_breaches.{statement}
 use Rattle.typecheck.proofs.node.+leaf_breaches.Tie.{close}
 
-abbrev μ-leaf-breaches : Measures 5 leaf-breaches-kinds.ps ℕ
-μ-leaf-breaches κs a = 18446744073709551616 - a .1 .1 .1 .1 .1 .1 .1 .1 .1 .1 .0
+abbrev μ-leaf-breaches : Measures 4 leaf-breaches-kinds.ps ℕ
+μ-leaf-breaches κs a = 18446744073709551616 - a .1 .1 .1 .1 .1 .1 .1 .1 .1 .0
 
-abbrev leaf-breaches-at : ℕ → In 5 leaf-breaches-kinds.ps
-leaf-breaches-at t = and 5 leaf-breaches-kinds.ps (is 5 leaf-breaches-kinds.ps μ-leaf-breaches t) leaf-breaches.Pre
+abbrev leaf-breaches-at : ℕ → In 4 leaf-breaches-kinds.ps
+leaf-breaches-at t = and 4 leaf-breaches-kinds.ps (is 4 leaf-breaches-kinds.ps μ-leaf-breaches t) leaf-breaches.Pre
 
-abbrev leaf-breaches-below : ℕ → In 5 leaf-breaches-kinds.ps
-leaf-breaches-below t = and 5 leaf-breaches-kinds.ps (falls 5 leaf-breaches-kinds.ps _<_ μ-leaf-breaches t) leaf-breaches.Pre
+abbrev leaf-breaches-below : ℕ → In 4 leaf-breaches-kinds.ps
+leaf-breaches-below t = and 4 leaf-breaches-kinds.ps (falls 4 leaf-breaches-kinds.ps _<_ μ-leaf-breaches t) leaf-breaches.Pre
 
 abbrev leaf-breaches-given : ℕ → leaf-breaches-lts.Claims
 leaf-breaches-given t = (term-kind-at-reads.Asked, term-kind-at-reads.Learnt, arith-at-reads.Asked, arith-at-reads.Learnt, leaf-breaches-below t, leaf-breaches.Post, one-leaf-reads.Asked, one-leaf-reads.Learnt)

@@ -12,14 +12,14 @@ use Rattle.typecheck.proofs.predicate.arguments.Statement.{statement}
 use Rattle.typecheck.proofs.predicate.arguments.Tie as tie
 
 abbrev Inv-loop : tie.InvT-loop
-Inv-loop buf₀ start end schema condition targets places env facts name action count first now₀ left₀ at₀ buf now left at =
+Inv-loop buf₀ start end schema condition targets env facts name action count first now₀ left₀ at₀ buf now left at =
     (length buf ≡ length buf₀)
     × Arguing (factsIn schema condition targets facts) condition (record { start = start; end = end }) (wordAt condition name) (foundIn (actionIn schema) action)
     (pushAll (sink buf₀ now₀) (argumentBreaches (factsIn schema condition targets facts) (record { start = start; end = end }) (wordAt condition name) (foundIn (actionIn schema) action) (argumentsIn condition count first)))
     (sink buf now) left at
 
 abbrev μ-loop : tie.MeasureT-loop
-μ-loop buf₀ start end schema condition targets places env facts name action count first now₀ left₀ at₀ buf now left at = left
+μ-loop buf₀ start end schema condition targets env facts name action count first now₀ left₀ at₀ buf now left at = left
 
 loop-holds : tie.Need-loop-holds Inv-loop μ-loop
 loop-holds c = search arguing
