@@ -1,9 +1,4 @@
 pub mod Condition
 pub mod Walk
 pub mod Places
-pub mod Sizes
-pub mod Kinds
-pub mod Open
-pub mod Index
-pub mod Parts
-pub mod Environment
+pub mod Laws

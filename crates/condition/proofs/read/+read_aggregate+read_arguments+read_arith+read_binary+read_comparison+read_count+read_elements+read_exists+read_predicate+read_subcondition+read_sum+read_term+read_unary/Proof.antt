@@ -4,7 +4,7 @@ use mathlib.Core.Path.{_≡_}
 use Rattle.names.specs.Read.{ending}
 use Rattle.condition.specs.Condition.{arguments, argumentList, elements, elementList, conditionAt, termAt}
 use Rattle.condition.proofs.Sequences.{unaries, binaries, predicates, comparisons, binding, sums, counts, ariths, argument-rows, element-rows}
-use Rattle.condition.proofs.ByKind.{conditions, terms, aggregates}
+use Rattle.condition.specs.Laws.ByKind.{conditions, terms, aggregates}
 use Prim.Native.Nat.{ℕ, _+_, _<_}
 use borrow.Fn.Kinds.{In}
 use borrow.Fn.PlainCycle.{Measures, is, falls, and}

@@ -1,7 +1,0 @@
--- `condition::flat::bound_in` meets its contract. Assumes nothing.
-use Rattle.condition.proofs.Environments.{finding}
-use Rattle.condition.proofs.flat.bound_in.Statement.{statement}
-use Rattle.condition.proofs.flat.bound_in.Tie as tie
-
-pub bound-in-spec : {M : Type 1} → statement M
-bound-in-spec = tie.close (tie.spec (λ c κs. search finding) (λ c. search finding) (λ c. search finding) (λ c κs. search finding) (λ c κs. search finding) (λ c κs. search finding) (λ c. search finding) (λ c. search finding))

@@ -1,7 +1,0 @@
--- `condition::flat::environment` meets its contract. Assumes nothing.
-use Rattle.condition.proofs.Environments.{beginning}
-use Rattle.condition.proofs.flat.environment.Statement.{statement}
-use Rattle.condition.proofs.flat.environment.Tie as tie
-
-pub environment-spec : {M : Type 1} → statement M
-environment-spec = tie.close (tie.spec (λ c κs. search beginning) (λ c. search beginning) (λ c. search beginning))

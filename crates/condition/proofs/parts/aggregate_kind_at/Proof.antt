@@ -1,7 +1,0 @@
--- `condition::parts::aggregate_kind_at` meets its contract. Assumes nothing.
-use Rattle.condition.proofs.Opens.{opening}
-use Rattle.condition.proofs.parts.aggregate_kind_at.Statement.{statement}
-use Rattle.condition.proofs.parts.aggregate_kind_at.Tie as tie
-
-pub aggregate-kind-at-spec : {M : Type 1} → statement M
-aggregate-kind-at-spec = tie.close (tie.spec (λ c. search opening) (λ c. search opening))

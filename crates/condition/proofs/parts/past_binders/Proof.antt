@@ -1,7 +1,0 @@
--- `condition::parts::past_binders` meets its contract. Assumes nothing.
-use Rattle.condition.proofs.Opens.{passing}
-use Rattle.condition.proofs.parts.past_binders.Statement.{statement}
-use Rattle.condition.proofs.parts.past_binders.Tie as tie
-
-pub past-binders-spec : {M : Type 1} → statement M
-past-binders-spec = tie.close (tie.spec (λ c κs. search passing) (λ c κs. search passing) (λ c. search passing))

@@ -1,7 +1,0 @@
--- `condition::parts::past_path` meets its contract. Assumes nothing.
-use Rattle.condition.proofs.Strings.{by-strings}
-use Rattle.condition.proofs.parts.past_path.Statement.{statement}
-use Rattle.condition.proofs.parts.past_path.Tie as tie
-
-pub past-path-spec : {M : Type 1} → statement M
-past-path-spec = tie.close (tie.spec (λ c κs. search by-strings) (λ c. search by-strings))

@@ -1,7 +1,0 @@
--- `condition::parts::past_slot` meets its contract. Assumes nothing.
-use Rattle.condition.proofs.Opens.{passing}
-use Rattle.condition.proofs.parts.past_slot.Statement.{statement}
-use Rattle.condition.proofs.parts.past_slot.Tie as tie
-
-pub past-slot-spec : {M : Type 1} → statement M
-past-slot-spec = tie.close (tie.spec (λ c κs. search passing) (λ c κs. search passing) (λ c. search passing))

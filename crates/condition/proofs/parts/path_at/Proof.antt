@@ -1,8 +1,0 @@
--- `condition::parts::path_at` meets its contract. Assumes nothing.
-use native.Mathlib.Omega.{arith}
-use Rattle.condition.proofs.Pieces.{pieces, path-index}
-use Rattle.condition.proofs.parts.path_at.Statement.{statement}
-use Rattle.condition.proofs.parts.path_at.Tie as tie
-
-pub path-at-spec : {M : Type 1} → statement M
-path-at-spec = tie.close (tie.spec (λ c. omega (arith, path-index _ _ (c .before .pre))) (λ c. search pieces) (λ c κs. search pieces) (λ c. search pieces))

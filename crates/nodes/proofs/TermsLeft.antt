@@ -1,0 +1,147 @@
+-- The aggregates of terms in a row, one after another, and those of a comparison's operands. Assumes nothing.
+use mathlib.Core.Path.{_≡_, refl, sym, ap, _∙_}
+use mathlib.Core.Bool.{true, false}
+use mathlib.Core.List.{List, [], _∷_, _++_, append-assoc, append-nil}
+use Prim.Native.Nat.{ℕ, zero, suc, _+_, _-_, _≤_, _<_}
+use native.Mathlib.Numerals.{add-one, sub-one}
+use native.Mathlib.Omega.{arith}
+use borrow.Author.Needs.{needs}
+use lib.ListN.{length}
+use Rattle.names.specs.Lists.{gather}
+use Rattle.names.specs.Fields.{Got, got, many, levels}
+use Rattle.names.specs.Read.{row, rowIn}
+use Rattle.names.specs.Laws.Readers.{is-accepted, has-value}
+use Rattle.names.specs.Laws.Rows.{Opens, opens, row-cons, row-empty}
+use Rattle.condition.specs.Condition.{Span, Operator, Condition, Term, Aggregate, comparison, entity, literal, contextField, scopeField, var, wildcard, array, aggregate, sigil, termAt}
+use Rattle.condition.specs.Condition as tree
+use Rattle.condition.specs.Walk.{operandAggregates}
+use Rattle.condition.specs.Places.{isCondition, conditionIn, isTerm, termIn, aggregateIn}
+use Rattle.nodes.specs.Kinds.{kindOf, spanOf, termKindOf}
+use Rattle.nodes.specs.Open.{Skipped, TermOpened, AggregateHere}
+use Rattle.nodes.specs.Parts.{isTerms, aggregatesIn, AggregateNext, OperandsHere}
+use Rattle.nodes.specs.Laws.Opens.{Stands, stood, ends-at, term-stands, term-index, arith-here, comparison-here}
+use Rattle.nodes.specs.Laws.Pieces.{term-ahead}
+
+-- an operand that is no aggregate and no arithmetic has none
+no-aggregates : (x : Term) → (termKindOf x ≡ 12 → ⊥) → (termKindOf x ≡ 11 → ⊥) → operandAggregates x ≡ []
+unfolding operandAggregates
+no-aggregates (entity n) a b = refl
+no-aggregates (literal l) a b = refl
+no-aggregates (contextField p) a b = refl
+no-aggregates (scopeField p) a b = refl
+no-aggregates (var v) a b = refl
+no-aggregates wildcard a b = refl
+no-aggregates (array ts) a b = refl
+no-aggregates (aggregate x) a b = absurd (b refl)
+no-aggregates (tree.arith l r) a b = absurd (a refl)
+no-aggregates sigil a b = refl
+
+-- terms in a row
+module _ (s : List ℕ) (n at : ℕ) where
+  terms-stand : isTerms s n at ≡ true → Stands (row (termAt levels false) n s at) (rowIn (termAt levels false) s n at)
+  terms-stand acc = stood _ _ acc
+
+-- they have a byte each
+row-room : (s : List ℕ) (n at : ℕ) {l : List Term} {e : ℕ} → row (termAt levels false) (suc n) s at ≡ got l e → at + suc n ≤ length s
+row-room s zero at h = let o = opens (termAt levels false) s 1 at (omega arith) h in let i = term-index s at (is-accepted (o .here)) in omega arith
+row-room s (suc n) at h =
+    let o = opens (termAt levels false) s (suc (suc n)) at (omega arith) h in
+    let j = term-ahead s at (o .here) in
+    let i = row-room s n (o .p) (rw sub-one at (o .rest)) in
+    omega arith
+
+-- two more in place of the first
+two-more : (s : List ℕ) (n at : ℕ) {l r : Term} {others : List Term} {m p e : ℕ} → 0 < n → termAt levels false s (at + 1) ≡ got l m → termAt levels false s m ≡ got r p → row (termAt levels false) (n - 1) s p ≡ got others e
+    → row (termAt levels false) (n + 1) s (at + 1) ≡ got (l ∷ r ∷ others) e
+two-more s zero at h i j k = absurd (omega arith)
+two-more s (suc n) at {l} {r} {others} {m} {p} {e} h i j k = rw add-one (row-cons (termAt levels false) s (suc n) (at + 1) i (row-cons (termAt levels false) s n m j (rw sub-one at k)))
+
+same-place : {A : Type 0} {g : Got A} {a b : A} {n m : ℕ} → g ≡ got a n → g ≡ got b m → n ≡ m
+same-place e f = cc
+
+comparison-whole : {x : Condition} {own : Span} {op : Operator} {l r : Term} → x ≡ comparison own op l r → x ≡ comparison (spanOf x) op l r
+comparison-whole e = rw e
+
+pub record TermsLeft (s : List ℕ) (list : List Aggregate) (n at : ℕ) : Type 0 where
+  pub stands : isTerms s n at ≡ true
+  pub small : n ≤ length s
+  pub value : aggregatesIn s n at ≡ list
+
+few : (s : List ℕ) (n at : ℕ) → isTerms s n at ≡ true → n ≤ length s
+few s zero at acc = omega arith
+few s (suc n) at acc = let i = row-room s n at (terms-stand s (suc n) at acc .read) in omega arith
+
+pub terms-left : (s : List ℕ) (n at : ℕ) → isTerms s n at ≡ true → TermsLeft s (aggregatesIn s n at) n at
+terms-left s n at acc = record { stands = acc; small = few s n at acc; value = refl }
+
+module _ (s : List ℕ) (list : List Aggregate) (n at : ℕ) (inv : TermsLeft s list n at) where
+  pub none-left : n ≤ 0 → list ≡ []
+  unfolding aggregatesIn gather
+  none-left h = sym (inv .value) ∙ ap (gather operandAggregates) (row-empty (termAt levels false) s n at h (terms-stand s n at (inv .stands) .read))
+
+  module _ (h : 0 < n) where
+    first : Opens (termAt levels false) s n at (rowIn (termAt levels false) s n at) (terms-stand s n at (inv .stands) .end)
+    first = opens (termAt levels false) s n at h (terms-stand s n at (inv .stands) .read)
+
+    pub first-stands : isTerm s at ≡ true
+    first-stands = is-accepted (first .here)
+
+    -- what the first has, then what the others have
+    parted : list ≡ operandAggregates (termIn s at) ++ gather operandAggregates (first .others)
+    unfolding aggregatesIn gather termIn
+    parted = sym (inv .value) ∙ ap (gather operandAggregates) (first .all) ∙ ap (λ t. operandAggregates t ++ gather operandAggregates (first .others)) (sym (has-value _ (first .here)))
+
+    module _ (m : ℕ) (z : Skipped (termAt levels false s at) at m) where
+      others-read : row (termAt levels false) (n - 1) s m ≡ got (first .others) (terms-stand s n at (inv .stands) .end)
+      others-read = ap (row (termAt levels false) (n - 1) s) (ends-at (first .here) (z .ends)) ∙ first .rest
+
+      others-are : aggregatesIn s (n - 1) m ≡ gather operandAggregates (first .others)
+      unfolding aggregatesIn
+      others-are = ap (gather operandAggregates) (has-value [] others-read)
+
+      pub found-next : (k : ℕ) → TermOpened s at k → (p : ℕ) → AggregateHere s at p → AggregateNext s list p (record { count = n - 1; first = m })
+      unfolding operandAggregates
+      found-next k o p here = record {
+        stands = here .stands;
+        others = is-accepted others-read;
+        value = parted ∙ ap (λ t. operandAggregates t ++ gather operandAggregates (first .others)) (here .value) ∙ ap (λ l. aggregateIn s p ∷ l) (sym others-are);
+      }
+
+      pub bare-turn : (k : ℕ) → TermOpened s at k → (k ≡ 11 → ⊥) → (k ≡ 12 → ⊥) → TermsLeft s list (n - 1) m
+      bare-turn k o i j = record {
+        stands = is-accepted others-read;
+        small = few s (n - 1) m (is-accepted others-read);
+        value = others-are ∙ sym (parted ∙ ap (λ l. l ++ gather operandAggregates (first .others)) (no-aggregates (termIn s at) (λ e. j (o .kind ∙ e)) (λ e. i (o .kind ∙ e))));
+      }
+
+    pub arith-turn : (k : ℕ) → TermOpened s at k → k ≡ 12 → TermsLeft s list (n + 1) (at + 1)
+    unfolding aggregatesIn gather operandAggregates
+    arith-turn k o is =
+        let v = arith-here s at first-stands (sym (o .kind) ∙ is) in
+        let e = same-place (term-stands s at first-stands .read) (first .here) in
+        let r = two-more s n at h (v .reads) (v .further) (ap (row (termAt levels false) (n - 1) s) e ∙ first .rest) in
+        record {
+          stands = is-accepted r;
+          small = few s (n + 1) (at + 1) (is-accepted r);
+          value =
+              ap (gather operandAggregates) (has-value [] r)
+              ∙ sym (append-assoc (operandAggregates (v .left)) (operandAggregates (v .right)) (gather operandAggregates (first .others)))
+              ∙ sym (parted ∙ ap (λ t. operandAggregates t ++ gather operandAggregates (first .others)) (v .whole));
+        }
+
+-- The operands of a comparison.
+pub operands-here : (s : List ℕ) (at : ℕ) → isCondition s at ≡ true → kindOf (conditionIn s at) ≡ 8 → OperandsHere s at (record { count = 2; first = at + 10 })
+unfolding aggregatesIn gather many
+operands-here s at acc is =
+    let v = comparison-here s at acc is in
+    let r = row-cons (termAt levels false) s 1 (at + 10) (v .reads) (row-cons (termAt levels false) s 0 (v .middle) (v .further) refl) in
+    record {
+      op = v .test;
+      left = v .left;
+      right = v .right;
+      stands = is-accepted r;
+      whole = comparison-whole (v .whole);
+      value = ap (gather operandAggregates) (has-value [] r) ∙ ap (λ l. operandAggregates (v .left) ++ l) (append-nil (operandAggregates (v .right)));
+    }
+
+pub ruleset along-terms = (needs, terms-left, none-left, first-stands, found-next, bare-turn, arith-turn)

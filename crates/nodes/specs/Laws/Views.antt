@@ -1,0 +1,571 @@
+-- Accepted bytes taken apart: what stands at the parts of a condition, a term, an aggregate, a list, by the byte of its kind. A part is read with all
+-- 32 levels, as a position denotes it. Assumes nothing.
+use mathlib.Core.Path.{_≡_, refl, sym, ap, _∙_}
+use mathlib.Core.Bool.{Bool, true, false, cond, false≢true}
+use mathlib.Core.List.{List}
+use Prim.Native.Nat.{ℕ, _+_, _-_, _≤_, _<_}
+use native.Mathlib.Omega.{arith}
+use borrow.Author.Tests.{leb-true, leb-false}
+use lib.Dec.{eqb, leb}
+use lib.ListN.{length, getD, take, drop}
+use Rattle.names.specs.Fields.{Got, got, bad, Reader, next, u8, u32, number, bytes, choose, levels, stringOf, each, counted}
+use Rattle.names.specs.Names.{plain, pathName}
+use Rattle.names.specs.Paths.{pathOf}
+use Rattle.names.specs.Laws.Readers.{split, u8-view, bytes-view, got-value, got-place, Each, each-below, choose-beyond, keysUpTo}
+use Rattle.condition.specs.Condition.{Span, Slot, Condition, Term, Arguments, Aggregate, Operator, Binder, One, Two, one, two, predicate, comparison, exists, tp, opaque, negation, formerly, previous, refine, and, or, since, le, lt, ge, gt, eq, notEq, integer, decimal, string, bool, entity, literal, contextField, scopeField, var, wildcard, array, aggregate, sigil, sum, count, call, span, slot, operators, operator, binder, timepointOf, argumentList, elementList, unary, binary, predicateOf, comparisonOf, existsOf, conditionKinds, sumOf, countOf, aggregateKinds, aggregateOf, arithOf, termKinds, conditionAt, termAt}
+use Rattle.condition.specs.Condition as tree
+use Rattle.nodes.specs.Kinds.{kindOf, spanOf, termKindOf, aggregateKindOf, aggregateSpanOf, operatorNumber, oneNumber, twoNumber, twoKind, oneKind}
+use Rattle.condition.specs.Laws.Levels.{condition-wider, term-wider}
+
+-- what is known of a table's choice, by what each of its keys says
+pub by-kind : {A : Type 0} (s : List ℕ) (at bound : ℕ) (table : List (ℕ × Reader A)) {a : A} {n : ℕ} → keysUpTo bound table ≡ true → (P : ℕ → Type 0) → Each (λ k. choose k table s at ≡ got a n → P k) (bound + 1) → (k : ℕ) → choose k table s at ≡ got a n → P k
+by-kind s at bound table {a} {n} keys P all k e = go (leb k bound) refl
+  where
+    go : (b : Bool) → leb k bound ≡ b → P k
+    go true h = let l = leb-true k bound h in each-below (λ k. choose k table s at ≡ got a n → P k) (bound + 1) all k (omega arith) e
+    go false h = let i = choose-beyond s at bound k (leb-false k bound h) table keys in let z : _≡_ {A = ℕ} 0 1 = cc in absurd (omega arith)
+
+-- a 32-bit number, and the two of a span
+record WordView (s : List ℕ) (at v n : ℕ) : Type 0 where
+  inside : at + 4 ≤ length s
+  value : v ≡ number 0 (take 4 (drop at s))
+  place : n ≡ at + 4
+
+u32-view : (s : List ℕ) (at : ℕ) {v n : ℕ} → u32 s at ≡ got v n → WordView s at v n
+unfolding u32
+u32-view s at e =
+    let a = split (bytes 4 s at) _ e in
+    let b = bytes-view s at 4 (a .first) in
+    record { inside = b .0; value = sym (got-value (a .rest)) ∙ ap (number 0) (b .1); place = sym (got-place (a .rest)) ∙ b .2 }
+
+pub record SpanView (s : List ℕ) (at : ℕ) (v : Span) (n : ℕ) : Type 0 where
+  pub inside : at + 8 ≤ length s
+  pub start : v .start ≡ number 0 (take 4 (drop at s))
+  pub end : v .end ≡ number 0 (take 4 (drop (at + 4) s))
+  pub place : n ≡ at + 8
+
+pub span-view : (s : List ℕ) (at : ℕ) {v : Span} {n : ℕ} → span s at ≡ got v n → SpanView s at v n
+unfolding span
+span-view s at {v} {n} e =
+    let a = split (u32 s at) _ e in
+    let b = split (u32 s (a .place)) _ (a .rest) in
+    let i = u32-view s at (a .first) in
+    let j = u32-view s (a .place) (b .first) in
+    let k = got-place (b .rest) in
+    let l = got-value (b .rest) in
+    record {
+      inside = omega arith;
+      start = ap (λ (w : Span). w .start) (sym l) ∙ i .value;
+      end = ap (λ (w : Span). w .end) (sym l) ∙ j .value ∙ ap (λ (p : ℕ). number 0 (take 4 (drop p s))) (i .place);
+      place = omega arith;
+    }
+
+-- a span behind a kind byte, and what is read behind the span
+record AfterSpan {A : Type 0} (s : List ℕ) (at : ℕ) (f : Span → ℕ → Got A) (x : A) (n : ℕ) : Type 0 where
+  own : Span
+  spans : span s (at + 1) ≡ got own (at + 9)
+  rest : f own (at + 9) ≡ got x n
+
+module _ {A : Type 0} (s : List ℕ) (at : ℕ) {x : A} {n : ℕ} (f : Span → ℕ → Got A) where
+  after-span : next (span s (at + 1)) f ≡ got x n → AfterSpan s at f x n
+  after-span e =
+      let a = split (span s (at + 1)) _ e in
+      let h = span-view s (at + 1) (a .first) .place in
+      let i : a .place ≡ at + 9 = omega arith in
+      record { own = a .value; spans = a .first ∙ ap (got (a .value)) i; rest = rw (← i) (a .rest) }
+
+-- Conditions.
+pub record OneView (s : List ℕ) (at : ℕ) (x : Condition) (n : ℕ) : Type 0 where
+  pub kind : One
+  pub own : Span
+  pub body : Condition
+  pub spans : span s (at + 1) ≡ got own (at + 9)
+  pub reads : conditionAt levels s (at + 9) ≡ got body n
+  pub whole : x ≡ one kind own body
+
+pub record TwoView (s : List ℕ) (at : ℕ) (x : Condition) (n : ℕ) : Type 0 where
+  pub kind : Two
+  pub own : Span
+  pub left : Condition
+  pub middle : ℕ
+  pub right : Condition
+  pub spans : span s (at + 1) ≡ got own (at + 9)
+  pub reads : conditionAt levels s (at + 9) ≡ got left middle
+  pub further : conditionAt levels s middle ≡ got right n
+  pub whole : x ≡ two kind own left right
+
+pub record PredicateView (s : List ℕ) (at : ℕ) (x : Condition) (n : ℕ) : Type 0 where
+  pub around : Span
+  pub own : Span
+  pub namespace : List (List ℕ)
+  pub name : ℕ
+  pub action : List ℕ
+  pub list : ℕ
+  pub args : Arguments
+  pub spans : span s (at + 1) ≡ got around (at + 9)
+  pub owns : span s (at + 9) ≡ got own (at + 17)
+  pub lies : counted (each (stringOf pathName)) s (at + 17) ≡ got namespace name
+  pub acts : stringOf plain s name ≡ got action list
+  pub lists : argumentList (conditionAt levels) (termAt levels) s list ≡ got args n
+  pub whole : x ≡ predicate around own namespace action args
+
+pub record ComparisonView (s : List ℕ) (at : ℕ) (x : Condition) (n : ℕ) : Type 0 where
+  pub own : Span
+  pub test : Operator
+  pub left : Term
+  pub middle : ℕ
+  pub right : Term
+  pub spans : span s (at + 1) ≡ got own (at + 9)
+  pub tests : operator s (at + 9) ≡ got test (at + 10)
+  pub reads : termAt levels false s (at + 10) ≡ got left middle
+  pub further : termAt levels false s middle ≡ got right n
+  pub whole : x ≡ comparison own test left right
+
+pub record ExistsView (s : List ℕ) (at : ℕ) (x : Condition) (n : ℕ) : Type 0 where
+  pub own : Span
+  pub declared : Binder
+  pub middle : ℕ
+  pub body : Condition
+  pub spans : span s (at + 1) ≡ got own (at + 9)
+  pub declares : binder s (at + 9) ≡ got declared middle
+  pub reads : conditionAt levels s middle ≡ got body n
+  pub whole : x ≡ exists own declared body
+
+pub record TimepointView (s : List ℕ) (at : ℕ) (x : Condition) (n : ℕ) : Type 0 where
+  pub own : Span
+  pub place : Slot
+  pub spans : span s (at + 1) ≡ got own (at + 9)
+  pub reads : slot s (at + 9) ≡ got place n
+  pub whole : x ≡ tp own place
+
+pub record OpaqueView (s : List ℕ) (at : ℕ) (x : Condition) (n : ℕ) : Type 0 where
+  pub own : Span
+  pub spans : span s (at + 1) ≡ got own (at + 9)
+  pub end : n ≡ at + 9
+  pub whole : x ≡ opaque own
+
+-- an operator is one byte
+choose-place : (k : ℕ) (s : List ℕ) (at : ℕ) {o : Operator} {n : ℕ} → choose k operators s at ≡ got o n → (n ≡ at) × (operatorNumber o ≡ k)
+unfolding choose operators Each keysUpTo
+choose-place k s at {o} {n} e =
+    let own : (p : Operator) → got p at ≡ got o n → (n ≡ at) × (operatorNumber o ≡ operatorNumber p) = λ p i. (sym (got-place i), ap operatorNumber (sym (got-value i))) in
+    by-kind s at 5 operators refl (λ j. (n ≡ at) × (operatorNumber o ≡ j)) ((((((tt, own le), own lt), own ge), own gt), own eq), own notEq) k e
+
+pub operator-view : (s : List ℕ) (at : ℕ) {o : Operator} {n : ℕ} → operator s at ≡ got o n → (n ≡ at + 1) × (operatorNumber o ≡ getD s at 0)
+unfolding operator
+operator-view s at {o} {n} e =
+    let a = split (u8 s at) _ e in
+    let v = u8-view s at (a .first) in
+    let p = choose-place (a .value) s (a .place) (a .rest) in
+    (p .0 ∙ v .2, p .1 ∙ v .1)
+
+module _ (s : List ℕ) (at : ℕ) {x : Condition} {n : ℕ} where
+  unary-view : (k : One) → unary (conditionAt levels) (termAt levels) k s (at + 1) ≡ got x n → OneView s at x n
+  unfolding unary
+  unary-view k e =
+      let a = after-span s at _ e in
+      let b = split (conditionAt levels s (at + 9)) _ (a .rest) in
+      record { kind = k; own = a .own; body = b .value; spans = a .spans; reads = b .first ∙ ap (got (b .value)) (got-place (b .rest)); whole = sym (got-value (b .rest)) }
+
+  binary-view : (k : Two) → binary (conditionAt levels) (termAt levels) k s (at + 1) ≡ got x n → TwoView s at x n
+  unfolding binary
+  binary-view k e =
+      let a = after-span s at _ e in
+      let b = split (conditionAt levels s (at + 9)) _ (a .rest) in
+      let d = split (conditionAt levels s (b .place)) _ (b .rest) in
+      record {
+        kind = k;
+        own = a .own;
+        left = b .value;
+        middle = b .place;
+        right = d .value;
+        spans = a .spans;
+        reads = b .first;
+        further = d .first ∙ ap (got (d .value)) (got-place (d .rest));
+        whole = sym (got-value (d .rest));
+      }
+
+  acting-view : predicateOf (conditionAt levels) (termAt levels) s (at + 1) ≡ got x n → PredicateView s at x n
+  unfolding predicateOf
+  acting-view e =
+      let a = after-span s at _ e in
+      let b = split (span s (at + 9)) _ (a .rest) in
+      let h = span-view s (at + 9) (b .first) .place in
+      let i : b .place ≡ at + 17 = omega arith in
+      let d = split (counted (each (stringOf pathName)) s (b .place)) _ (b .rest) in
+      let f = split (stringOf plain s (d .place)) _ (d .rest) in
+      let g = split (argumentList (conditionAt levels) (termAt levels) s (f .place)) _ (f .rest) in
+      record {
+        around = a .own;
+        own = b .value;
+        namespace = d .value;
+        name = d .place;
+        action = f .value;
+        list = f .place;
+        args = g .value;
+        spans = a .spans;
+        owns = b .first ∙ ap (got (b .value)) i;
+        lies = ap (counted (each (stringOf pathName)) s) (sym i) ∙ d .first;
+        acts = f .first;
+        lists = g .first ∙ ap (got (g .value)) (got-place (g .rest));
+        whole = sym (got-value (g .rest));
+      }
+
+  testing-view : comparisonOf (conditionAt levels) (termAt levels) s (at + 1) ≡ got x n → ComparisonView s at x n
+  unfolding comparisonOf
+  testing-view e =
+      let a = after-span s at _ e in
+      let b = split (operator s (at + 9)) _ (a .rest) in
+      let h = operator-view s (at + 9) (b .first) .0 in
+      let i : b .place ≡ at + 10 = omega arith in
+      let d = split (termAt levels false s (b .place)) _ (b .rest) in
+      let f = split (termAt levels false s (d .place)) _ (d .rest) in
+      record {
+        own = a .own;
+        test = b .value;
+        left = d .value;
+        middle = d .place;
+        right = f .value;
+        spans = a .spans;
+        tests = b .first ∙ ap (got (b .value)) i;
+        reads = ap (termAt levels false s) (sym i) ∙ d .first;
+        further = f .first ∙ ap (got (f .value)) (got-place (f .rest));
+        whole = sym (got-value (f .rest));
+      }
+
+  binding-view : existsOf (conditionAt levels) (termAt levels) s (at + 1) ≡ got x n → ExistsView s at x n
+  unfolding existsOf
+  binding-view e =
+      let a = after-span s at _ e in
+      let b = split (binder s (at + 9)) _ (a .rest) in
+      let d = split (conditionAt levels s (b .place)) _ (b .rest) in
+      record {
+        own = a .own;
+        declared = b .value;
+        middle = b .place;
+        body = d .value;
+        spans = a .spans;
+        declares = b .first;
+        reads = d .first ∙ ap (got (d .value)) (got-place (d .rest));
+        whole = sym (got-value (d .rest));
+      }
+
+  pointing-view : timepointOf s (at + 1) ≡ got x n → TimepointView s at x n
+  unfolding timepointOf
+  pointing-view e =
+      let a = after-span s at _ e in
+      let b = split (slot s (at + 9)) _ (a .rest) in
+      record { own = a .own; place = b .value; spans = a .spans; reads = b .first ∙ ap (got (b .value)) (got-place (b .rest)); whole = sym (got-value (b .rest)) }
+
+  bare-view : next (span s (at + 1)) (λ v m. got (opaque v) m) ≡ got x n → OpaqueView s at x n
+  bare-view e =
+      let a = after-span s at _ e in
+      record { own = a .own; spans = a .spans; end = sym (got-place (a .rest)); whole = sym (got-value (a .rest)) }
+
+-- SigilRef counts as Call
+abbrev pub conditionNumber : ℕ → ℕ
+conditionNumber k = cond (eqb k 12) 11 k
+
+-- what every condition has: its span and its kind
+pub record Head (s : List ℕ) (at : ℕ) (x : Condition) (k : ℕ) : Type 0 where
+  pub spans : span s (at + 1) ≡ got (spanOf x) (at + 9)
+  pub kind : conditionNumber k ≡ kindOf x
+
+head : {s : List ℕ} {at : ℕ} {x y : Condition} (k : ℕ) → span s (at + 1) ≡ got (spanOf y) (at + 9) → x ≡ y → conditionNumber k ≡ kindOf y → Head s at x k
+head k spans whole kind = record { spans = rw whole spans; kind = rw whole kind }
+
+pub no-value : {A : Type 0} {P : Type 0} {a : A} {n r : ℕ} → bad r ≡ got a n → P
+no-value e = let z : _≡_ {A = ℕ} 0 1 = cc in absurd (omega arith)
+
+module _ (s : List ℕ) (at : ℕ) {x : Condition} {n : ℕ} where
+  pub heads : (k : ℕ) → choose k (conditionKinds (conditionAt levels) (termAt levels)) s (at + 1) ≡ got x n → Head s at x k
+  unfolding choose conditionKinds Each keysUpTo unary-view binary-view
+  heads =
+      let ones : (j : One) → conditionNumber (oneNumber j) ≡ oneNumber j → unary (conditionAt levels) (termAt levels) j s (at + 1) ≡ got x n → Head s at x (oneNumber j) = λ j i e. let v = unary-view s at j e in head (oneNumber j) (v .spans) (v .whole) i in
+      let twos : (j : Two) → conditionNumber (twoNumber j) ≡ twoNumber j → binary (conditionAt levels) (termAt levels) j s (at + 1) ≡ got x n → Head s at x (twoNumber j) = λ j i e. let v = binary-view s at j e in head (twoNumber j) (v .spans) (v .whole) i in
+      by-kind s (at + 1) 13 (conditionKinds (conditionAt levels) (termAt levels)) refl (Head s at x)
+      ((((((((((((((tt, no-value), twos and refl), twos or refl), ones negation refl), ones formerly refl), ones previous refl), twos since refl), λ e. let v = acting-view s at e in head 7 (v .spans) (v .whole) refl), λ e. let v = testing-view s at e in head 8 (v .spans) (v .whole) refl), λ e. let v = binding-view s at e in head 9 (v .spans) (v .whole) refl), λ e. let v = pointing-view s at e in head 10 (v .spans) (v .whole) refl), λ e. let v = bare-view s at e in head 11 (v .spans) (v .whole) refl), λ e. let v = bare-view s at e in head 12 (v .spans) (v .whole) refl), ones refine refl)
+
+  pub ones : (k : ℕ) → choose k (conditionKinds (conditionAt levels) (termAt levels)) s (at + 1) ≡ got x n → oneKind k ≡ true → OneView s at x n
+  unfolding choose conditionKinds Each keysUpTo
+  ones =
+      by-kind s (at + 1) 13 (conditionKinds (conditionAt levels) (termAt levels)) refl (λ k. oneKind k ≡ true → OneView s at x n)
+      ((((((((((((((tt, λ _ h. absurd (false≢true h)), λ _ h. absurd (false≢true h)), λ _ h. absurd (false≢true h)), λ e h. unary-view s at negation e), λ e h. unary-view s at formerly e), λ e h. unary-view s at previous e), λ _ h. absurd (false≢true h)), λ _ h. absurd (false≢true h)), λ _ h. absurd (false≢true h)), λ _ h. absurd (false≢true h)), λ _ h. absurd (false≢true h)), λ _ h. absurd (false≢true h)), λ _ h. absurd (false≢true h)), λ e h. unary-view s at refine e)
+
+  pub twos : (k : ℕ) → choose k (conditionKinds (conditionAt levels) (termAt levels)) s (at + 1) ≡ got x n → twoKind k ≡ true → TwoView s at x n
+  unfolding choose conditionKinds Each keysUpTo
+  twos =
+      by-kind s (at + 1) 13 (conditionKinds (conditionAt levels) (termAt levels)) refl (λ k. twoKind k ≡ true → TwoView s at x n)
+      ((((((((((((((tt, λ _ h. absurd (false≢true h)), λ e h. binary-view s at and e), λ e h. binary-view s at or e), λ _ h. absurd (false≢true h)), λ _ h. absurd (false≢true h)), λ _ h. absurd (false≢true h)), λ e h. binary-view s at since e), λ _ h. absurd (false≢true h)), λ _ h. absurd (false≢true h)), λ _ h. absurd (false≢true h)), λ _ h. absurd (false≢true h)), λ _ h. absurd (false≢true h)), λ _ h. absurd (false≢true h)), λ _ h. absurd (false≢true h))
+
+-- One view for each shape, by the kind byte.
+module _ (s : List ℕ) (at : ℕ) {x : Condition} {n : ℕ} (e : conditionAt levels s at ≡ got x n) where
+  pub inside : at < length s
+  unfolding conditionAt
+  inside = u8-view s at (split (u8 s at) _ e .first) .0
+
+  inner : choose (getD s at 0) (conditionKinds (conditionAt levels) (termAt levels)) s (at + 1) ≡ got x n
+  unfolding conditionAt
+  inner =
+      let a = split (u8 s at) _ (condition-wider 32 33 (omega arith) s at x n e) in
+      let v = u8-view s at (a .first) in
+      let r = a .rest in
+      rw (← v .1, ← v .2) r
+
+  of-kind : (k : ℕ) → getD s at 0 ≡ k → choose k (conditionKinds (conditionAt levels) (termAt levels)) s (at + 1) ≡ got x n
+  of-kind k i = rw (← i) inner
+
+  pub head-view : Head s at x (getD s at 0)
+  head-view = heads s at (getD s at 0) inner
+
+  pub one-view : oneKind (getD s at 0) ≡ true → OneView s at x n
+  one-view = ones s at (getD s at 0) inner
+
+  pub two-view : twoKind (getD s at 0) ≡ true → TwoView s at x n
+  two-view = twos s at (getD s at 0) inner
+
+  pub predicate-view : getD s at 0 ≡ 7 → PredicateView s at x n
+  unfolding choose conditionKinds
+  predicate-view k = acting-view s at (of-kind 7 k)
+
+  pub comparison-view : getD s at 0 ≡ 8 → ComparisonView s at x n
+  unfolding choose conditionKinds
+  comparison-view k = testing-view s at (of-kind 8 k)
+
+  pub exists-view : getD s at 0 ≡ 9 → ExistsView s at x n
+  unfolding choose conditionKinds
+  exists-view k = binding-view s at (of-kind 9 k)
+
+  pub timepoint-view : getD s at 0 ≡ 10 → TimepointView s at x n
+  unfolding choose conditionKinds
+  timepoint-view k = pointing-view s at (of-kind 10 k)
+
+-- Terms.
+pub record ArithView (s : List ℕ) (at : ℕ) (t : Term) (n : ℕ) : Type 0 where
+  pub left : Term
+  pub middle : ℕ
+  pub right : Term
+  pub reads : termAt levels false s (at + 1) ≡ got left middle
+  pub further : termAt levels false s middle ≡ got right n
+  pub whole : t ≡ tree.arith left right
+
+-- a term that is one part behind its kind byte
+pub record PartView {A : Type 0} (f : Reader A) (make : A → Term) (s : List ℕ) (at : ℕ) (t : Term) (n : ℕ) : Type 0 where
+  pub part : A
+  pub reads : f s (at + 1) ≡ got part n
+  pub whole : t ≡ make part
+
+part-view : {A : Type 0} (f : Reader A) (make : A → Term) (s : List ℕ) (at : ℕ) {t : Term} {n : ℕ} → next (f s (at + 1)) (λ a m. got (make a) m) ≡ got t n → PartView f make s at t n
+part-view f make s at e = let a = split (f s (at + 1)) _ e in record { part = a .value; reads = a .first ∙ ap (got (a .value)) (got-place (a .rest)); whole = sym (got-value (a .rest)) }
+
+-- BinderRef counts as ParamRef
+abbrev pub termNumber : ℕ → ℕ
+termNumber k = cond (eqb k 14) 13 k
+
+-- a leaf: a term of any kind but an aggregate and an arithmetic
+abbrev pub isLeaf : ℕ → Bool
+isLeaf k = cond (eqb k 11) false (cond (eqb k 12) false true)
+
+module _ (s : List ℕ) (at : ℕ) {t : Term} {n : ℕ} where
+  adding-view : arithOf (conditionAt levels) (termAt levels) false s (at + 1) ≡ got t n → ArithView s at t n
+  unfolding arithOf
+  adding-view e =
+      let a = split (termAt levels false s (at + 1)) _ e in
+      let b = split (termAt levels false s (a .place)) _ (a .rest) in
+      record { left = a .value; middle = a .place; right = b .value; reads = a .first; further = b .first ∙ ap (got (b .value)) (got-place (b .rest)); whole = sym (got-value (b .rest)) }
+
+  numbers : (k : ℕ) → choose k (termKinds (conditionAt levels) (termAt levels) false) s (at + 1) ≡ got t n → termNumber k ≡ termKindOf t
+  unfolding choose termKinds Each keysUpTo
+  numbers =
+      let own : (u : Term) → got u (at + 1) ≡ got t n → termKindOf u ≡ termKindOf t = λ u e. ap termKindOf (got-value e) in
+      let is : (u : Term) → t ≡ u → termKindOf u ≡ termKindOf t = λ u e. ap termKindOf (sym e) in
+      by-kind s (at + 1) 14 (termKinds (conditionAt levels) (termAt levels) false) refl (λ k. termNumber k ≡ termKindOf t) (
+        (
+          (
+            (
+              (
+                (
+                  (
+                    (
+                      (
+                        ((((((tt, no-value), λ e. is _ (part-view (stringOf pathName) entity s at e .whole)), own (literal integer)), own (literal decimal)), own (literal string)), own (literal bool)),
+                        λ e. is _ (part-view pathOf contextField s at e .whole),
+                      ),
+                      λ e. is _ (part-view pathOf scopeField s at e .whole),
+                    ),
+                    λ e. is _ (part-view (stringOf plain) var s at e .whole),
+                  ),
+                  own wildcard,
+                ),
+                λ e. is _ (part-view (elementList (conditionAt levels) (termAt levels)) array s at e .whole),
+              ),
+              λ e. is _ (part-view (aggregateOf (conditionAt levels) (termAt levels)) aggregate s at e .whole),
+            ),
+            λ e. is _ (adding-view e .whole),
+          ),
+          own sigil,
+        ),
+        own sigil,
+      )
+
+-- One view for each shape, by the kind byte.
+module _ (s : List ℕ) (at : ℕ) {t : Term} {n : ℕ} (e : termAt levels false s at ≡ got t n) where
+  pub term-inside : at < length s
+  unfolding termAt
+  term-inside = u8-view s at (split (u8 s at) _ e .first) .0
+
+  inner-term : choose (getD s at 0) (termKinds (conditionAt levels) (termAt levels) false) s (at + 1) ≡ got t n
+  unfolding termAt
+  inner-term =
+      let a = split (u8 s at) _ (term-wider false 32 33 (omega arith) s at t n e) in
+      let v = u8-view s at (a .first) in
+      let r = a .rest in
+      rw (← v .1, ← v .2) r
+
+  of-term-kind : (k : ℕ) → getD s at 0 ≡ k → choose k (termKinds (conditionAt levels) (termAt levels) false) s (at + 1) ≡ got t n
+  of-term-kind k i = rw (← i) inner-term
+
+  pub term-number : termNumber (getD s at 0) ≡ termKindOf t
+  term-number = numbers s at (getD s at 0) inner-term
+
+  pub entity-view : getD s at 0 ≡ 1 → PartView (stringOf pathName) entity s at t n
+  unfolding choose termKinds
+  entity-view k = part-view _ _ s at (of-term-kind 1 k)
+
+  pub context-view : getD s at 0 ≡ 6 → PartView pathOf contextField s at t n
+  unfolding choose termKinds
+  context-view k = part-view _ _ s at (of-term-kind 6 k)
+
+  pub scope-view : getD s at 0 ≡ 7 → PartView pathOf scopeField s at t n
+  unfolding choose termKinds
+  scope-view k = part-view _ _ s at (of-term-kind 7 k)
+
+  pub var-view : getD s at 0 ≡ 8 → PartView (stringOf plain) var s at t n
+  unfolding choose termKinds
+  var-view k = part-view _ _ s at (of-term-kind 8 k)
+
+  pub array-view : getD s at 0 ≡ 10 → PartView (elementList (conditionAt levels) (termAt levels)) array s at t n
+  unfolding choose termKinds
+  array-view k = part-view _ _ s at (of-term-kind 10 k)
+
+  pub aggregate-view : getD s at 0 ≡ 11 → PartView (aggregateOf (conditionAt levels) (termAt levels)) aggregate s at t n
+  unfolding choose termKinds
+  aggregate-view k = part-view _ _ s at (of-term-kind 11 k)
+
+  pub arith-view : getD s at 0 ≡ 12 → ArithView s at t n
+  unfolding choose termKinds
+  arith-view k = adding-view s at (of-term-kind 12 k)
+
+-- Aggregates, from their own kind byte on.
+pub record SumView (s : List ℕ) (at : ℕ) (x : Aggregate) (n : ℕ) : Type 0 where
+  pub own : Span
+  pub summand : Slot
+  pub list : ℕ
+  pub declared : List Binder
+  pub middle : ℕ
+  pub body : Condition
+  pub spans : span s (at + 1) ≡ got own (at + 9)
+  pub adds : slot s (at + 9) ≡ got summand list
+  pub declares : counted (each binder) s list ≡ got declared middle
+  pub reads : conditionAt levels s middle ≡ got body n
+  pub whole : x ≡ sum own summand declared body
+
+pub record CountView (s : List ℕ) (at : ℕ) (x : Aggregate) (n : ℕ) : Type 0 where
+  pub own : Span
+  pub declared : List Binder
+  pub middle : ℕ
+  pub body : Condition
+  pub spans : span s (at + 1) ≡ got own (at + 9)
+  pub declares : counted (each binder) s (at + 9) ≡ got declared middle
+  pub reads : conditionAt levels s middle ≡ got body n
+  pub whole : x ≡ count own declared body
+
+pub record CallView (s : List ℕ) (at : ℕ) (x : Aggregate) (n : ℕ) : Type 0 where
+  pub own : Span
+  pub spans : span s (at + 1) ≡ got own (at + 9)
+  pub end : n ≡ at + 9
+  pub whole : x ≡ call own
+
+pub record AggregateHead (s : List ℕ) (at : ℕ) (x : Aggregate) (k : ℕ) : Type 0 where
+  pub spans : span s (at + 1) ≡ got (aggregateSpanOf x) (at + 9)
+  pub kind : k ≡ aggregateKindOf x
+
+aggregate-head : {s : List ℕ} {at : ℕ} {x y : Aggregate} (k : ℕ) → span s (at + 1) ≡ got (aggregateSpanOf y) (at + 9) → x ≡ y → k ≡ aggregateKindOf y → AggregateHead s at x k
+aggregate-head k spans whole kind = record { spans = rw whole spans; kind = rw whole kind }
+
+module _ (s : List ℕ) (at : ℕ) {x : Aggregate} {n : ℕ} where
+  summing-view : sumOf (conditionAt levels) (termAt levels) s (at + 1) ≡ got x n → SumView s at x n
+  unfolding sumOf
+  summing-view e =
+      let a = after-span s at _ e in
+      let b = split (slot s (at + 9)) _ (a .rest) in
+      let d = split (counted (each binder) s (b .place)) _ (b .rest) in
+      let f = split (conditionAt levels s (d .place)) _ (d .rest) in
+      record {
+        own = a .own;
+        summand = b .value;
+        list = b .place;
+        declared = d .value;
+        middle = d .place;
+        body = f .value;
+        spans = a .spans;
+        adds = b .first;
+        declares = d .first;
+        reads = f .first ∙ ap (got (f .value)) (got-place (f .rest));
+        whole = sym (got-value (f .rest));
+      }
+
+  counting-view : countOf (conditionAt levels) (termAt levels) s (at + 1) ≡ got x n → CountView s at x n
+  unfolding countOf
+  counting-view e =
+      let a = after-span s at _ e in
+      let d = split (counted (each binder) s (at + 9)) _ (a .rest) in
+      let f = split (conditionAt levels s (d .place)) _ (d .rest) in
+      record {
+        own = a .own;
+        declared = d .value;
+        middle = d .place;
+        body = f .value;
+        spans = a .spans;
+        declares = d .first;
+        reads = f .first ∙ ap (got (f .value)) (got-place (f .rest));
+        whole = sym (got-value (f .rest));
+      }
+
+  calling-view : next (span s (at + 1)) (λ v m. got (call v) m) ≡ got x n → CallView s at x n
+  calling-view e =
+      let a = after-span s at _ e in
+      record { own = a .own; spans = a .spans; end = sym (got-place (a .rest)); whole = sym (got-value (a .rest)) }
+
+  aggregate-heads : (k : ℕ) → choose k (aggregateKinds (conditionAt levels) (termAt levels)) s (at + 1) ≡ got x n → AggregateHead s at x k
+  unfolding choose aggregateKinds Each keysUpTo
+  aggregate-heads =
+      by-kind s (at + 1) 3 (aggregateKinds (conditionAt levels) (termAt levels)) refl (AggregateHead s at x)
+      ((((tt, no-value), λ e. let v = summing-view e in aggregate-head 1 (v .spans) (v .whole) refl), λ e. let v = counting-view e in aggregate-head 2 (v .spans) (v .whole) refl), λ e. let v = calling-view e in aggregate-head 3 (v .spans) (v .whole) refl)
+
+module _ (s : List ℕ) (at : ℕ) {x : Aggregate} {n : ℕ} (e : aggregateOf (conditionAt levels) (termAt levels) s at ≡ got x n) where
+  inner-aggregate : choose (getD s at 0) (aggregateKinds (conditionAt levels) (termAt levels)) s (at + 1) ≡ got x n
+  unfolding aggregateOf
+  inner-aggregate =
+      let a = split (u8 s at) _ e in
+      let v = u8-view s at (a .first) in
+      let r = a .rest in
+      rw (← v .1, ← v .2) r
+
+  of-aggregate-kind : (k : ℕ) → getD s at 0 ≡ k → choose k (aggregateKinds (conditionAt levels) (termAt levels)) s (at + 1) ≡ got x n
+  of-aggregate-kind k i = rw (← i) inner-aggregate
+
+  pub aggregate-head-view : AggregateHead s at x (getD s at 0)
+  aggregate-head-view = aggregate-heads s at (getD s at 0) inner-aggregate
+
+  pub sum-view : getD s at 0 ≡ 1 → SumView s at x n
+  unfolding choose aggregateKinds
+  sum-view k = summing-view s at (of-aggregate-kind 1 k)
+
+  pub count-view : getD s at 0 ≡ 2 → CountView s at x n
+  unfolding choose aggregateKinds
+  count-view k = counting-view s at (of-aggregate-kind 2 k)
+
+  pub call-view : getD s at 0 ≡ 3 → CallView s at x n
+  unfolding choose aggregateKinds
+  call-view k = calling-view s at (of-aggregate-kind 3 k)

@@ -1,0 +1,4 @@
+pub mod Kinds
+pub mod Open
+pub mod Parts
+pub mod Laws

@@ -1,0 +1,499 @@
+// The parts of conditions, terms and aggregates that stand in an accepted record.
+//
+// | function | asks | tells of its answer (`specs/Open`, `specs/Parts`) |
+// |---|---|---|
+// | `kind_at(s, at)` | `isCondition` | `Opened`: `kindOf (conditionIn s at)`, document 01's number |
+// | `span_at`, `own_span_at` | `isCondition`; 7 | `Spans (spanOf ..)`, `Spans (ownSpanOf ..)` |
+// | `comparison_at` | kind 8 | `ComparisonHere`: operator's number, places of both operands, the tree |
+// | `predicate_at` | kind 7 | `PredicateHere`: namespace as a `Listed`, action's place, arguments, the tree |
+// | `argument_at(s, n, at)` | `isArguments s n at`, `0 < n` | `ArgumentHere`: field path, term, the rest; `arguments-over` where n is 0 |
+// | `timepoint_at`, `exists_at` | kind 10, 9 | `TimepointHere`: the slot; `ExistsHere`: the binder |
+// | `term_kind_at(s, at)` | `isTerm` | `TermOpened`: `termKindOf (termIn s at)` |
+// | `entity_at`, `var_at` | kind 1, 8 | `termIn s at ≡ entity (wordAt s r)`, `.. var (wordAt s r)` |
+// | `context_at`, `scope_at` | kind 6, 7 | `PathHere contextField`, `PathHere scopeField` |
+// | `elements_at`, `past_element(s, n, at)` | kind 10; `isElements s n at`, `0 < n` | `ElementsHere`, `ElementHere`; `elements-over` where n is 0 |
+// | `arith_at` | kind 12 | `ArithHere`: the places of both operands |
+// | `aggregate_at` | kind 11 | `AggregateHere`: the place of its own kind byte, which the next four take |
+// | `aggregate_kind_at`, `aggregate_span_at` | `isAggregate` | `AggregateOpened`: 1 Sum, 2 Count, 3 Call; `Spans (aggregateSpanOf ..)` |
+// | `summand_at`, `binders_at`, `body_at` | kind 1; not 3; not 3 | `SummandHere`, `BindersHere`, `BodyHere` |
+// | `slot_at` | `isSlot` | `slotIn s at ≡ slotOf s r` |
+// | `path_at`, `segments_at` | `isPath`, `SegmentsHere` | `Listed` |
+// | `last_segment` | `SegmentsHere` | `wordAt s r ≡ lastOf (segmentsIn s at)` |
+// | `past_term`, `past_condition`, .. | one stands there | `Skipped`: the place behind it |
+use crate::ArgumentAt;
+use crate::Bound;
+use crate::ComparisonAt;
+use crate::Ends;
+use crate::Operands;
+use crate::PredicateAt;
+use crate::Several;
+use crate::SlotAt;
+use condition::read_binder;
+use condition::read_binders;
+use condition::read_slot;
+use condition::read_subcondition;
+use condition::read_term;
+use names::Read;
+ghost use mathlib.Core.Path.{_≡_};
+ghost use mathlib.Core.Bool.{true, false};
+ghost use mathlib.Core.Option.{some};
+ghost use Prim.Native.Nat.{_+_, _*_, _<_, _≤_};
+ghost use lib.ListN.{length, take, drop};
+ghost use Rattle.names.specs.Fields.{each, counted, stringOf, number, levels};
+ghost use Rattle.names.specs.Names.{plain, pathName, identifier, lastOf};
+ghost use Rattle.names.specs.Paths.{pathOf};
+ghost use Rattle.names.specs.Read.{accepted, ending, wordAt, Listed};
+ghost use Rattle.names.specs.declared.Read.the-variants.{Next};
+ghost use Rattle.condition.specs.Condition.{entity, contextField, scopeField, var, slot, binder, conditionAt, termAt};
+ghost use Rattle.condition.specs.Places.{isCondition, conditionIn, isTerm, termIn, isAggregate, aggregateIn, isArguments, isElements, isPath, pathIn, isSlot, slotIn, isAnnotation, annotationIn, isBinder};
+ghost use Rattle.nodes.specs.Kinds.{kindOf, spanOf, ownSpanOf, oneKind, twoKind, termKindOf, aggregateKindOf, aggregateSpanOf};
+ghost use Rattle.nodes.specs.Open.{placeOf, Skipped, Opened, TermOpened, AggregateOpened, AggregateHere, BodyHere};
+ghost use Rattle.nodes.specs.Parts.{EndsHere, Spans, ComparisonHere, ArithHere, PredicateHere, ArgumentHere, TimepointHere, ExistsHere, ElementsHere, ElementHere, PathHere, SummandHere, BindersHere, isBinders, slotOf, segmentsIn, SegmentsHere, Says, stringsAt};
+
+// The place behind what was read; `other` where it was refused.
+fn place_of(r: Read, other: usize) -> usize
+    ensures { λ n. ⌜ n ≡ placeOf other r ⌝ }
+{
+    match r {
+        Read::Next(n) => n,
+        Read::Refused(_) => other,
+    }
+}
+
+// The place behind a slot, a binder, binders with their count, path names with theirs, a path, a condition, a term.
+pub fn past_slot(s: &[u8], at: usize) -> usize
+    requires { ⌜ isSlot (now s) at ≡ true ⌝ }
+    ensures { λ n. ⌜ Skipped (slot (now (s .entry)) at) at n ⌝ }
+{
+    place_of(read_slot(s, at), at)
+}
+
+pub fn past_binder(s: &[u8], at: usize) -> usize
+    requires { ⌜ isBinder (now s) at ≡ true ⌝ }
+    ensures { λ n. ⌜ Skipped (binder (now (s .entry)) at) at n ⌝ }
+{
+    place_of(read_binder(s, at), at)
+}
+
+pub fn past_binders(s: &[u8], at: usize) -> usize
+    requires { ⌜ isBinders (now s) at ≡ true ⌝ }
+    ensures { λ n. ⌜ Skipped (counted (each binder) (now (s .entry)) at) at n ⌝ }
+{
+    place_of(read_binders(s, at), at)
+}
+
+// Strings of whatever class, whose count stands at `start`, are passed by their lengths.
+fn past_strings(s: &[u8], start: usize) -> usize
+    requires { ⌜ accepted (stringsAt (now s) start) ≡ true ⌝ }
+    ensures { λ n. ⌜ Next n ≡ ending (stringsAt (now (s .entry)) start) ⌝ }
+{
+    let mut at = start + 1;
+    let mut left = names::wide(s[start]);
+    while 0 < left {
+        at = names::past_word(s, at);
+        left -= 1;
+    }
+    at
+}
+
+fn past_names(s: &[u8], at: usize) -> usize
+    requires { ⌜ accepted (counted (each (stringOf pathName)) (now s) at) ≡ true ⌝ }
+    ensures { λ n. ⌜ Skipped (counted (each (stringOf pathName)) (now (s .entry)) at) at n ⌝ }
+{
+    past_strings(s, at)
+}
+
+fn past_path(s: &[u8], at: usize) -> usize
+    requires { ⌜ isPath (now s) at ≡ true ⌝ }
+    ensures { λ n. ⌜ Skipped (pathOf (now (s .entry)) at) at n ⌝ }
+{
+    past_strings(s, at)
+}
+
+pub fn past_condition(s: &[u8], at: usize) -> usize
+    requires { ⌜ isCondition (now s) at ≡ true ⌝ }
+    ensures { λ n. ⌜ Skipped (conditionAt levels (now (s .entry)) at) at n ⌝ }
+{
+    place_of(read_subcondition(s, at, 32), at)
+}
+
+pub fn past_term(s: &[u8], at: usize) -> usize
+    requires { ⌜ isTerm (now s) at ≡ true ⌝ }
+    ensures { λ n. ⌜ Skipped (termAt levels false (now (s .entry)) at) at n ⌝ }
+{
+    let kind = term_kind_at(s, at);
+    let next = at + 1;
+    if kind == 8 {
+        return names::past_word(s, next);
+    }
+    if kind == 1 {
+        return names::past_word(s, next);
+    }
+    if kind == 6 {
+        return past_path(s, next);
+    }
+    if kind == 7 {
+        return past_path(s, next);
+    }
+    place_of(read_term(s, at, 32, false), at)
+}
+
+// The kind of the condition at `at` by document 01's number; a SigilRef is 11, as a Call.
+pub fn kind_at(s: &[u8], at: usize) -> u8
+    requires { ⌜ isCondition (now s) at ≡ true ⌝ }
+    ensures { λ k. ⌜ Opened (now (s .entry)) at k ⌝ }
+{
+    let kind = s[at];
+    if kind == 12 {
+        return 11;
+    }
+    kind
+}
+
+// The kinds with one condition in them, and those with two.
+pub fn has_one(kind: u8) -> bool
+    ensures { λ r. ⌜ r ≡ oneKind kind ⌝ }
+{
+    if kind == 3 {
+        return true;
+    }
+    if kind == 4 {
+        return true;
+    }
+    if kind == 5 {
+        return true;
+    }
+    if kind == 13 {
+        return true;
+    }
+    false
+}
+
+pub fn has_two(kind: u8) -> bool
+    ensures { λ r. ⌜ r ≡ twoKind kind ⌝ }
+{
+    if kind == 1 {
+        return true;
+    }
+    if kind == 2 {
+        return true;
+    }
+    if kind == 6 {
+        return true;
+    }
+    false
+}
+
+// The kind of the term at `at` by document 01's number; a BinderRef is 13, as a ParamRef.
+pub fn term_kind_at(s: &[u8], at: usize) -> u8
+    requires { ⌜ isTerm (now s) at ≡ true ⌝ }
+    ensures { λ k. ⌜ TermOpened (now (s .entry)) at k ⌝ }
+{
+    let kind = s[at];
+    if kind == 14 {
+        return 13;
+    }
+    kind
+}
+
+// Where the aggregate that is the term at `at` has its own kind byte.
+pub fn aggregate_at(s: &[u8], at: usize) -> usize
+    requires { ⌜ isTerm (now s) at ≡ true ⌝ }
+    requires { ⌜ termKindOf (termIn (now s) at) ≡ 11 ⌝ }
+    ensures { λ p. ⌜ AggregateHere (now (s .entry)) at p ⌝ }
+{
+    at + 1
+}
+
+pub fn aggregate_kind_at(s: &[u8], at: usize) -> u8
+    requires { ⌜ isAggregate (now s) at ≡ true ⌝ }
+    ensures { λ k. ⌜ AggregateOpened (now (s .entry)) at k ⌝ }
+{
+    s[at]
+}
+
+// Where the body of a Sum or a Count stands.
+pub fn body_at(s: &[u8], at: usize) -> usize
+    requires { ⌜ isAggregate (now s) at ≡ true ⌝ }
+    requires { ⌜ (aggregateKindOf (aggregateIn (now s) at) ≡ 3 → ⊥) ⌝ }
+    ensures { λ p. ⌜ BodyHere (now (s .entry)) at p ⌝ }
+{
+    if aggregate_kind_at(s, at) == 1 {
+        return past_binders(s, past_slot(s, at + 9));
+    }
+    past_binders(s, at + 9)
+}
+
+// Where the count of a Sum's or a Count's binders stands.
+pub fn binders_at(s: &[u8], at: usize) -> usize
+    requires { ⌜ isAggregate (now s) at ≡ true ⌝ }
+    requires { ⌜ (aggregateKindOf (aggregateIn (now s) at) ≡ 3 → ⊥) ⌝ }
+    ensures { λ p. ⌜ BindersHere (now (s .entry)) at p ⌝ }
+{
+    if aggregate_kind_at(s, at) == 1 {
+        return past_slot(s, at + 9);
+    }
+    at + 9
+}
+
+// Where the slot of a Sum stands.
+pub fn summand_at(s: &[u8], at: usize) -> usize
+    requires { ⌜ isAggregate (now s) at ≡ true ⌝ }
+    requires { ⌜ aggregateKindOf (aggregateIn (now s) at) ≡ 1 ⌝ }
+    ensures { λ p. ⌜ SummandHere (now (s .entry)) at p ⌝ }
+{
+    at + 9
+}
+
+fn quad(a: usize, b: usize, c: usize, d: usize) -> u32
+    requires { ⌜ (a < 256) × (b < 256) × (c < 256) × (d < 256) ⌝ }
+    ensures { λ r. ⌜ r ≡ ((a * 256 + b) * 256 + c) * 256 + d ⌝ }
+{
+    (((a * 256 + b) * 256 + c) * 256 + d) as u32
+}
+
+fn u32_at(s: &[u8], at: usize) -> u32
+    requires { ⌜ at + 4 ≤ length (now s) ⌝ }
+    ensures { λ r. ⌜ r ≡ number 0 (take 4 (drop at (now (s .entry)))) ⌝ }
+{
+    let a = names::wide(s[at]);
+    let b = names::wide(s[at + 1]);
+    let c = names::wide(s[at + 2]);
+    let d = names::wide(s[at + 3]);
+    quad(a, b, c, d)
+}
+
+fn ends_at(s: &[u8], at: usize) -> Ends
+    requires { ⌜ at + 8 ≤ length (now s) ⌝ }
+    ensures { λ r. ⌜ EndsHere (now (s .entry)) at r ⌝ }
+{
+    let start = u32_at(s, at);
+    let end = u32_at(s, at + 4);
+    Ends {
+        start: start,
+        end: end,
+    }
+}
+
+// The span of the condition at `at`, a predicate's own span, an aggregate's span.
+pub fn span_at(s: &[u8], at: usize) -> Ends
+    requires { ⌜ isCondition (now s) at ≡ true ⌝ }
+    ensures { λ r. ⌜ Spans (spanOf (conditionIn (now (s .entry)) at)) r ⌝ }
+{
+    ends_at(s, at + 1)
+}
+
+pub fn own_span_at(s: &[u8], at: usize) -> Ends
+    requires { ⌜ isCondition (now s) at ≡ true ⌝ }
+    requires { ⌜ kindOf (conditionIn (now s) at) ≡ 7 ⌝ }
+    ensures { λ r. ⌜ Spans (ownSpanOf (conditionIn (now (s .entry)) at)) r ⌝ }
+{
+    ends_at(s, at + 9)
+}
+
+pub fn aggregate_span_at(s: &[u8], at: usize) -> Ends
+    requires { ⌜ isAggregate (now s) at ≡ true ⌝ }
+    ensures { λ r. ⌜ Spans (aggregateSpanOf (aggregateIn (now (s .entry)) at)) r ⌝ }
+{
+    ends_at(s, at + 1)
+}
+
+// The parts of a comparison, of an arithmetic.
+pub fn comparison_at(s: &[u8], at: usize) -> ComparisonAt
+    requires { ⌜ isCondition (now s) at ≡ true ⌝ }
+    requires { ⌜ kindOf (conditionIn (now s) at) ≡ 8 ⌝ }
+    ensures { λ r. ⌜ ComparisonHere (now (s .entry)) at r ⌝ }
+{
+    let operator = s[at + 9];
+    let left = at + 10;
+    let right = past_term(s, left);
+    ComparisonAt {
+        operator: operator,
+        left: left,
+        right: right,
+    }
+}
+
+pub fn arith_at(s: &[u8], at: usize) -> Operands
+    requires { ⌜ isTerm (now s) at ≡ true ⌝ }
+    requires { ⌜ termKindOf (termIn (now s) at) ≡ 12 ⌝ }
+    ensures { λ r. ⌜ ArithHere (now (s .entry)) at r ⌝ }
+{
+    let left = at + 1;
+    let right = past_term(s, left);
+    Operands {
+        left: left,
+        right: right,
+    }
+}
+
+// The parts of a predicate, and of the first of so many arguments.
+pub fn predicate_at(s: &[u8], at: usize) -> PredicateAt
+    requires { ⌜ isCondition (now s) at ≡ true ⌝ }
+    requires { ⌜ kindOf (conditionIn (now s) at) ≡ 7 ⌝ }
+    ensures { λ r. ⌜ PredicateHere (now (s .entry)) at r ⌝ }
+{
+    let namespace = at + 17;
+    let names = names::wide(s[namespace]);
+    let action = past_names(s, namespace);
+    let list = names::past_word(s, action);
+    let count = names::wide(s[list]);
+    PredicateAt {
+        names: names,
+        namespace: namespace + 1,
+        action: action,
+        count: count,
+        first: list + 1,
+    }
+}
+
+pub fn argument_at(s: &[u8], count: usize, at: usize) -> ArgumentAt
+    requires { ⌜ isArguments (now s) count at ≡ true ⌝ }
+    requires { ⌜ 0 < count ⌝ }
+    ensures { λ r. ⌜ ArgumentHere (now (s .entry)) count at r ⌝ }
+{
+    let field = names::past_word(s, at);
+    let term = past_path(s, field);
+    let next = past_term(s, term);
+    ArgumentAt {
+        field: field,
+        term: term,
+        next: next,
+    }
+}
+
+// Where the slot of a timepoint stands, and the binder of an Exists.
+pub fn timepoint_at(s: &[u8], at: usize) -> usize
+    requires { ⌜ isCondition (now s) at ≡ true ⌝ }
+    requires { ⌜ kindOf (conditionIn (now s) at) ≡ 10 ⌝ }
+    ensures { λ p. ⌜ TimepointHere (now (s .entry)) at p ⌝ }
+{
+    at + 9
+}
+
+pub fn exists_at(s: &[u8], at: usize) -> usize
+    requires { ⌜ isCondition (now s) at ≡ true ⌝ }
+    requires { ⌜ kindOf (conditionIn (now s) at) ≡ 9 ⌝ }
+    ensures { λ p. ⌜ ExistsHere (now (s .entry)) at p ⌝ }
+{
+    at + 9
+}
+
+// Where the name of an entity or a variable stands, and the path of a field.
+pub fn entity_at(s: &[u8], at: usize) -> usize
+    requires { ⌜ isTerm (now s) at ≡ true ⌝ }
+    requires { ⌜ termKindOf (termIn (now s) at) ≡ 1 ⌝ }
+    ensures { λ p. ⌜ termIn (now (s .entry)) at ≡ entity (wordAt (now (s .entry)) p) ⌝ }
+{
+    at + 1
+}
+
+pub fn var_at(s: &[u8], at: usize) -> usize
+    requires { ⌜ isTerm (now s) at ≡ true ⌝ }
+    requires { ⌜ termKindOf (termIn (now s) at) ≡ 8 ⌝ }
+    ensures { λ p. ⌜ termIn (now (s .entry)) at ≡ var (wordAt (now (s .entry)) p) ⌝ }
+{
+    at + 1
+}
+
+pub fn context_at(s: &[u8], at: usize) -> usize
+    requires { ⌜ isTerm (now s) at ≡ true ⌝ }
+    requires { ⌜ termKindOf (termIn (now s) at) ≡ 6 ⌝ }
+    ensures { λ p. ⌜ PathHere contextField (now (s .entry)) at p ⌝ }
+{
+    at + 1
+}
+
+pub fn scope_at(s: &[u8], at: usize) -> usize
+    requires { ⌜ isTerm (now s) at ≡ true ⌝ }
+    requires { ⌜ termKindOf (termIn (now s) at) ≡ 7 ⌝ }
+    ensures { λ p. ⌜ PathHere scopeField (now (s .entry)) at p ⌝ }
+{
+    at + 1
+}
+
+// The elements of an array, and the place behind the first of so many.
+pub fn elements_at(s: &[u8], at: usize) -> Several
+    requires { ⌜ isTerm (now s) at ≡ true ⌝ }
+    requires { ⌜ termKindOf (termIn (now s) at) ≡ 10 ⌝ }
+    ensures { λ r. ⌜ ElementsHere (now (s .entry)) at r ⌝ }
+{
+    let count = names::wide(s[at + 1]);
+    Several {
+        count: count,
+        first: at + 2,
+    }
+}
+
+pub fn past_element(s: &[u8], count: usize, at: usize) -> usize
+    requires { ⌜ isElements (now s) count at ≡ true ⌝ }
+    requires { ⌜ 0 < count ⌝ }
+    ensures { λ p. ⌜ ElementHere (now (s .entry)) count at p ⌝ }
+{
+    past_term(s, at)
+}
+
+// The strings of a path, the segments of an annotation.
+pub fn path_at(s: &[u8], at: usize) -> Several
+    requires { ⌜ isPath (now s) at ≡ true ⌝ }
+    ensures { λ r. ⌜ Listed (stringOf plain) (now (s .entry)) (pathIn (now (s .entry)) at) (r .count) (r .first) ⌝ }
+{
+    let first = at + 1;
+    let count = names::wide(s[at]);
+    Several {
+        count: count,
+        first: first,
+    }
+}
+
+pub fn segments_at(s: &[u8], at: usize) -> Several
+    requires { ⌜ SegmentsHere (now s) at ⌝ }
+    ensures { λ r. ⌜ Listed (stringOf identifier) (now (s .entry)) (segmentsIn (now (s .entry)) at) (r .count) (r .first) ⌝ }
+{
+    let first = at + 1;
+    let count = names::wide(s[at]);
+    Several {
+        count: count,
+        first: first,
+    }
+}
+
+// Where the last segment of an annotation stands.
+pub fn last_segment(s: &[u8], start: usize) -> usize
+    requires { ⌜ SegmentsHere (now s) start ⌝ }
+    ensures { λ p. ⌜ wordAt (now (s .entry)) p ≡ lastOf (segmentsIn (now (s .entry)) start) ⌝ }
+{
+    let mut at = start + 1;
+    let mut rest = names::wide(s[start]);
+    while 1 < rest {
+        at = names::past_word(s, at);
+        rest -= 1;
+    }
+    at
+}
+
+// A slot: where its name stands, or which sigil it is.
+pub fn slot_at(s: &[u8], at: usize) -> SlotAt
+    requires { ⌜ isSlot (now s) at ≡ true ⌝ }
+    ensures { λ r. ⌜ slotIn (now (s .entry)) at ≡ slotOf (now (s .entry)) r ⌝ }
+{
+    let kind = s[at];
+    if kind == 0 {
+        return SlotAt::Named(at + 1);
+    }
+    if kind == 1 {
+        return SlotAt::ParamRef;
+    }
+    SlotAt::BinderRef
+}
+
+// What an annotation binds.
+pub fn bound_at(s: &[u8], at: usize) -> Bound
+    requires { ⌜ isAnnotation (now s) at ≡ true ⌝ }
+    ensures { λ r. ⌜ Says (now (s .entry)) (some (annotationIn (now (s .entry)) at)) r ⌝ }
+{
+    if s[at] == 0 {
+        return Bound::Timepoint;
+    }
+    Bound::Segments(at)
+}
