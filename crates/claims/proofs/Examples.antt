@@ -15,8 +15,8 @@ use Rattle.terms.proofs.Examples as terms-proofs
 use Rattle.condition.specs.Condition as condition
 use Rattle.condition.specs.Condition.{Span, Term, entity, literal, contextField, scopeField, var, wildcard, array, nil, aggregate, sigil}
 use Rattle.terms.specs.Terms.{Facts, termType, elementTypes, arrayOf}
 use Rattle.typecheck.specs.Check.{numericBreaches, likeBreaches, leafBreaches, arithmeticBreaches, nodeBreaches}
-use Rattle.typecheck.specs.Examples.{Anywhere, ArrayTerm, rows, edges}
+use Rattle.claims.specs.Examples.{Anywhere, ArrayTerm, rows, edges}
 
 -- what is an array is no arithmetic
 no-arithmetic : (f : Facts) (at : Span) (t : Term) (ty : Ty) → termType (some f) t ≡ some ty → isArray ty ≡ true → arithmeticBreaches f at t ≡ []

@@ -1,0 +1,4 @@
+pub mod Written
+pub mod Breaches
+pub mod Examples
+pub mod WholeRun
