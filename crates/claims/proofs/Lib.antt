@@ -1,4 +1,4 @@
 pub mod Written
 pub mod Demand3
-pub mod Examples
 pub mod WholeRun
+pub mod Examples
