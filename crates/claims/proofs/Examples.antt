@@ -19,7 +19,7 @@ use Rattle.targets.specs.Targets.{Target, Scope, Narrowing, any}
 use Rattle.resolution.specs.Resolution.{scopePath, admitted, declaredAll, onTypes, onEntity, unattributed, projection, verdict, failed, failure, typesOf, typed, agreed, sideAdmits, admitsAnyEnv}
 use Rattle.condition.specs.Condition as condition
 use Rattle.condition.specs.Condition.{Span, Condition, Term, Annotation, Binder, Operator, path, comparison, entity, literal, contextField, scopeField, var, wildcard, array, nil, cons, aggregate, sigil}
-use Rattle.condition.specs.Walk.{reached, reachedIn, operandBinders, declares, binders, namedHere, lastNamed}
+use Rattle.condition.specs.Walk.{reached, reachedIn, operandAggregates, operandBinders, declares, binders, namedHere, lastNamed}
 use Rattle.terms.specs.Terms.{Facts, factsOf, wordType, annotationType, inputType, varType, sideType, rootType, scopeFieldType, allLike, arrayOf, elementTypes, termType}
 use Rattle.typecheck.specs.Check.{numericBreaches, likeBreaches, operandsBy, ordering, argumentBreach, argumentBreaches, leafBreaches, arithmeticBreaches, nodeBreaches, breachesUnder}
 use Rattle.reports.specs.Reports.{Breach}
@@ -190,7 +190,7 @@ module _ (x : AnyName) where
   one = declaring x (λ at v. comparison at condition.eq v integer)
 
   one-long : varType (factsIn (x .under) one) (x .name) ≡ some (scalar types.long)
-  unfolding binders gather declares reached reachedIn operandBinders lastNamed annotationType wordType lastOf same text
+  unfolding binders gather declares reached reachedIn operandBinders operandAggregates lastNamed annotationType wordType lastOf same text
   one-long = declared-type (x .under) one (x .name) (text "Long") [] [] refl refl
 
   one-reports : reports (x .under) one ≡ 0
@@ -202,7 +202,7 @@ module _ (x : AnyName) where
   listed-reports = computed (x .under) _
 
   twice-string : varType (factsIn (x .under) (twice x)) (x .name) ≡ some (scalar types.string)
-  unfolding binders gather declares reached reachedIn operandBinders lastNamed annotationType wordType lastOf same text
+  unfolding binders gather declares reached reachedIn operandBinders operandAggregates lastNamed annotationType wordType lastOf same text
   twice-string = declared-type (x .under) (twice x) (x .name) (text "String") (binderOf (x .name) (text "Long") ∷ []) [] refl refl
 
   twice-reports : reports (x .under) (twice x) ≡ 1
