@@ -20,14 +20,14 @@ use Rattle.targets.specs.Targets.{targetRecord}
 use Rattle.targets.specs.PathRecord.{targetAt}
 use Rattle.targets.specs.Places.{targetsIn, isTarget, targetIn, FindsTarget}
 use Rattle.condition.specs.Condition.{Condition, one, two, predicate, comparison, exists, tp, opaque, conditionRecord}
-use Rattle.condition.specs.Kinds.{kindOf, spanOf}
+use Rattle.nodes.specs.Kinds.{kindOf, spanOf}
 use Rattle.condition.specs.Places.{recordIn, isCondition, conditionIn, isTerm, termIn}
-use Rattle.condition.specs.Open.{Opened}
-use Rattle.condition.specs.Parts.{ComparisonHere}
+use Rattle.nodes.specs.Open.{Opened}
+use Rattle.nodes.specs.Parts.{ComparisonHere}
 use Rattle.condition.specs.Walk.{binders}
-use Rattle.condition.specs.Environment.{Environment}
-use Rattle.condition.specs.declared.ComparisonAt.{ComparisonAt}
-use Rattle.condition.proofs.ByPlace.{record-starts, record-value}
+use Rattle.walk.specs.Environment.{Environment}
+use Rattle.nodes.specs.declared.ComparisonAt.{ComparisonAt}
+use Rattle.walk.proofs.ByPlace.{record-starts, record-value}
 use Rattle.resolution.specs.Places.{typedOf}
 use Rattle.resolution.specs.declared.Typed.{Typed}
 use Rattle.terms.specs.Terms.{factsOf, termType}

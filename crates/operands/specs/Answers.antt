@@ -5,7 +5,7 @@ use mathlib.Core.Bool.{true}
 use mathlib.Core.List.{List}
 use Rattle.schema.specs.Places.{isSchema}
 use Rattle.condition.specs.Places.{isRecord}
-use Rattle.condition.specs.declared.ComparisonAt.{ComparisonAt}
+use Rattle.nodes.specs.declared.ComparisonAt.{ComparisonAt}
 use Rattle.targets.specs.Places.{areTargets}
 use Rattle.operands.specs.Operands.{written, untyped, noComparison, refused, Outcome}
 use Rattle.operands.specs.Operands as Operands

@@ -2,7 +2,7 @@
 use crate::Answer;
 use crate::Operand;
 use crate::text::show_type;
-use condition::ComparisonAt;
+use nodes::ComparisonAt;
 use names::Found;
 use names::Read;
 use schema::Namespace;
@@ -14,8 +14,8 @@ ghost use Rattle.schema.specs.Places.{schemaIn, isAction, actionIn, foundIn, fo
 ghost use Rattle.targets.specs.Places.{targetsIn, isTarget, targetIn};
 ghost use Rattle.condition.specs.Places.{recordIn};
 ghost use Rattle.condition.specs.Walk.{binders};
-ghost use Rattle.condition.specs.Index.{Index};
-ghost use Rattle.condition.specs.Environment.{Environment};
+ghost use Rattle.walk.specs.Index.{Index};
+ghost use Rattle.walk.specs.Environment.{Environment};
 ghost use Rattle.terms.specs.Terms.{factsOf};
 ghost use Rattle.terms.specs.Facts.{factsIn, Known};
 ghost use Rattle.operands.specs.Operands.{answered, underTarget, atPosition, operandType};
@@ -47,8 +47,8 @@ fn under_facts<'a>(
     requires { ⌜ Known (now schema) (now condition) (now env) facts ⌝ }
     ensures { λ r. ⌜ outcomeOf r (now (out .exit)) ≡ answered which (recordIn (now (condition .entry))) (factsIn (now (schema .entry)) (now (condition .entry)) (now (targets .entry)) facts) (now (out .entry)) ⌝ }
 {
-    if condition::kind_at(condition, ROOT) == 8 {
-        let parts = condition::comparison_at(condition, ROOT);
+    if nodes::kind_at(condition, ROOT) == 8 {
+        let parts = nodes::comparison_at(condition, ROOT);
         let at = place_of(parts, which);
         let typed = terms::term_type(schema, condition, targets, env, facts, at);
         return show_type(schema, condition, typed, out);
@@ -93,7 +93,7 @@ fn over_places<'a>(
     ensures { λ r. ⌜ outcomeOf r (now (out .exit)) ≡ answered which (recordIn (now (condition .entry))) (factsOf (schemaIn (now (schema .entry))) (recordIn (now (condition .entry))) (targetsIn (now (targets .entry)) .scope) (foundIn (actionIn (now (schema .entry))) own)) (now (out .entry)) ⌝ }
 {
     let mut table = [0u16; 10921];
-    let k = condition::environment(condition, places, &mut table);
+    let k = walk::environment(condition, places, &mut table);
     let common = Common {
         actions: schema::actions(schema),
     };
@@ -123,7 +123,7 @@ fn under_action<'a>(
     ensures { λ r. ⌜ outcomeOf r (now (out .exit)) ≡ answered which (recordIn (now (condition .entry))) (factsOf (schemaIn (now (schema .entry))) (recordIn (now (condition .entry))) (targetsIn (now (targets .entry)) .scope) (foundIn (actionIn (now (schema .entry))) own)) (now (out .entry)) ⌝ }
 {
     let mut table = [0u16; 3641];
-    let k = condition::index_record(condition, &mut table);
+    let k = walk::index_record(condition, &mut table);
     over_places(schema, condition, targets, &table[..k], own, which, out)
 }
 

@@ -21,8 +21,8 @@ use Rattle.names.specs.Writer.{Stored}
 use Rattle.names.specs.Laws.Writers.{stored-none, stored-more, stored-length}
 use Rattle.names.specs.Laws.Readers.{Accepted, accept, arrives, not-refused, string-view, has-value, got-place}
 use Rattle.names.specs.Laws.Rows.{opens, row-empty, counted-view, Remaining, remaining-all, remaining-over, strings-left, StringsLeft, listed-length}
-use Rattle.condition.specs.Parts.{segmentsIn, SegmentsHere}
-use Rattle.condition.proofs.Pieces.{segments-index, segments-some, segments-listed}
+use Rattle.nodes.specs.Parts.{segmentsIn, SegmentsHere}
+use Rattle.nodes.specs.Laws.Pieces.{segments-index, segments-some, segments-listed}
 use Rattle.reports.specs.declared.Message.{Message}
 use Rattle.reports.specs.declared.Message.the-variants.{CannotSum}
 use Rattle.reports.specs.declared.State.{State}

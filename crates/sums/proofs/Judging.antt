@@ -12,15 +12,15 @@ use Rattle.names.specs.Names.{same, joined, lastOf}
 use Rattle.names.specs.Read.{wordAt}
 use Rattle.names.specs.Text.{text}
 use Rattle.names.specs.Laws.Walks.{take-at-most}
-use Rattle.condition.specs.declared.Bound.{Bound}
-use Rattle.condition.specs.declared.Bound.the-variants.{Segments, Timepoint, Nothing}
-use Rattle.condition.specs.declared.SlotAt.{SlotAt}
-use Rattle.condition.specs.declared.SlotAt.the-variants.{Named, ParamRef, BinderRef}
-use Rattle.condition.specs.declared.Ends.{Ends}
+use Rattle.nodes.specs.declared.Bound.{Bound}
+use Rattle.nodes.specs.declared.Bound.the-variants.{Segments, Timepoint, Nothing}
+use Rattle.nodes.specs.declared.SlotAt.{SlotAt}
+use Rattle.nodes.specs.declared.SlotAt.the-variants.{Named, ParamRef, BinderRef}
+use Rattle.nodes.specs.declared.Ends.{Ends}
 use Rattle.condition.specs.Condition.{Span, Slot, sum, path}
-use Rattle.condition.specs.Kinds.{aggregateSpanOf}
+use Rattle.nodes.specs.Kinds.{aggregateSpanOf}
 use Rattle.condition.specs.Places.{recordIn, aggregateIn, slotIn}
-use Rattle.condition.specs.Parts.{segmentsIn, SegmentsHere, boundIn, BoundStands, Says, slotOf, SummandHere, Spans}
+use Rattle.nodes.specs.Parts.{segmentsIn, SegmentsHere, boundIn, BoundStands, Says, slotOf, SummandHere, Spans}
 use Rattle.condition.specs.Walk.{binders, lastNamed}
 use Rattle.reports.specs.declared.Message.the-variants.{CannotSum, CannotSumTimepoint, CannotSumDecimal}
 use Rattle.reports.specs.Messages.{message}

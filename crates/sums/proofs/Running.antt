@@ -13,7 +13,7 @@ use Rattle.names.specs.Laws.Readers.{passes}
 use Rattle.condition.specs.Condition.{Condition, opaque, conditionRecord}
 use lib.Seq.{length-take-le}
 use Rattle.condition.specs.Places.{nowhere, isRecord, recordIn}
-use Rattle.condition.proofs.ByPlace.{record-small}
+use Rattle.walk.proofs.ByPlace.{record-small}
 use Rattle.reports.specs.declared.Answer.{Answer}
 use Rattle.reports.specs.Reports.{refusal, reported}
 use Rattle.reports.specs.Sink.Laws.{sound-start}

@@ -12,20 +12,20 @@ use Rattle.names.specs.Fields.{Got, got, Reader, next, u8, refuse, choose, leve
 use Rattle.names.specs.Names.{plain, pathName}
 use Rattle.names.specs.Paths.{pathOf}
 use Rattle.names.specs.Laws.Readers.{split, got-value, Each, keysUpTo}
-use Rattle.condition.specs.declared.Operands.{Operands}
-use Rattle.condition.specs.declared.ComparisonAt.{ComparisonAt}
-use Rattle.condition.specs.declared.PredicateAt.{PredicateAt}
-use Rattle.condition.specs.declared.ArgumentAt.{ArgumentAt}
+use Rattle.nodes.specs.declared.Operands.{Operands}
+use Rattle.nodes.specs.declared.ComparisonAt.{ComparisonAt}
+use Rattle.nodes.specs.declared.PredicateAt.{PredicateAt}
+use Rattle.nodes.specs.declared.ArgumentAt.{ArgumentAt}
 use Rattle.condition.specs.Condition.{Condition, Term, Terms, Aggregate, Arguments, one, two, predicate, comparison, exists, tp, opaque, entity, literal, contextField, scopeField, var, wildcard, array, aggregate, sigil, sum, count, call, integer, decimal, string, bool, elements, elementList, arithOf, termKinds, tooDeep, conditionAt, termAt}
 use Rattle.condition.specs.Condition as tree
-use Rattle.condition.specs.Kinds.{kindOf, termKindOf, aggregateKindOf}
+use Rattle.nodes.specs.Kinds.{kindOf, termKindOf, aggregateKindOf}
 use Rattle.condition.specs.Places.{recordIn, conditionIn, isTerm, termIn, aggregateIn, isArguments, argumentsIn}
-use Rattle.condition.specs.Open.{Opened, TermOpened, AggregateOpened, AggregateHere}
-use Rattle.condition.specs.Parts.{ArithHere, ComparisonHere, PredicateHere, ArgumentHere}
-use Rattle.condition.specs.Index.{nodesOf, Index, Reached}
-use Rattle.condition.proofs.Views.{by-kind, no-value, array-view}
-use Rattle.condition.proofs.Opens.{term-stands, raw-term}
-use Rattle.condition.proofs.Pieces.{arguments-over}
+use Rattle.nodes.specs.Open.{Opened, TermOpened, AggregateOpened, AggregateHere}
+use Rattle.nodes.specs.Parts.{ArithHere, ComparisonHere, PredicateHere, ArgumentHere}
+use Rattle.walk.specs.Index.{nodesOf, Index, Reached}
+use Rattle.nodes.specs.Laws.Views.{by-kind, no-value, array-view}
+use Rattle.nodes.specs.Laws.Opens.{term-stands, raw-term}
+use Rattle.nodes.specs.Laws.Pieces.{arguments-over}
 use Rattle.reports.specs.Reports.{Breach}
 use Rattle.reports.specs.Sink.{Sink, Sound, append, appendAll}
 use Rattle.reports.specs.Sink.Laws.{append-none, append-then, append-after, Reporting, reporting-begins, reporting-over, append-next}

@@ -4,7 +4,7 @@ use mathlib.Core.List.{List, [], _∷_, _++_}
 use Prim.Native.Nat.{ℕ, _+_, _≤_}
 use lib.ListN.{length}
 use Rattle.names.specs.Names.{joined}
-use Rattle.condition.specs.Parts.{segmentsIn}
+use Rattle.nodes.specs.Parts.{segmentsIn}
 
 -- each behind `::`
 unfoldable pub behind : List (List ℕ) → List ℕ

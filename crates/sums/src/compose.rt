@@ -13,7 +13,7 @@ ghost use Rattle.names.specs.Names.{identifier, joined};
 ghost use Rattle.names.specs.Fields.{stringOf};
 ghost use Rattle.names.specs.Read.{isRow, rowIn};
 ghost use Rattle.names.specs.Writer.{Stored};
-ghost use Rattle.condition.specs.Parts.{segmentsIn, SegmentsHere};
+ghost use Rattle.nodes.specs.Parts.{segmentsIn, SegmentsHere};
 ghost use Rattle.reports.specs.Messages.{part, words, from, message};
 ghost use Rattle.reports.specs.Messages.Laws.{Left};
 ghost use Rattle.reports.specs.Sink.{sink, Sound, appendAll};

@@ -8,9 +8,9 @@ ghost use mathlib.Core.Bool.{true};
 ghost use Prim.Native.Nat.{_≤_};
 ghost use lib.ListN.{length, take};
 ghost use Rattle.condition.specs.Places.{isRecord, recordIn};
-ghost use Rattle.condition.specs.Index.{Index};
+ghost use Rattle.walk.specs.Index.{Index};
 ghost use Rattle.condition.specs.Walk.{binders};
-ghost use Rattle.condition.specs.Environment.{Environment};
+ghost use Rattle.walk.specs.Environment.{Environment};
 ghost use Rattle.reports.specs.Reports.{reported};
 ghost use Rattle.reports.specs.Sink.{sink, Sound, start, appendAll};
 ghost use Rattle.reports.specs.Answers.{outcomeOf};
@@ -27,7 +27,7 @@ fn in_places(s: &[u8], places: &[u16], env: &[u16], buf: &mut [u8], state: State
     let mut now = state;
     let mut i = 0;
     while i < places.len() {
-        let at = condition::reached_at(s, places, i);
+        let at = walk::reached_at(s, places, i);
         now = in_condition(s, env, at, buf, now);
         i += 1;
     }
@@ -41,7 +41,7 @@ fn over_places(s: &[u8], places: &[u16], buf: &mut [u8]) -> State
     ensures { λ r. ⌜ sink (now (buf .exit)) r ≡ appendAll (start (now (buf .entry))) (breaches (recordIn (now (s .entry)))) ⌝ }
 {
     let mut env = [0u16; 10921];
-    let k = condition::environment(s, places, &mut env);
+    let k = walk::environment(s, places, &mut env);
     let none = State {
         used: 0,
         count: 0,
@@ -66,7 +66,7 @@ fn in_record(s: &[u8], buf: &mut [u8]) -> Answer
     ensures { λ r. ⌜ outcomeOf r (now (buf .exit)) ≡ reported (breaches (recordIn (now (s .entry)))) (now (buf .entry)) ⌝ }
 {
     let mut table = [0u16; 3641];
-    let n = condition::index_record(s, &mut table);
+    let n = walk::index_record(s, &mut table);
     let state = in_table(s, &table, n, buf);
     reports::answer_of(state)
 }

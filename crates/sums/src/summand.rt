@@ -1,8 +1,8 @@
 // The report of one Sum, by the annotation of the last binder of its summand's name (`sum_summand_type_error`).
 use crate::compose::append_named;
 use crate::compose::append_path;
-use condition::Bound;
-use condition::SlotAt;
+use nodes::Bound;
+use nodes::SlotAt;
 use reports::Message;
 use reports::State;
 ghost use mathlib.Core.Path.{_≡_};
@@ -14,11 +14,11 @@ ghost use Rattle.names.specs.Lists.{maybe};
 ghost use Rattle.names.specs.Names.{same};
 ghost use Rattle.names.specs.Text.{text};
 ghost use Rattle.condition.specs.Condition.{path};
-ghost use Rattle.condition.specs.Kinds.{aggregateKindOf};
+ghost use Rattle.nodes.specs.Kinds.{aggregateKindOf};
 ghost use Rattle.condition.specs.Places.{recordIn, isAggregate, aggregateIn};
-ghost use Rattle.condition.specs.Parts.{segmentsIn, SegmentsHere, boundIn, BoundStands};
+ghost use Rattle.nodes.specs.Parts.{segmentsIn, SegmentsHere, boundIn, BoundStands};
 ghost use Rattle.condition.specs.Walk.{binders};
-ghost use Rattle.condition.specs.Environment.{Environment};
+ghost use Rattle.walk.specs.Environment.{Environment};
 ghost use Rattle.reports.specs.Sink.{sink, Sound, appendAll};
 ghost use Rattle.sums.specs.Named.{Name};
 ghost use Rattle.sums.specs.Sums.{summandBreach, aggregateBreaches};
@@ -48,7 +48,7 @@ fn by_path(
     requires { ⌜ Sound (sink (now buf) state) ⌝ }
     ensures { λ r. ⌜ sink (now (buf .exit)) r ≡ appendAll (sink (now (buf .entry)) state) (summandBreach (record { start = start; end = end }) (now (name .entry)) (path (segmentsIn (now (s .entry)) segments))) ⌝ }
 {
-    let last = names::word(s, condition::last_segment(s, segments));
+    let last = names::word(s, nodes::last_segment(s, segments));
     if names::same(last, b"Long") {
         return state;
     }
@@ -102,12 +102,12 @@ pub fn in_sum(s: &[u8], env: &[u16], at: usize, buf: &mut [u8], state: State) ->
     requires { ⌜ Sound (sink (now buf) state) ⌝ }
     ensures { λ r. ⌜ sink (now (buf .exit)) r ≡ appendAll (sink (now (buf .entry)) state) (aggregateBreaches (recordIn (now (s .entry))) (aggregateIn (now (s .entry)) at)) ⌝ }
 {
-    let slot = condition::slot_at(s, condition::summand_at(s, at));
+    let slot = nodes::slot_at(s, nodes::summand_at(s, at));
     match slot {
         SlotAt::Named(p) => {
             let name = named(s, p);
-            let bound = condition::bound_in(s, env, name);
-            let span = condition::aggregate_span_at(s, at);
+            let bound = walk::bound_in(s, env, name);
+            let span = nodes::aggregate_span_at(s, at);
             return by_bound(s, bound, name, span.start, span.end, buf, state);
         }
         SlotAt::ParamRef => state,

@@ -5,10 +5,10 @@ ghost use mathlib.Core.Path.{_≡_};
 ghost use mathlib.Core.Bool.{true};
 ghost use Prim.Native.Nat.{_≤_};
 ghost use lib.ListN.{length};
-ghost use Rattle.condition.specs.Kinds.{kindOf};
+ghost use Rattle.nodes.specs.Kinds.{kindOf};
 ghost use Rattle.condition.specs.Places.{recordIn, isCondition, conditionIn, isTerm, termIn, isArguments, argumentsIn};
 ghost use Rattle.condition.specs.Walk.{binders};
-ghost use Rattle.condition.specs.Environment.{Environment};
+ghost use Rattle.walk.specs.Environment.{Environment};
 ghost use Rattle.reports.specs.Sink.{sink, Sound, appendAll};
 ghost use Rattle.sums.specs.Sums.{termBreaches, argumentsBreaches, conditionBreaches};
 
@@ -20,17 +20,17 @@ fn in_term(s: &[u8], env: &[u16], at: usize, buf: &mut [u8], state: State) -> St
     requires { ⌜ Sound (sink (now buf) state) ⌝ }
     ensures { λ r. ⌜ sink (now (buf .exit)) r ≡ appendAll (sink (now (buf .entry)) state) (termBreaches (recordIn (now (s .entry))) (termIn (now (s .entry)) at)) ⌝ }
 {
-    let kind = condition::term_kind_at(s, at);
+    let kind = nodes::term_kind_at(s, at);
     if kind == 12 {
-        let p = condition::arith_at(s, at);
+        let p = nodes::arith_at(s, at);
         let left = p.left;
         let right = p.right;
         let first = in_term(s, env, left, buf, state);
         return in_term(s, env, right, buf, first);
     }
     if kind == 11 {
-        let aggregate = condition::aggregate_at(s, at);
-        if condition::aggregate_kind_at(s, aggregate) == 1 {
+        let aggregate = nodes::aggregate_at(s, at);
+        if nodes::aggregate_kind_at(s, aggregate) == 1 {
             return in_sum(s, env, aggregate, buf, state);
         }
     }
@@ -56,7 +56,7 @@ fn in_arguments(
     let mut at = first;
     let mut rest = count;
     while 0 < rest {
-        let p = condition::argument_at(s, rest, at);
+        let p = nodes::argument_at(s, rest, at);
         let term = p.term;
         now = in_term(s, env, term, buf, now);
         at = p.next;
@@ -74,7 +74,7 @@ fn in_comparison(s: &[u8], env: &[u16], at: usize, buf: &mut [u8], state: State)
     requires { ⌜ Sound (sink (now buf) state) ⌝ }
     ensures { λ r. ⌜ sink (now (buf .exit)) r ≡ appendAll (sink (now (buf .entry)) state) (conditionBreaches (recordIn (now (s .entry))) (conditionIn (now (s .entry)) at)) ⌝ }
 {
-    let p = condition::comparison_at(s, at);
+    let p = nodes::comparison_at(s, at);
     let left = p.left;
     let right = p.right;
     let first = in_term(s, env, left, buf, state);
@@ -89,12 +89,12 @@ pub fn in_condition(s: &[u8], env: &[u16], at: usize, buf: &mut [u8], state: Sta
     requires { ⌜ Sound (sink (now buf) state) ⌝ }
     ensures { λ r. ⌜ sink (now (buf .exit)) r ≡ appendAll (sink (now (buf .entry)) state) (conditionBreaches (recordIn (now (s .entry))) (conditionIn (now (s .entry)) at)) ⌝ }
 {
-    let kind = condition::kind_at(s, at);
+    let kind = nodes::kind_at(s, at);
     if kind == 8 {
         return in_comparison(s, env, at, buf, state);
     }
     if kind == 7 {
-        let p = condition::predicate_at(s, at);
+        let p = nodes::predicate_at(s, at);
         let count = p.count;
         let first = p.first;
         return in_arguments(s, env, count, first, buf, state);

@@ -17,11 +17,11 @@ use Rattle.types.specs.Meaning.{richOf, layered}
 use Rattle.types.specs.declared.Rich.{Rich}
 use Rattle.condition.specs.Condition.{Condition, Term, Terms, nil, cons, elements, elementList, termKinds, conditionAt, termAt}
 use Rattle.condition.specs.Condition as tree
-use Rattle.condition.specs.Kinds.{termKindOf}
+use Rattle.nodes.specs.Kinds.{termKindOf}
 use Rattle.condition.specs.Places.{isTerm, termIn}
-use Rattle.condition.specs.Open.{TermOpened, Skipped}
-use Rattle.condition.proofs.Levels.{none-left, term-wider, term-anywhere}
-use Rattle.condition.proofs.Opens.{raw-term, ends-at}
+use Rattle.nodes.specs.Open.{TermOpened, Skipped}
+use Rattle.condition.specs.Laws.Levels.{none-left, term-wider, term-anywhere}
+use Rattle.nodes.specs.Laws.Opens.{raw-term, ends-at}
 use Rattle.resolution.specs.Places.{typedOf}
 use Rattle.resolution.specs.declared.Typed.{Typed}
 use Rattle.resolution.specs.declared.Typed.the-variants.{As, Nothing}

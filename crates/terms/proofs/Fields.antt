@@ -26,7 +26,7 @@ use Rattle.schema.specs.Places.{isType, typeIn, areFields, fieldsIn, isAction, 
 use Rattle.names.specs.declared.Found.{Found}
 use Rattle.names.specs.declared.Found.the-variants as Found
 use Rattle.condition.specs.Condition.{path}
-use Rattle.condition.specs.Parts.{segmentsIn}
+use Rattle.nodes.specs.Parts.{segmentsIn}
 use Rattle.resolution.specs.Laws.Sizes.{Bytes, type-small}
 use Rattle.resolution.specs.declared.Typed.{Typed}
 use Rattle.resolution.specs.declared.Typed.the-variants.{As, Nothing}

@@ -20,11 +20,11 @@ use Rattle.types.specs.declared.Tag.{Tag}
 use Rattle.types.specs.declared.Base.the-variants as Base
 use Rattle.condition.specs.Condition.{Term, entity, literal, integer, decimal, string, bool, contextField, scopeField, var, wildcard, array, aggregate, sigil}
 use Rattle.condition.specs.Condition as tree
-use Rattle.condition.specs.Kinds.{termKindOf}
+use Rattle.nodes.specs.Kinds.{termKindOf}
 use Rattle.condition.specs.Places.{isTerm, termIn}
-use Rattle.condition.specs.Open.{TermOpened}
-use Rattle.condition.proofs.Views.{PartView, entity-view}
-use Rattle.condition.proofs.Opens.{term-stands, raw-term}
+use Rattle.nodes.specs.Open.{TermOpened}
+use Rattle.nodes.specs.Laws.Views.{PartView, entity-view}
+use Rattle.nodes.specs.Laws.Opens.{term-stands, raw-term}
 use Rattle.resolution.specs.Places.{typedOf}
 use Rattle.resolution.specs.declared.Typed.{Typed}
 use Rattle.resolution.specs.declared.Typed.the-variants.{As, Nothing}

@@ -21,12 +21,12 @@ use Rattle.targets.specs.declared.Narrowed.{Narrowed}
 use Rattle.condition.specs.Condition.{Term, entity, literal, contextField, scopeField, var, wildcard, array, aggregate, sigil, timepoint, path, termAt}
 use Rattle.condition.specs.Condition as tree
 use Rattle.condition.specs.Walk.{lastNamed, binders}
-use Rattle.condition.specs.Kinds.{termKindOf}
+use Rattle.nodes.specs.Kinds.{termKindOf}
 use Rattle.condition.specs.Places.{recordIn, termIn, pathIn}
-use Rattle.condition.specs.Open.{TermOpened}
-use Rattle.condition.specs.Parts.{PathHere, segmentsIn, SegmentsHere, Says}
-use Rattle.condition.specs.declared.Bound.{Bound}
-use Rattle.condition.specs.declared.Bound.the-variants as Bound
+use Rattle.nodes.specs.Open.{TermOpened}
+use Rattle.nodes.specs.Parts.{PathHere, segmentsIn, SegmentsHere, Says}
+use Rattle.nodes.specs.declared.Bound.{Bound}
+use Rattle.nodes.specs.declared.Bound.the-variants as Bound
 use Rattle.resolution.specs.Resolution.{contextType}
 use Rattle.resolution.specs.Places.{typedOf, smallType}
 use Rattle.resolution.specs.Places as resolution

@@ -8,7 +8,7 @@ use Rattle.targets.specs.Targets.{Scope}
 use Rattle.targets.specs.Places.{narrowed, targetsIn}
 use Rattle.condition.specs.Places.{isRecord, recordIn}
 use Rattle.condition.specs.Walk.{binders}
-use Rattle.condition.specs.Environment.{Environment}
+use Rattle.walk.specs.Environment.{Environment}
 use Rattle.names.specs.declared.Found.{Found}
 use Rattle.resolution.specs.Places.{typedOf, smallType}
 use Rattle.resolution.specs.declared.Typed.{Typed}

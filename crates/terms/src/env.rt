@@ -1,6 +1,6 @@
 // The flat environment: what type a name has, and an annotation.
 use crate::Facts;
-use condition::Bound;
+use nodes::Bound;
 use names::Found;
 use resolution::Typed;
 use types::Base;
@@ -15,8 +15,8 @@ ghost use Rattle.schema.specs.Places.{isType, typeIn, isAction, actionIn, found
 ghost use Rattle.condition.specs.Condition.{path};
 ghost use Rattle.condition.specs.Places.{recordIn};
 ghost use Rattle.condition.specs.Walk.{binders};
-ghost use Rattle.condition.specs.Parts.{segmentsIn, SegmentsHere};
-ghost use Rattle.condition.specs.Environment.{Environment};
+ghost use Rattle.nodes.specs.Parts.{segmentsIn, SegmentsHere};
+ghost use Rattle.walk.specs.Environment.{Environment};
 ghost use Rattle.terms.specs.Terms.{fieldType, inputType};
 ghost use Rattle.terms.specs.Facts.{NameTyped};
 ghost use Rattle.terms.specs.Answers.{WordTag, WordTyped, AnnotationTyped, TypedBy};
@@ -137,7 +137,7 @@ fn segments_type(condition: &[u8], at: usize) -> Rich
     requires { ⌜ SegmentsHere (now condition) at ⌝ }
     ensures { λ r. ⌜ AnnotationTyped (now (condition .entry)) (path (segmentsIn (now (condition .entry)) at)) r ⌝ }
 {
-    let last = condition::last_segment(condition, at);
+    let last = nodes::last_segment(condition, at);
     word_type(condition, last)
 }
 
@@ -147,7 +147,7 @@ pub fn var_type(schema: &[u8], condition: &[u8], env: &[u16], facts: Facts, name
     requires { ⌜ foundStands (isAction (now schema)) (facts .action) ≡ true ⌝ }
     ensures { λ r. ⌜ NameTyped (now (schema .entry)) (now (condition .entry)) facts (now (name .entry)) r ⌝ }
 {
-    let bound = condition::bound_in(condition, env, name);
+    let bound = walk::bound_in(condition, env, name);
     match bound {
         Bound::Segments(p) => Typed::As(segments_type(condition, p)),
         Bound::Timepoint => Typed::As(Rich {

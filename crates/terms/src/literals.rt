@@ -15,7 +15,7 @@ ghost use lib.ListN.{length, getD};
 ghost use Rattle.names.specs.Fields.{levels};
 ghost use Rattle.names.specs.Read.{accepted};
 ghost use Rattle.condition.specs.Condition.{termAt};
-ghost use Rattle.condition.specs.Kinds.{termKindOf};
+ghost use Rattle.nodes.specs.Kinds.{termKindOf};
 ghost use Rattle.condition.specs.Places.{isTerm, termIn};
 ghost use Rattle.terms.specs.Terms.{termType, elementTypes, arrayOf};
 ghost use Rattle.terms.specs.Bounds.{layersOf};
@@ -136,7 +136,7 @@ fn leaf_type(condition: &[u8], at: usize) -> Typed
     requires { ⌜ (termKindOf (termIn (now condition) at) ≡ 10 → ⊥) ⌝ }
     ensures { λ r. ⌜ LeafTyped (now (condition .entry)) at r ⌝ }
 {
-    let kind = condition::term_kind_at(condition, at);
+    let kind = nodes::term_kind_at(condition, at);
     if kind == 1 {
         let tag = entity_tag(condition, at + 1);
         let base = Base::Tagged(tag);
@@ -151,11 +151,11 @@ pub fn element_type<'a>(schema: &'a [u8], condition: &'a [u8], at: usize, left: 
     requires { ⌜ accepted (termAt left false (now condition) at) ≡ true ⌝ }
     ensures { λ r. ⌜ TypedAt (now (schema .entry)) (now (condition .entry)) (termAt levels false (now (condition .entry)) at) (termType none (termIn (now (condition .entry)) at)) left r ⌝ }
 {
-    if condition::term_kind_at(condition, at) == 10 {
+    if nodes::term_kind_at(condition, at) == 10 {
         return array_type(schema, condition, at + 1, left - 1);
     }
     let typed = leaf_type(condition, at);
-    let next = condition::past_term(condition, at);
+    let next = nodes::past_term(condition, at);
     Element { typed, next }
 }
 

@@ -21,7 +21,7 @@ fn segments(condition: &[u8], at: usize) -> Row
     requires { ⌜ isPath (now condition) at ≡ true ⌝ }
     ensures { λ r. ⌜ SegmentsOf (now (condition .entry)) at r ⌝ }
 {
-    let path = condition::path_at(condition, at);
+    let path = nodes::path_at(condition, at);
     Row {
         count: path.count,
         at: path.first,
@@ -85,17 +85,17 @@ pub fn term_type<'a>(
     requires { ⌜ isTerm (now condition) at ≡ true ⌝ }
     ensures { λ r. ⌜ TypeOf (now (schema .entry)) (now (condition .entry)) (termType (some (factsIn (now (schema .entry)) (now (condition .entry)) (now (targets .entry)) facts)) (termIn (now (condition .entry)) at)) r ⌝ }
 {
-    let kind = condition::term_kind_at(condition, at);
+    let kind = nodes::term_kind_at(condition, at);
     if kind == 6 {
-        let path = condition::context_at(condition, at);
+        let path = nodes::context_at(condition, at);
         return context_field_type(schema, condition, facts, path);
     }
     if kind == 7 {
-        let path = condition::scope_at(condition, at);
+        let path = nodes::scope_at(condition, at);
         return scope_field_type(schema, condition, targets, facts, path);
     }
     if kind == 8 {
-        let name = condition::var_at(condition, at);
+        let name = nodes::var_at(condition, at);
         return var_type(schema, condition, env, facts, names::word(condition, name));
     }
     plain_type(schema, condition, at)

@@ -11,14 +11,14 @@ use Rattle.names.specs.Names.{pathName, plain}
 use Rattle.names.specs.Read.{wordAt, rowIn, Listed}
 use Rattle.types.specs.Types.{Ty}
 use Rattle.condition.specs.Condition.{Span}
-use Rattle.condition.specs.Kinds.{ownSpanOf}
+use Rattle.nodes.specs.Kinds.{ownSpanOf}
 use Rattle.condition.specs.Places.{conditionIn, termIn, pathIn, isArguments, argumentsIn}
-use Rattle.condition.specs.Parts.{Spans, PredicateHere, ArgumentHere}
-use Rattle.condition.specs.declared.Ends.{Ends}
-use Rattle.condition.specs.declared.Several.{Several}
-use Rattle.condition.specs.declared.PredicateAt.{PredicateAt}
-use Rattle.condition.specs.declared.ArgumentAt.{ArgumentAt}
-use Rattle.condition.proofs.Pieces.{arguments-over}
+use Rattle.nodes.specs.Parts.{Spans, PredicateHere, ArgumentHere}
+use Rattle.nodes.specs.declared.Ends.{Ends}
+use Rattle.nodes.specs.declared.Several.{Several}
+use Rattle.nodes.specs.declared.PredicateAt.{PredicateAt}
+use Rattle.nodes.specs.declared.ArgumentAt.{ArgumentAt}
+use Rattle.nodes.specs.Laws.Pieces.{arguments-over}
 use Rattle.schema.specs.Schema.{Action}
 use Rattle.schema.specs.Places.{schemaIn, isAction, actionIn, foundIn, foundStands, Answers}
 use Rattle.names.specs.declared.Found.{Found}

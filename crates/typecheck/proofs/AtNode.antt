@@ -15,15 +15,15 @@ use Rattle.names.specs.declared.Found.{Found}
 use Rattle.names.specs.declared.Found.the-variants as Found
 use Rattle.condition.specs.Condition as tree
 use Rattle.condition.specs.Condition.{Span, Condition, Term, Literal, integer, decimal, string, bool, Slot, named, paramRef, binderRef, One, negation, formerly, previous, refine, Two, and, or, since, Operator, le, lt, ge, gt, eq, notEq, one, two, predicate, comparison, exists, tp, opaque, entity, literal, contextField, scopeField, var, wildcard, array, aggregate, sigil}
-use Rattle.condition.specs.Kinds.{kindOf, spanOf, termKindOf, operatorNumber}
+use Rattle.nodes.specs.Kinds.{kindOf, spanOf, termKindOf, operatorNumber}
 use Rattle.condition.specs.Places.{conditionIn, termIn, slotIn}
-use Rattle.condition.specs.Open.{Opened, TermOpened}
-use Rattle.condition.specs.Parts.{Spans, ComparisonHere, ArithHere, TimepointHere, slotOf}
-use Rattle.condition.specs.declared.Ends.{Ends}
-use Rattle.condition.specs.declared.ComparisonAt.{ComparisonAt}
-use Rattle.condition.specs.declared.Operands.{Operands}
-use Rattle.condition.specs.declared.SlotAt.{SlotAt}
-use Rattle.condition.specs.declared.SlotAt.the-variants as SlotAt
+use Rattle.nodes.specs.Open.{Opened, TermOpened}
+use Rattle.nodes.specs.Parts.{Spans, ComparisonHere, ArithHere, TimepointHere, slotOf}
+use Rattle.nodes.specs.declared.Ends.{Ends}
+use Rattle.nodes.specs.declared.ComparisonAt.{ComparisonAt}
+use Rattle.nodes.specs.declared.Operands.{Operands}
+use Rattle.nodes.specs.declared.SlotAt.{SlotAt}
+use Rattle.nodes.specs.declared.SlotAt.the-variants as SlotAt
 use Rattle.resolution.specs.Places.{typedOf, smallType}
 use Rattle.resolution.specs.declared.Typed.{Typed}
 use Rattle.reports.specs.Reports.{Breach}

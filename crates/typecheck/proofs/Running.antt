@@ -26,8 +26,8 @@ use Rattle.targets.specs.Places.{areTargets, targetsIn, isTarget, targetIn}
 use Rattle.condition.specs.Condition.{Condition, conditionRecord}
 use Rattle.condition.specs.Places.{isRecord, recordIn, conditionIn}
 use Rattle.condition.specs.Walk.{reached, binders}
-use Rattle.condition.specs.Index.{nodesOf, Index, Reached}
-use Rattle.condition.specs.Environment.{Environment}
+use Rattle.walk.specs.Index.{nodesOf, Index, Reached}
+use Rattle.walk.specs.Environment.{Environment}
 use Rattle.resolution.specs.Resolution.{admitsAnyEnv}
 use Rattle.reports.specs.Reports.{Breach}
 use Rattle.reports.specs.declared.State.{State}

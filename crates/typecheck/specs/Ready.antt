@@ -7,8 +7,8 @@ use mathlib.Core.List.{List}
 use Rattle.schema.specs.Places.{isSchema, ActionsOf}
 use Rattle.condition.specs.Places.{isRecord, recordIn}
 use Rattle.condition.specs.Walk.{binders}
-use Rattle.condition.specs.Index.{Index}
-use Rattle.condition.specs.Environment.{Environment}
+use Rattle.walk.specs.Index.{Index}
+use Rattle.walk.specs.Environment.{Environment}
 use Rattle.targets.specs.Places.{areTargets}
 use Rattle.terms.specs.declared.Common.{Common}
 

@@ -5,7 +5,7 @@ use crate::judge::operands;
 use crate::judge::timepoint;
 use crate::predicate::predicate;
 use crate::predicate::short_word;
-use condition::SlotAt;
+use nodes::SlotAt;
 use names::Found;
 use reports::State;
 use terms::Facts;
@@ -16,8 +16,8 @@ ghost use mathlib.Core.Option.{some};
 ghost use Rattle.names.specs.Read.{wordAt};
 ghost use Rattle.schema.specs.Places.{foundIn};
 ghost use Rattle.typecheck.specs.Parts.{slotName};
-ghost use Rattle.condition.specs.Kinds.{kindOf};
-ghost use Rattle.condition.specs.Open.{TermOpened};
+ghost use Rattle.nodes.specs.Kinds.{kindOf};
+ghost use Rattle.nodes.specs.Open.{TermOpened};
 ghost use Rattle.condition.specs.Places.{isCondition, conditionIn, isTerm, termIn, isSlot, slotIn};
 ghost use Rattle.reports.specs.Sink.{sink, Sound, pushAll};
 ghost use Rattle.terms.specs.Facts.{factsIn, Known};
@@ -76,9 +76,9 @@ fn leaf_breaches<'a>(
     requires { ⌜ isTerm (now condition) at ≡ true ⌝ }
     ensures { λ after. ⌜ sink (now (buf .exit)) after ≡ pushAll (sink (now (buf .entry)) state) (leafBreaches (factsIn (now (schema .entry)) (now (condition .entry)) (now (targets .entry)) facts) (record { start = start; end = end }) (termIn (now (condition .entry)) at)) ⌝ }
 {
-    let kind = condition::term_kind_at(condition, at);
+    let kind = nodes::term_kind_at(condition, at);
     if kind == 12 {
-        let parts = condition::arith_at(condition, at);
+        let parts = nodes::arith_at(condition, at);
         let left = parts.left;
         let right = parts.right;
         let after = leaf_breaches(
@@ -139,7 +139,7 @@ fn arithmetic_breaches<'a>(
     requires { ⌜ isTerm (now condition) at ≡ true ⌝ }
     ensures { λ after. ⌜ sink (now (buf .exit)) after ≡ pushAll (sink (now (buf .entry)) state) (arithmeticBreaches (factsIn (now (schema .entry)) (now (condition .entry)) (now (targets .entry)) facts) (record { start = start; end = end }) (termIn (now (condition .entry)) at)) ⌝ }
 {
-    if condition::term_kind_at(condition, at) == 12 {
+    if nodes::term_kind_at(condition, at) == 12 {
         return leaf_breaches(
             buf,
             state,
@@ -295,10 +295,10 @@ fn comparison<'a>(
     requires { ⌜ kindOf (conditionIn (now condition) at) ≡ 8 ⌝ }
     ensures { λ after. ⌜ sink (now (buf .exit)) after ≡ pushAll (sink (now (buf .entry)) state) (nodeBreaches (factsIn (now (schema .entry)) (now (condition .entry)) (now (targets .entry)) facts) (conditionIn (now (condition .entry)) at)) ⌝ }
 {
-    let span = condition::span_at(condition, at);
+    let span = nodes::span_at(condition, at);
     let start = span.start;
     let end = span.end;
-    let parts = condition::comparison_at(condition, at);
+    let parts = nodes::comparison_at(condition, at);
     let left = parts.left;
     let right = parts.right;
     let ordering = parts.operator < 4;
@@ -323,7 +323,7 @@ fn slot_name(condition: &[u8], at: usize) -> Found
     requires { ⌜ isSlot (now condition) at ≡ true ⌝ }
     ensures { λ r. ⌜ foundIn (wordAt (now (condition .entry))) r ≡ slotName (slotIn (now (condition .entry)) at) ⌝ }
 {
-    let slot = condition::slot_at(condition, at);
+    let slot = nodes::slot_at(condition, at);
     match slot {
         SlotAt::Named(p) => Found::At(p),
         SlotAt::ParamRef => Found::Absent,
@@ -375,8 +375,8 @@ fn tp<'a>(
     requires { ⌜ kindOf (conditionIn (now condition) at) ≡ 10 ⌝ }
     ensures { λ after. ⌜ sink (now (buf .exit)) after ≡ pushAll (sink (now (buf .entry)) state) (nodeBreaches (factsIn (now (schema .entry)) (now (condition .entry)) (now (targets .entry)) facts) (conditionIn (now (condition .entry)) at)) ⌝ }
 {
-    let span = condition::span_at(condition, at);
-    let slot = condition::timepoint_at(condition, at);
+    let span = nodes::span_at(condition, at);
+    let slot = nodes::timepoint_at(condition, at);
     timepoint_breaches(
         buf,
         state,
@@ -407,7 +407,7 @@ pub fn node<'a>(
     requires { ⌜ isCondition (now condition) at ≡ true ⌝ }
     ensures { λ after. ⌜ sink (now (buf .exit)) after ≡ pushAll (sink (now (buf .entry)) state) (nodeBreaches (factsIn (now (schema .entry)) (now (condition .entry)) (now (targets .entry)) facts) (conditionIn (now (condition .entry)) at)) ⌝ }
 {
-    let kind = condition::kind_at(condition, at);
+    let kind = nodes::kind_at(condition, at);
     if kind == 7 {
         return predicate(buf, state, schema, condition, targets, env, facts, at);
     }

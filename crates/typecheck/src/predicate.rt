@@ -1,6 +1,6 @@
 // The arguments of a predicate, each judged where its action and its field resolve, and reported at the predicate's own span.
 use crate::judge::argument;
-use condition::PredicateAt;
+use nodes::PredicateAt;
 use names::Found;
 use names::Row;
 use reports::State;
@@ -15,7 +15,7 @@ ghost use lib.ListN.{length};
 ghost use Rattle.names.specs.Fields.{stringOf};
 ghost use Rattle.names.specs.Names.{pathName, lastOf};
 ghost use Rattle.names.specs.Read.{wordAt, isRow, rowIn, Listed};
-ghost use Rattle.condition.specs.Kinds.{kindOf};
+ghost use Rattle.nodes.specs.Kinds.{kindOf};
 ghost use Rattle.condition.specs.Places.{isCondition, conditionIn, isTerm, termIn, isPath, pathIn, isArguments, argumentsIn};
 ghost use Rattle.schema.specs.Places.{schemaIn, isAction, actionIn, foundIn, foundStands, FindsAction, ActionsOf};
 ghost use Rattle.resolution.specs.Resolution.{contextType};
@@ -85,7 +85,7 @@ fn field_type(schema: &[u8], condition: &[u8], action: Found, at: usize) -> Type
     let Found::At(p) = action else {
         return Typed::Nothing;
     };
-    let path = condition::path_at(condition, at);
+    let path = nodes::path_at(condition, at);
     let row = Row {
         count: path.count,
         at: path.first,
@@ -201,7 +201,7 @@ fn arguments<'a>(
     let mut left = count;
     let mut at = first;
     while 0 < left {
-        let parts = condition::argument_at(condition, left, at);
+        let parts = nodes::argument_at(condition, left, at);
         now = one_argument(
             buf,
             now,
@@ -241,8 +241,8 @@ pub fn predicate<'a>(
     requires { ⌜ kindOf (conditionIn (now condition) at) ≡ 7 ⌝ }
     ensures { λ after. ⌜ sink (now (buf .exit)) after ≡ pushAll (sink (now (buf .entry)) state) (nodeBreaches (factsIn (now (schema .entry)) (now (condition .entry)) (now (targets .entry)) facts) (conditionIn (now (condition .entry)) at)) ⌝ }
 {
-    let span = condition::own_span_at(condition, at);
-    let parts = condition::predicate_at(condition, at);
+    let span = nodes::own_span_at(condition, at);
+    let parts = nodes::predicate_at(condition, at);
     let action = predicate_action(schema, facts.common.actions, condition, parts);
     arguments(
         buf,

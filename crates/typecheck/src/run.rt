@@ -14,7 +14,7 @@ ghost use Rattle.names.specs.Lists.{gather, maybe};
 ghost use Rattle.schema.specs.Places.{isSchema, schemaIn, isAction, actionIn, foundIn, foundStands};
 ghost use Rattle.targets.specs.Places.{areTargets, targetsIn, isTarget, targetIn};
 ghost use Rattle.condition.specs.Places.{isRecord, recordIn};
-ghost use Rattle.condition.specs.Index.{Index, nodesOf};
+ghost use Rattle.walk.specs.Index.{Index, nodesOf};
 ghost use Rattle.resolution.specs.Resolution.{admitsAnyEnv};
 ghost use Rattle.reports.specs.Sink.{sink, Sound, pushAll};
 ghost use Rattle.reports.specs.Answers.{outcomeOf};
@@ -42,7 +42,7 @@ fn nodes<'a>(
     let mut now = state;
     let mut i = 0;
     while i < places.len() {
-        let at = condition::reached_at(condition, places, i);
+        let at = walk::reached_at(condition, places, i);
         now = node(buf, now, schema, condition, targets, env, facts, at);
         i += 1;
     }
@@ -174,7 +174,7 @@ fn over_places<'a>(
     ensures { λ r. ⌜ outcomeOf r (now (buf .exit)) ≡ checked (schemaIn (now (schema .entry))) (recordIn (now (condition .entry))) (targetsIn (now (targets .entry))) (now (buf .entry)) ⌝ }
 {
     let mut table = [0u16; 10921];
-    let n = condition::environment(condition, places, &mut table);
+    let n = walk::environment(condition, places, &mut table);
     let common = Common {
         actions: schema::actions(schema),
     };
@@ -204,7 +204,7 @@ fn checked<'a>(schema: &'a [u8], condition: &'a [u8], targets: &[u8], buf: &mut 
     ensures { λ r. ⌜ outcomeOf r (now (buf .exit)) ≡ checked (schemaIn (now (schema .entry))) (recordIn (now (condition .entry))) (targetsIn (now (targets .entry))) (now (buf .entry)) ⌝ }
 {
     let mut table = [0u16; 3641];
-    let n = condition::index_record(condition, &mut table);
+    let n = walk::index_record(condition, &mut table);
     over_places(schema, condition, targets, &table[..n], buf)
 }
 

@@ -1,6 +1,6 @@
 -- `sums::compose::joined_size` meets its contract. Assumes nothing.
 use native.Mathlib.Omega.{arith}
-use Rattle.condition.proofs.Pieces.{segments-index}
+use Rattle.nodes.specs.Laws.Pieces.{segments-index}
 use Rattle.sums.proofs.Composing.{measuring}
 use Rattle.sums.proofs.compose.joined_size.Statement.{statement}
 use Rattle.sums.proofs.compose.joined_size.Tie as tie

@@ -1,6 +1,6 @@
 -- `sums::compose::put_joined` meets its contract. Assumes nothing.
 use native.Mathlib.Omega.{arith}
-use Rattle.condition.proofs.Pieces.{segments-index}
+use Rattle.nodes.specs.Laws.Pieces.{segments-index}
 use Rattle.sums.proofs.Composing.{joining}
 use Rattle.sums.proofs.compose.put_joined.Statement.{statement}
 use Rattle.sums.proofs.compose.put_joined.Tie as tie

@@ -8,10 +8,10 @@ use Rattle.sums.proofs.Visiting.{visits}
 use Rattle.sums.proofs.terms.in_term.Reads as in-term
 use Rattle.sums.proofs.terms.in_term.Kinds as in-term-kinds
 use Rattle.sums.proofs.terms.+in_term.Lts-in_term as in-term-lts
-use Rattle.condition.proofs.aggregate_at.Reads as aggregate-at-reads
-use Rattle.condition.proofs.aggregate_kind_at.Reads as aggregate-kind-at-reads
-use Rattle.condition.proofs.arith_at.Reads as arith-at-reads
-use Rattle.condition.proofs.term_kind_at.Reads as term-kind-at-reads
+use Rattle.nodes.proofs.aggregate_at.Reads as aggregate-at-reads
+use Rattle.nodes.proofs.aggregate_kind_at.Reads as aggregate-kind-at-reads
+use Rattle.nodes.proofs.arith_at.Reads as arith-at-reads
+use Rattle.nodes.proofs.term_kind_at.Reads as term-kind-at-reads
 use Rattle.sums.proofs.summand.in_sum.Reads as in-sum-reads
 use Rattle.sums.proofs.terms.+in_term.{statement}
 use Rattle.sums.proofs.terms.+in_term.Tie.{close}

@@ -9,8 +9,8 @@ use Rattle.terms.proofs.literals.+array_type+element_type.Lts-array_typ
 use Rattle.terms.proofs.literals.element_type.Reads as element-type
 use Rattle.terms.proofs.literals.element_type.Kinds as element-type-kinds
 use Rattle.terms.proofs.literals.+array_type+element_type.Lts-element_type as element-type-lts
-use Rattle.condition.proofs.past_term.Reads as past-term-reads
-use Rattle.condition.proofs.term_kind_at.Reads as term-kind-at-reads
+use Rattle.nodes.proofs.past_term.Reads as past-term-reads
+use Rattle.nodes.proofs.term_kind_at.Reads as term-kind-at-reads
 use Rattle.names.proofs.byte_at.Reads as byte-at-reads
 use Rattle.terms.proofs.literals.array_of.Reads as array-of-reads
 use Rattle.terms.proofs.literals.leaf_type.Reads as leaf-type-reads

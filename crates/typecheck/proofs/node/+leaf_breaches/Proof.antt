@@ -7,8 +7,8 @@ use Rattle.typecheck.proofs.AtNode.{leaf-parts}
 use Rattle.typecheck.proofs.node.leaf_breaches.Reads as leaf-breaches
 use Rattle.typecheck.proofs.node.leaf_breaches.Kinds as leaf-breaches-kinds
 use Rattle.typecheck.proofs.node.+leaf_breaches.Lts-leaf_breaches as leaf-breaches-lts
-use Rattle.condition.proofs.arith_at.Reads as arith-at-reads
-use Rattle.condition.proofs.term_kind_at.Reads as term-kind-at-reads
+use Rattle.nodes.proofs.arith_at.Reads as arith-at-reads
+use Rattle.nodes.proofs.term_kind_at.Reads as term-kind-at-reads
 use Rattle.typecheck.proofs.node.one_leaf.Reads as one-leaf-reads
 use Rattle.typecheck.proofs.node.+leaf_breaches.{statement}
 use Rattle.typecheck.proofs.node.+leaf_breaches.Tie.{close}

@@ -3,7 +3,7 @@ use mathlib.Core.Path.{_≡_}
 use Prim.Native.Nat.{_-_}
 use lib.ListN.{length, drop}
 use Rattle.names.specs.Lists.{gather}
-use Rattle.condition.specs.Index.{nodesOf}
+use Rattle.walk.specs.Index.{nodesOf}
 use Rattle.reports.specs.Sink.{sink, push, pushAll}
 use Rattle.reports.specs.Sink.Laws.{Reporting}
 use Rattle.terms.specs.Facts.{factsIn}
