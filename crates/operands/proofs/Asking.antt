@@ -60,7 +60,7 @@ module _ (s c n env : List ℕ) (f : Facts) (known : Known s c env f) where
   root-stands = record-starts c (known .condition)
 
   module _ (k : ℕ) (o : Opened c 5 k) where
-    pub no-comparison : (k ≡ 8 → ⊥) → (which : Operand) (b : List ℕ) → outcomeOf Answer.NoComparison b ≡ answered which (factsIn s c n f) b
+    pub no-comparison : (k ≡ 8 → ⊥) → (which : Operand) (b : List ℕ) → outcomeOf Answer.NoComparison b ≡ answered which (recordIn c) (factsIn s c n f) b
     unfolding answered outcomeOf
     no-comparison h which b = rw (no-operand which (recordIn c) (λ e. h (o .kind ∙ ap kindOf (record-value c (known .condition)) ∙ e)))
 
@@ -87,7 +87,7 @@ module _ (s c n env : List ℕ) (f : Facts) (known : Known s c env f) where
           go Operand.Right = h .right
 
       pub operand-answered : (x : Typed) → TypeOf s c (termType (some (factsIn s c n f)) (termIn c at)) x → (b : List ℕ) (a : Answer) (t : List ℕ)
-          → outcomeOf a t ≡ shown (typedOf s c x) b → outcomeOf a t ≡ answered which (factsIn s c n f) b
+          → outcomeOf a t ≡ shown (typedOf s c x) b → outcomeOf a t ≡ answered which (recordIn c) (factsIn s c n f) b
       unfolding answered
       operand-answered x v b a t i = rw (operand-in, ← q, ← v .value) i
 
@@ -99,8 +99,8 @@ module _ (s c n : List ℕ) (read : Records s c n) (found : Found) (stands : fou
   pub facts-known : (env : List ℕ) → Environment c (binders (recordIn c)) env → ActionsOf s (common .actions) → Known s c env f
   facts-known env e g = record { schema = read .schema; condition = read .condition; named = e; action = rw (k .action) stands; actions = rw (k .shared) g }
 
-  pub facts-answered : (which : Operand) (b : List ℕ) (a : Answer) (t : List ℕ) → outcomeOf a t ≡ answered which (factsIn s c n f) b
-      → outcomeOf a t ≡ answered which (factsOf (schemaIn s) (recordIn c) (targetsIn n .scope) (foundIn (actionIn s) found)) b
+  pub facts-answered : (which : Operand) (b : List ℕ) (a : Answer) (t : List ℕ) → outcomeOf a t ≡ answered which (recordIn c) (factsIn s c n f) b
+      → outcomeOf a t ≡ answered which (recordIn c) (factsOf (schemaIn s) (recordIn c) (targetsIn n .scope) (foundIn (actionIn s) found)) b
   facts-answered which b a t i = rw (facts-mean s c n found common f k) at i
 
 pub ruleset by-action = (needs, length-take-le, facts-known, facts-answered)
@@ -109,7 +109,7 @@ module _ (s c n : List ℕ) (at : ℕ) (w : List ℕ) (is-w : w ≡ targetIn n a
   pub action-stands : foundStands (isAction s) x ≡ true
   action-stands = finds .stands
 
-  pub target-answered : (which : Operand) (b : List ℕ) (a : Answer) (t : List ℕ) → outcomeOf a t ≡ answered which (factsOf (schemaIn s) (recordIn c) (targetsIn n .scope) (foundIn (actionIn s) x)) b
+  pub target-answered : (which : Operand) (b : List ℕ) (a : Answer) (t : List ℕ) → outcomeOf a t ≡ answered which (recordIn c) (factsOf (schemaIn s) (recordIn c) (targetsIn n .scope) (foundIn (actionIn s) x)) b
       → outcomeOf a t ≡ underTarget (schemaIn s) (recordIn c) (targetsIn n) which b (targetIn n at)
   unfolding underTarget
   target-answered which b a t i =

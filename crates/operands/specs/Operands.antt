@@ -61,14 +61,14 @@ abbrev pub shown : Option Ty → List ℕ → Outcome
 shown none buffer = leaving untyped buffer
 shown (some t) buffer = placed (render t) buffer
 
--- the operand under the facts of a target: its `term_type`, rendered
-unfoldable pub answered : Operand → Facts → List ℕ → Outcome
-answered which f buffer =
-    maybe (leaving noComparison buffer) (λ t. shown (termType (some f) t) buffer) (operandIn which (f .whole))
+-- the operand of a condition under the facts of a target: its `term_type`, rendered
+unfoldable pub answered : Operand → Condition → Facts → List ℕ → Outcome
+answered which c f buffer =
+    maybe (leaving noComparison buffer) (λ t. shown (termType (some f) t) buffer) (operandIn which c)
 
 -- under a target: its action is looked up, and need not admit an environment
 unfoldable pub underTarget : Schema → Condition → Targets → Operand → List ℕ → Target → Outcome
-underTarget s c ts which buffer t = answered which (factsOf s c (ts .scope) (findAction s (t .namespace) (t .id))) buffer
+underTarget s c ts which buffer t = answered which c (factsOf s c (ts .scope) (findAction s (t .namespace) (t .id))) buffer
 
 -- under the target at a position: 12 where the list has no such position
 unfoldable pub atPosition : Schema → Condition → Targets → ℕ → Operand → List ℕ → Outcome

@@ -45,7 +45,7 @@ fn under_facts<'a>(
     out: &mut [u8],
 ) -> Answer
     requires { ⌜ Known (now schema) (now condition) (now env) facts ⌝ }
-    ensures { λ r. ⌜ outcomeOf r (now (out .exit)) ≡ answered which (factsIn (now (schema .entry)) (now (condition .entry)) (now (targets .entry)) facts) (now (out .entry)) ⌝ }
+    ensures { λ r. ⌜ outcomeOf r (now (out .exit)) ≡ answered which (recordIn (now (condition .entry))) (factsIn (now (schema .entry)) (now (condition .entry)) (now (targets .entry)) facts) (now (out .entry)) ⌝ }
 {
     if nodes::kind_at(condition, ROOT) == 8 {
         let parts = nodes::comparison_at(condition, ROOT);
@@ -71,7 +71,7 @@ fn with_common<'a>(
     requires { ⌜ Environment (now condition) (binders (recordIn (now condition))) (now env) ⌝ }
     requires { ⌜ ActionsOf (now schema) (common .actions) ⌝ }
     requires { ⌜ foundStands (isAction (now schema)) own ≡ true ⌝ }
-    ensures { λ r. ⌜ outcomeOf r (now (out .exit)) ≡ answered which (factsOf (schemaIn (now (schema .entry))) (recordIn (now (condition .entry))) (targetsIn (now (targets .entry)) .scope) (foundIn (actionIn (now (schema .entry))) own)) (now (out .entry)) ⌝ }
+    ensures { λ r. ⌜ outcomeOf r (now (out .exit)) ≡ answered which (recordIn (now (condition .entry))) (factsOf (schemaIn (now (schema .entry))) (recordIn (now (condition .entry))) (targetsIn (now (targets .entry)) .scope) (foundIn (actionIn (now (schema .entry))) own)) (now (out .entry)) ⌝ }
 {
     let facts = terms::facts_of(targets, own, common);
     under_facts(schema, condition, targets, env, facts, which, out)
@@ -90,7 +90,7 @@ fn over_places<'a>(
     requires { ⌜ Records (now schema) (now condition) (now targets) ⌝ }
     requires { ⌜ Index (now condition) (now places) ⌝ }
     requires { ⌜ foundStands (isAction (now schema)) own ≡ true ⌝ }
-    ensures { λ r. ⌜ outcomeOf r (now (out .exit)) ≡ answered which (factsOf (schemaIn (now (schema .entry))) (recordIn (now (condition .entry))) (targetsIn (now (targets .entry)) .scope) (foundIn (actionIn (now (schema .entry))) own)) (now (out .entry)) ⌝ }
+    ensures { λ r. ⌜ outcomeOf r (now (out .exit)) ≡ answered which (recordIn (now (condition .entry))) (factsOf (schemaIn (now (schema .entry))) (recordIn (now (condition .entry))) (targetsIn (now (targets .entry)) .scope) (foundIn (actionIn (now (schema .entry))) own)) (now (out .entry)) ⌝ }
 {
     let mut table = [0u16; 10921];
     let k = walk::environment(condition, places, &mut table);
@@ -120,7 +120,7 @@ fn under_action<'a>(
 ) -> Answer
     requires { ⌜ Records (now schema) (now condition) (now targets) ⌝ }
     requires { ⌜ foundStands (isAction (now schema)) own ≡ true ⌝ }
-    ensures { λ r. ⌜ outcomeOf r (now (out .exit)) ≡ answered which (factsOf (schemaIn (now (schema .entry))) (recordIn (now (condition .entry))) (targetsIn (now (targets .entry)) .scope) (foundIn (actionIn (now (schema .entry))) own)) (now (out .entry)) ⌝ }
+    ensures { λ r. ⌜ outcomeOf r (now (out .exit)) ≡ answered which (recordIn (now (condition .entry))) (factsOf (schemaIn (now (schema .entry))) (recordIn (now (condition .entry))) (targetsIn (now (targets .entry)) .scope) (foundIn (actionIn (now (schema .entry))) own)) (now (out .entry)) ⌝ }
 {
     let mut table = [0u16; 3641];
     let k = walk::index_record(condition, &mut table);

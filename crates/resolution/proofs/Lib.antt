@@ -3,4 +3,3 @@ pub mod OneType
 pub mod AllTypes
 pub mod Texts
 pub mod Rendered
-pub mod Examples

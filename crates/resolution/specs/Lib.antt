@@ -1,5 +1,4 @@
 pub mod Resolution
 pub mod Places
 pub mod Passes
-pub mod Examples
 pub mod Laws

@@ -6,12 +6,12 @@ ghost use lib.ListN.{length};
 ghost use Rattle.names.specs.Names.{plain};
 ghost use Rattle.names.specs.Fields.{stringOf};
 ghost use Rattle.names.specs.Read.{Listed};
-ghost use Rattle.targets.specs.Places.{isQuery, queryIn, sideOf};
+ghost use Rattle.targets.specs.Places.{isQuery, queryIn, Asks};
 
 // Which side a path record asks about.
 pub fn path_side(s: &[u8]) -> Side
     requires { ⌜ isQuery (now s) ≡ true ⌝ }
-    ensures { λ r. ⌜ sideOf r ≡ queryIn (now (s .entry)) .side ⌝ }
+    ensures { λ r. ⌜ Asks (queryIn (now (s .entry)) .side) r ⌝ }
 {
     if s.len() <= 5 {
         return Side::Principal;

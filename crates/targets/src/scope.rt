@@ -5,12 +5,12 @@ ghost use mathlib.Core.Bool.{true};
 ghost use Rattle.names.specs.Read.{ending};
 ghost use Rattle.names.specs.declared.Read.the-variants.{Next};
 ghost use Rattle.targets.specs.Targets.{narrowing};
-ghost use Rattle.targets.specs.Places.{areTargets, targetsIn, isNarrowing, narrowingIn, narrowed, NarrowedAt};
+ghost use Rattle.targets.specs.Places.{areTargets, targetsIn, isNarrowing, narrowingIn, Narrows, NarrowedAt};
 
 // The narrowing at `at`.
 pub fn narrowing_at(s: &[u8], at: usize) -> Narrowed
     requires { ⌜ isNarrowing (now s) at ≡ true ⌝ }
-    ensures { λ r. ⌜ narrowed (now (s .entry)) r ≡ narrowingIn (now (s .entry)) at ⌝ }
+    ensures { λ r. ⌜ Narrows (now (s .entry)) (narrowingIn (now (s .entry)) at) r ⌝ }
 {
     if s.len() <= at {
         return Narrowed::Absent;
@@ -64,7 +64,7 @@ pub fn resource_at(s: &[u8]) -> usize
 // What the scope says of the principal.
 pub fn principal(s: &[u8]) -> Narrowed
     requires { ⌜ areTargets (now s) ≡ true ⌝ }
-    ensures { λ r. ⌜ narrowed (now (s .entry)) r ≡ targetsIn (now (s .entry)) .scope .principal ⌝ }
+    ensures { λ r. ⌜ Narrows (now (s .entry)) (targetsIn (now (s .entry)) .scope .principal) r ⌝ }
 {
     let at = principal_at(s);
     narrowing_at(s, at)
@@ -73,7 +73,7 @@ pub fn principal(s: &[u8]) -> Narrowed
 // What the scope says of the resource.
 pub fn resource(s: &[u8]) -> Narrowed
     requires { ⌜ areTargets (now s) ≡ true ⌝ }
-    ensures { λ r. ⌜ narrowed (now (s .entry)) r ≡ targetsIn (now (s .entry)) .scope .resource ⌝ }
+    ensures { λ r. ⌜ Narrows (now (s .entry)) (targetsIn (now (s .entry)) .scope .resource) r ⌝ }
 {
     let at = resource_at(s);
     narrowing_at(s, at)

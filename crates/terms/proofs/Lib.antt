@@ -4,4 +4,3 @@ pub mod Arrays
 pub mod Fields
 pub mod Roots
 pub mod Under
-pub mod Examples

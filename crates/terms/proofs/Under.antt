@@ -52,7 +52,7 @@ pub ruleset making = (needs, facts-made)
 
 -- what they are in the definitions
 pub facts-mean : (s c n : List ℕ) (found : Found) (common : Common) (f : Facts) → FactsOf n found common f → factsIn s c n f ≡ factsOf (schemaIn s) (recordIn c) (targetsIn n .scope) (foundIn (actionIn s) found)
-facts-mean s c n found common f k = λ i. record { schema = schemaIn s; scope = k .scope i; action = foundIn (actionIn s) (k .action i); whole = recordIn c }
+facts-mean s c n found common f k = λ i. record { schema = schemaIn s; scope = k .scope i; action = foundIn (actionIn s) (k .action i); binders = binders (recordIn c) }
 
 -- Under a declared action, and under none.
 module _ (s c : List ℕ) (at : ℕ) (facts : Facts) where

@@ -20,9 +20,9 @@ use Rattle.terms.specs.Terms as Terms
 abbrev pub scopeIn : List ℕ → Facts → Scope
 scopeIn n f = record { principal = narrowed n (f .principal); resource = narrowed n (f .resource) }
 
--- of the schema s, the condition c and the targets n
+-- of the schema s, the condition c and the targets n; their binders are those of the flat environment, which the table has (`named`, below)
 abbrev pub factsIn : List ℕ → List ℕ → List ℕ → Facts → Terms.Facts
-factsIn s c n f = record { schema = schemaIn s; scope = scopeIn n f; action = foundIn (actionIn s) (f .action); whole = recordIn c }
+factsIn s c n f = record { schema = schemaIn s; scope = scopeIn n f; action = foundIn (actionIn s) (f .action); binders = binders (recordIn c) }
 
 -- what must hold of them: the records are accepted, the environment has the binders by name, the action
 -- stands in the schema, and the row is that of all its actions

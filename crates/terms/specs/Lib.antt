@@ -3,4 +3,3 @@ pub mod Facts
 pub mod Bounds
 pub mod Literals
 pub mod Answers
-pub mod Examples

@@ -14,7 +14,7 @@ use Rattle.targets.specs.Targets.{Narrowing, Scope}
 use Rattle.schema.specs.Find.{fieldsOf, findAttribute, richType}
 use Rattle.resolution.specs.Resolution.{contextType, scopeType, ScopePath, scopePath}
 use Rattle.condition.specs.Condition as condition
-use Rattle.condition.specs.Condition.{Condition, Term, Terms, Annotation, timepoint, path, Literal, entity, literal, contextField, scopeField, var, wildcard, array, aggregate, arith, sigil, nil, cons}
+use Rattle.condition.specs.Condition.{Condition, Binder, Term, Terms, Annotation, timepoint, path, Literal, entity, literal, contextField, scopeField, var, wildcard, array, aggregate, arith, sigil, nil, cons}
 
 -- the type that a word names: a word of the language, or an entity type
 unfoldable pub wordType : List ℕ → Ty
@@ -30,16 +30,17 @@ unfoldable pub annotationType : Annotation → Ty
 annotationType timepoint = scalar types.timepoint
 annotationType (path segments) = wordType (lastOf segments)
 
--- what a condition is checked under: the schema, the rule's scope, the target's action if it is declared, and the whole condition
+-- what a condition is checked under: the schema, the rule's scope, the target's action if it is declared, and the binders that declare names, of which
+-- the last of a name counts. What a caller chooses for a whole check, as a profile, will be a field more; in the code it joins `Common`.
 pub record Facts : Type 0 where
   pub schema : Schema
   pub scope : Scope
   pub action : Option Action
-  pub whole : Condition
+  pub binders : List Binder
 
--- those of a target whose action is this one, or undeclared
+-- those of a target whose action is this one, or undeclared: in the flat environment all binders of the condition declare their names everywhere
 abbrev pub factsOf : Schema → Condition → Scope → Option Action → Facts
-factsOf s c scope a = record { schema = s; scope = scope; action = a; whole = c }
+factsOf s c scope a = record { schema = s; scope = scope; action = a; binders = binders c }
 
 -- the type of an attribute of a record
 unfoldable pub fieldType : List ℕ → Declared → Option Ty
@@ -55,7 +56,7 @@ inputType action name =
 -- a name's type in the flat environment (`build_type_env`): by the last binder of that name, else by the input field
 unfoldable pub varType : Facts → List ℕ → Option Ty
 varType f name =
-    maybe (inputType (f .action) name) (λ a. some (annotationType a)) (lastNamed name (binders (f .whole)))
+    maybe (inputType (f .action) name) (λ a. some (annotationType a)) (lastNamed name (f .binders))
 
 abbrev pub ifResolved : ScopePath → Option Ty
 ifResolved (ScopePath.resolved t) = some t

@@ -14,7 +14,7 @@ use targets::Narrowed;
 pub use term::term_type;
 use types::Rich;
 
-// What is found once for all targets: where the schema's actions stand.
+// What is found once for all targets: where the schema's actions stand. What a caller chooses for the whole check, as a profile, joins here.
 pub struct Common {
     pub actions: Row,
 }

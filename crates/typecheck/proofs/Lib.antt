@@ -4,4 +4,3 @@ pub mod AtNode
 pub mod Namespaces
 pub mod Argued
 pub mod Running
-pub mod Examples

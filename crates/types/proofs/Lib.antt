@@ -1,4 +1,3 @@
 -- Laws that several proofs cite.
 pub mod Fits
 pub mod Words
-pub mod Examples

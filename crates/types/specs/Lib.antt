@@ -2,5 +2,4 @@ pub mod Types
 pub mod Meaning
 pub mod Rules
 pub mod Words
-pub mod Examples
 pub mod Laws

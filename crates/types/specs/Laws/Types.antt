@@ -2,7 +2,6 @@
 --     any-array, any-array-right     an array of unknown elements passes with every array and with nothing else
 --     any-array-inside               and so does one under layers, beside an array under as many
 --     layers-same                    layers on both sides are taken off
---     entities-fit, decimals-fit     any two entities are compatible; a decimal is compatible with a decimal
 --     only-long                      only Long is numeric
 use mathlib.Core.Path.{_≡_, refl}
 use mathlib.Core.Bool.{Bool, true, false}
@@ -53,14 +52,6 @@ module _ (tags : Option (List ℕ) → Option (List ℕ) → Bool) where
 pub layered-array : (n : ℕ) (t : Ty) → isArray (layered (suc n) t) ≡ true
 unfolding isArray layered
 layered-array n t = refl
-
-pub entities-fit : (e f : Option (List ℕ)) → compatible (entity e) (entity f) ≡ true
-unfolding fits
-entities-fit e f = refl
-
-pub decimals-fit : compatible (scalar decimal) (scalar decimal) ≡ true
-unfolding fits
-decimals-fit = refl
 
 pub only-long : (t : Ty) → isNumeric t ≡ true → t ≡ scalar long
 unfolding fits

@@ -1,5 +1,5 @@
--- Demand 3, of runs of the check: `demand3` is the claim of `Breaches.antt`. `alone` is about one run, `joined` about lists joined, `alike` about order
--- and repeats. Assumes nothing.
+-- Demand 3, of runs of the check: `demand3` is the claim of `specs/Breaches.antt`. `alone` is about one run, `joined` about lists joined, `alike` about
+-- order and repeats. Assumes nothing.
 use Prim.Native.Nat.{ℕ, _+_, _≤_}
 use native.Mathlib.Omega.{arith}
 use mathlib.Core.Path.{_≡_, refl, sym, ap, subst, _∙_}
@@ -10,7 +10,6 @@ use mathlib.Core.Option.{Option, none, some}
 use lib.ListN.{length, drop}
 use Rattle.names.specs.Lists.{maybe, gather}
 use Rattle.names.specs.Laws.Lists.{gather-append}
-use Rattle.names.specs.Fields.{whole}
 use Rattle.schema.specs.Schema.{Schema, Action}
 use Rattle.schema.specs.Find.{findAction}
 use Rattle.condition.specs.Condition.{Condition}
@@ -18,13 +17,16 @@ use Rattle.condition.specs.Walk.{reached}
 use Rattle.targets.specs.Targets.{Target, Targets, Scope}
 use Rattle.resolution.specs.Resolution.{admitsAnyEnv}
 use Rattle.reports.specs.Reports.{Breach, Outcome, once, reported}
+use Rattle.reports.specs.Answers.{outcomeOf}
 use Rattle.reports.specs.Reports.Laws as laws
 use Rattle.reports.specs.Once.{both, both-in, both-nodup}
 use Rattle.reports.specs.Sets.{in-left, in-right, in-append, length-same}
 use Rattle.reports.specs.Pairs.{_∈_, NoDup, Same, Pair, pairOf, pairs, space}
 use Rattle.terms.specs.Terms.{factsOf}
 use Rattle.typecheck.specs.Check.{nodeBreaches, breachesUnder, checked, check}
-use Rattle.typecheck.specs.Breaches.{Accepted, isChecked, BreachUnder, BreachOf, PairOf, Different, SpaceForAll, reportedPairs, Exact, under, Alone, Joined, Alike, Claim}
+use Rattle.claims.specs.Written.{written}
+use Rattle.claims.specs.Breaches.{Accepted, isChecked, BreachUnder, BreachOf, PairOf, Different, SpaceForAll, Run, reportedPairs, Shared, Exact, under, Alone, Taken, RunOf, Counts, Joined, Alike, Claim}
+use Rattle.claims.proofs.Written.{no-other, front-accepted, behind-accepted}
 
 -- ---- what is gathered from a list, and the pairs of a list
 
@@ -123,16 +125,6 @@ module _ (s : Schema) (c : Condition) (ts : Targets) where
 
 -- ---- demand 3
 
--- a run of the check over accepted records is given by its breaches
-module _ (schemaBytes conditionBytes targetBytes : List ℕ) (s : Schema) (c : Condition) (ts : Targets) (is : Accepted schemaBytes conditionBytes targetBytes s c ts) (buffer : List ℕ) where
-  runs : check schemaBytes conditionBytes targetBytes buffer ≡ reported (once [] (breaches s c ts)) buffer
-  unfolding check checked
-  runs = rw (is .schema, is .condition, is .targets)
-
-  module _ (room : SpaceForAll s c ts buffer) where
-    enough : space (pairs (once [] (breaches s c ts))) ≤ length buffer
-    enough = room .room _ (different s c ts)
-
 no-breach : (s : Schema) (c : Condition) (ts : Targets) → (breaches s c ts ≡ []) ↔ ((b : Breach) → BreachOf s c ts b → ⊥)
 no-breach s c ts = ((λ e b r. subst (λ (l : List Breach). b ∈ l) e (breach-in s c ts b r)), (λ f. go (breaches s c ts) (λ b h. f b (is-breach s c ts b h))))
   where
@@ -141,63 +133,100 @@ no-breach s c ts = ((λ e b r. subst (λ (l : List Breach). b ∈ l) e (breach-i
     go (b ∷ l) f = absurd (f b (inl refl))
 
 module _ (schemaBytes conditionBytes : List ℕ) (s : Schema) (c : Condition) where
+  -- what a run over accepted records leaves is given by its breaches
+  module _ (targetBytes : List ℕ) (ts : Targets) (is : Accepted schemaBytes conditionBytes targetBytes s c ts) (r : Run schemaBytes conditionBytes targetBytes) where
+    abbrev left : Outcome
+    left = outcomeOf (r .answer) (r .after)
+
+    runs : left ≡ reported (once [] (breaches s c ts)) (r .before)
+    unfolding check checked
+    runs = r .contract ∙ rw (is .schema, is .condition, is .targets)
+
+  enough : (ts : Targets) (buffer : List ℕ) → SpaceForAll s c ts buffer → space (pairs (once [] (breaches s c ts))) ≤ length buffer
+  enough ts buffer room = room .room _ (different s c ts)
+
   pub alone : Alone schemaBytes conditionBytes s c
-  alone targetBytes ts is buffer room =
-      let o = check schemaBytes conditionBytes targetBytes buffer in
+  unfolding outcomeOf
+  alone targetBytes ts is r room =
+      let o = left targetBytes ts is r in
       let bs = breaches s c ts in
-      let run = runs schemaBytes conditionBytes targetBytes s c ts is buffer in
-      let fits = enough schemaBytes conditionBytes targetBytes s c ts is buffer room in
-      let zero = laws.run-none bs buffer o run fits in
+      let run = runs targetBytes ts is r in
+      let fits = enough ts (r .before) room in
+      let zero = laws.run-none bs (r .before) o run fits in
       let empty = no-breach s c ts in
       record {
-        number = laws.run-zero bs buffer o run fits;
+        number = laws.run-zero bs (r .before) o run fits;
         pairs =
             record {
-              each = laws.run-once bs buffer o run fits;
-              all = λ k. ((λ h. pair-of s c ts k .0 (laws.run-members bs buffer o run fits k .0 h)), (λ h. laws.run-members bs buffer o run fits k .1 (pair-of s c ts k .1 h)));
+              each = laws.run-once bs (r .before) o run fits;
+              all = λ k. ((λ h. pair-of s c ts k .0 (laws.run-members bs (r .before) o run fits k .0 h)), (λ h. laws.run-members bs (r .before) o run fits k .1 (pair-of s c ts k .1 h)));
             };
-        count = λ ps d. laws.run-count bs buffer o run fits ps (d .each) (λ k. ((λ h. pair-of s c ts k .1 (d .all k .0 h)), (λ h. d .all k .1 (pair-of s c ts k .0 h))));
+        count = λ ps d. laws.run-count bs (r .before) o run fits ps (d .each) (λ k. ((λ h. pair-of s c ts k .1 (d .all k .0 h)), (λ h. d .all k .1 (pair-of s c ts k .0 h))));
         none = ((λ e. empty .0 (zero .0 e)), (λ f. zero .1 (empty .1 f)));
-        rest = laws.run-rest bs buffer o run fits;
+        rest = laws.run-rest bs (r .before) o run fits;
       }
 
+  -- the counts of two lists and of the joined one
+  module _ (scope : Scope) (front behind : List Target) where
+    abbrev A : Targets
+    A = under scope front
+
+    abbrev B : Targets
+    B = under scope behind
+
+    abbrev AB : Targets
+    AB = under scope (front ++ behind)
+
+    counts : Taken schemaBytes conditionBytes s c A → Taken schemaBytes conditionBytes s c B → Taken schemaBytes conditionBytes s c AB
+        → (a : RunOf schemaBytes conditionBytes s c A) (b : RunOf schemaBytes conditionBytes s c B) (ab : RunOf schemaBytes conditionBytes s c AB)
+        → SpaceForAll s c A (a .before) → SpaceForAll s c B (b .before) → SpaceForAll s c AB (ab .before) → Counts schemaBytes conditionBytes s c A B AB a b ab
+    unfolding outcomeOf
+    counts isA isB isAB a b ab roomA roomB roomAB =
+        let xs = breaches s c A in
+        let ys = breaches s c B in
+        let oA = left (written A) A isA a in
+        let oB = left (written B) B isB b in
+        let oAB = left (written AB) AB isAB ab in
+        let runA = runs (written A) A isA a in
+        let runB = runs (written B) B isB b in
+        let fitA = enough A (a .before) roomA in
+        let fitB = enough B (b .before) roomB in
+        let one : breaches s c AB ≡ xs ++ ys = gather-append (breachesUnder s c scope) front behind in
+        let runAB : oAB ≡ reported (once [] (xs ++ ys)) (ab .before) = runs (written AB) AB isAB ab ∙ ap (λ (l : List Breach). reported (once [] l) (ab .before)) one in
+        let fitAB : space (pairs (once [] (xs ++ ys))) ≤ length (ab .before) = subst (λ (l : List Breach). space (pairs (once [] l)) ≤ length (ab .before)) one (enough AB (ab .before) roomAB) in
+        let memA = laws.run-members xs (a .before) oA runA fitA in
+        let memB = laws.run-members ys (b .before) oB runB fitB in
+        let shared : Shared (reportedPairs a) (reportedPairs b) (both xs ys) =
+        record {
+          each = both-nodup xs ys;
+          all = λ k. ((λ h. (memA k .1 (both-in xs ys k .0 h .0), memB k .1 (both-in xs ys k .0 h .1))), (λ h. both-in xs ys k .1 (memA k .0 (h .0), memB k .0 (h .1))));
+        } in
+        record {
+          shared = both xs ys;
+          isShared = shared;
+          count = λ ps d. ap (λ (n : ℕ). ab .answer .count + n) (length-same ps (both xs ys) (d .each) (both-nodup xs ys) (λ k. ((λ h. shared .all k .1 (d .all k .0 h)), (λ h. d .all k .1 (shared .all k .0 h)))))
+              ∙ laws.runs-joined xs ys (a .before) (b .before) (ab .before) oA oB oAB runA runB runAB fitA fitB fitAB;
+        }
+
   pub joined : Joined schemaBytes conditionBytes s c
-  joined bytesA bytesB bytesAB scope front behind isA isB isAB bufferA bufferB bufferAB roomA roomB roomAB shared once-each in-shared =
-      let tsA : Targets = under scope front in
-      let tsB : Targets = under scope behind in
-      let tsAB : Targets = under scope (front ++ behind) in
-      let xs = breaches s c tsA in
-      let ys = breaches s c tsB in
-      let oA = check schemaBytes conditionBytes bytesA bufferA in
-      let oB = check schemaBytes conditionBytes bytesB bufferB in
-      let oAB = check schemaBytes conditionBytes bytesAB bufferAB in
-      let runA = runs schemaBytes conditionBytes bytesA s c tsA isA bufferA in
-      let runB = runs schemaBytes conditionBytes bytesB s c tsB isB bufferB in
-      let fitA = enough schemaBytes conditionBytes bytesA s c tsA isA bufferA roomA in
-      let fitB = enough schemaBytes conditionBytes bytesB s c tsB isB bufferB roomB in
-      let one : breaches s c tsAB ≡ xs ++ ys = gather-append (breachesUnder s c scope) front behind in
-      let runAB : oAB ≡ reported (once [] (xs ++ ys)) bufferAB =
-      runs schemaBytes conditionBytes bytesAB s c tsAB isAB bufferAB ∙ ap (λ (l : List Breach). reported (once [] l) bufferAB) one in
-      let fitAB : space (pairs (once [] (xs ++ ys))) ≤ length bufferAB =
-      subst (λ (l : List Breach). space (pairs (once [] l)) ≤ length bufferAB) one (enough schemaBytes conditionBytes bytesAB s c tsAB isAB bufferAB roomAB) in
-      let memA = laws.run-members xs bufferA oA runA fitA in
-      let memB = laws.run-members ys bufferB oB runB fitB in
-      let alike : Same shared (both xs ys) =
-      λ k. ((λ h. both-in xs ys k .1 (memA k .0 (in-shared k .0 h .0), memB k .0 (in-shared k .0 h .1))), (λ h. in-shared k .1 (memA k .1 (both-in xs ys k .0 h .0), memB k .1 (both-in xs ys k .0 h .1)))) in
-      ap (λ (n : ℕ). oAB .answer .count + n) (length-same shared (both xs ys) once-each (both-nodup xs ys) alike)
-      ∙ laws.runs-joined xs ys bufferA bufferB bufferAB oA oB oAB runA runB runAB fitA fitB fitAB
+  joined scope front behind is =
+      let a : Taken schemaBytes conditionBytes s c (under scope front) =
+      record { schemaEnd = is .schemaEnd; schema = is .schema; conditionEnd = is .conditionEnd; condition = is .condition; targetsEnd = _; targets = front-accepted scope front behind _ (is .targets) } in
+      let b : Taken schemaBytes conditionBytes s c (under scope behind) =
+      record { schemaEnd = is .schemaEnd; schema = is .schema; conditionEnd = is .conditionEnd; condition = is .condition; targetsEnd = _; targets = behind-accepted scope front behind _ (is .targets) } in
+      record { takenFront = a; takenBehind = b; counts = counts scope front behind a b is }
 
   pub alike : Alike schemaBytes conditionBytes s c
-  alike bytes₁ bytes₂ scope front behind is₁ is₂ same buffer₁ buffer₂ room₁ room₂ =
-      let ts₁ : Targets = under scope front in
-      let ts₂ : Targets = under scope behind in
-      let e₁ = alone bytes₁ ts₁ is₁ buffer₁ room₁ in
-      let e₂ = alone bytes₂ ts₂ is₂ buffer₂ room₂ in
-      let to : (k : Pair) → PairOf s c ts₁ k → PairOf s c ts₂ k = λ k r. other front behind scope (λ t h. same t .0 h) k r in
-      let back : (k : Pair) → PairOf s c ts₂ k → PairOf s c ts₁ k = λ k r. other behind front scope (λ t h. same t .1 h) k r in (
-        (λ k. ((λ h. e₂ .pairs .all k .1 (to k (e₁ .pairs .all k .0 h))), (λ h. e₁ .pairs .all k .1 (back k (e₂ .pairs .all k .0 h))))),
-        e₁ .count (reportedPairs (check schemaBytes conditionBytes bytes₂ buffer₂)) (record { each = e₂ .pairs .each; all = λ k. ((λ h. back k (e₂ .pairs .all k .0 h)), (λ h. e₂ .pairs .all k .1 (to k h))) })
-            ∙ sym (e₂ .count (reportedPairs (check schemaBytes conditionBytes bytes₂ buffer₂)) (e₂ .pairs)),
+  alike scope front behind isA isB same a b roomA roomB =
+      let A : Targets = under scope front in
+      let B : Targets = under scope behind in
+      let eA = alone (written A) A isA a roomA in
+      let eB = alone (written B) B isB b roomB in
+      let to : (k : Pair) → PairOf s c A k → PairOf s c B k = λ k r. other front behind scope (λ t h. same t .0 h) k r in
+      let back : (k : Pair) → PairOf s c B k → PairOf s c A k = λ k r. other behind front scope (λ t h. same t .1 h) k r in (
+        (λ k. ((λ h. eB .pairs .all k .1 (to k (eA .pairs .all k .0 h))), (λ h. eA .pairs .all k .1 (back k (eB .pairs .all k .0 h))))),
+        eA .count (reportedPairs b) (record { each = eB .pairs .each; all = λ k. ((λ h. back k (eB .pairs .all k .0 h)), (λ h. eB .pairs .all k .1 (to k h))) })
+            ∙ sym (eB .count (reportedPairs b) (eB .pairs)),
       )
     where
       other : (front behind : List Target) (scope : Scope) → ((t : Target) → t ∈ front → t ∈ behind) → (k : Pair) → PairOf s c (under scope front) k → PairOf s c (under scope behind) k
@@ -209,4 +238,4 @@ module _ (schemaBytes conditionBytes : List ℕ) (s : Schema) (c : Condition) wh
           }
 
   pub demand3 : Claim schemaBytes conditionBytes s c
-  demand3 = record { alone = alone; joined = joined; alike = alike }
+  demand3 = record { alone = alone; joined = joined; alike = alike; noOther = λ bytes ts is. no-other bytes (is .targets) }

@@ -1,0 +1,4 @@
+pub mod Written
+pub mod Demand3
+pub mod WholeRun
+pub mod Examples

@@ -1,0 +1,5 @@
+pub mod Written
+pub mod Breaches
+pub mod Rows
+pub mod Examples
+pub mod WholeRun
