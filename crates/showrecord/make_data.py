@@ -1,5 +1,5 @@
 #!/usr/bin/env python3
-"""Writes the records of data/, which `showrecord` shows when it is given no arguments.
+"""Writes the records of data/, which `showrecord` shows under the gate (the file args names them).
 
     python3 crates/showrecord/make_data.py            write data/
     python3 crates/showrecord/make_data.py --lines    print the lines that the accepted records must give

@@ -1,28 +1,43 @@
 // Checks a condition under a target record, and prints the reports. It reads schema.dws, cond.dwc and targets.dwt, or the files
-// that its three arguments name.
+// that its three arguments name; with any other number of arguments it reads nothing.
 use program::Loaded;
 
 fn main() {
-    let mut schema = program::record_space();
-    let first = program::load_argument(1, b"schema.dws", &mut schema);
-    let Loaded::Bytes(s) = first else {
+    if program::fits(os::arg_count(), 3) {
+        first();
+        return;
+    }
+    program::print_usage(b"usage: checkcond [SCHEMA CONDITION TARGETS]\n");
+}
+
+// The schema is read,
+fn first() {
+    let mut space = program::record_space();
+    let loaded = program::load_argument(1, b"schema.dws", &mut space);
+    let Loaded::Bytes(n) = loaded else {
         return;
     };
-    let mut condition = program::record_space();
-    let second = program::load_argument(2, b"cond.dwc", &mut condition);
-    let Loaded::Bytes(c) = second else {
+    second(names::part_of(&space, 0, n));
+}
+
+// then the condition,
+fn second(schema: &[u8]) {
+    let mut space = program::record_space();
+    let loaded = program::load_argument(2, b"cond.dwc", &mut space);
+    let Loaded::Bytes(n) = loaded else {
         return;
     };
-    let mut targets = program::record_space();
-    let third = program::load_argument(3, b"targets.dwt", &mut targets);
-    let Loaded::Bytes(n) = third else {
+    third(schema, names::part_of(&space, 0, n));
+}
+
+// then the targets.
+fn third<'a>(schema: &'a [u8], condition: &'a [u8]) {
+    let mut space = program::record_space();
+    let loaded = program::load_argument(3, b"targets.dwt", &mut space);
+    let Loaded::Bytes(n) = loaded else {
         return;
     };
-    run(
-        names::part_of(&schema, 0, s),
-        names::part_of(&condition, 0, c),
-        names::part_of(&targets, 0, n),
-    );
+    run(schema, condition, names::part_of(&space, 0, n));
 }
 
 fn run<'a>(schema: &'a [u8], condition: &'a [u8], targets: &'a [u8]) {

@@ -1,5 +1,5 @@
 // Looks a path under a scope up for one target, and prints how it resolves. It reads schema.dws, targets.dwt and path.dwp, or
-// the files that its three arguments name.
+// the files that its three arguments name; with any other number of arguments it reads nothing.
 use program::Loaded;
 use program::print;
 ghost use mathlib.Core.Path.{_≡_};
@@ -13,26 +13,41 @@ fn output_space() -> [u8; 131072]
 }
 
 fn main() {
-    let mut schema = program::record_space();
-    let first = program::load_argument(1, b"schema.dws", &mut schema);
-    let Loaded::Bytes(s) = first else {
+    if program::fits(os::arg_count(), 3) {
+        first();
+        return;
+    }
+    program::print_usage(b"usage: lookscope [SCHEMA TARGETS PATH]\n");
+}
+
+// The schema is read,
+fn first() {
+    let mut space = program::record_space();
+    let loaded = program::load_argument(1, b"schema.dws", &mut space);
+    let Loaded::Bytes(n) = loaded else {
         return;
     };
-    let mut targets = program::record_space();
-    let second = program::load_argument(2, b"targets.dwt", &mut targets);
-    let Loaded::Bytes(n) = second else {
+    second(names::part_of(&space, 0, n));
+}
+
+// then the targets,
+fn second(schema: &[u8]) {
+    let mut space = program::record_space();
+    let loaded = program::load_argument(2, b"targets.dwt", &mut space);
+    let Loaded::Bytes(n) = loaded else {
         return;
     };
-    let mut path = program::record_space();
-    let third = program::load_argument(3, b"path.dwp", &mut path);
-    let Loaded::Bytes(c) = third else {
+    third(schema, names::part_of(&space, 0, n));
+}
+
+// then the path.
+fn third<'a>(schema: &'a [u8], targets: &'a [u8]) {
+    let mut space = program::record_space();
+    let loaded = program::load_argument(3, b"path.dwp", &mut space);
+    let Loaded::Bytes(n) = loaded else {
         return;
     };
-    look(
-        names::part_of(&schema, 0, s),
-        names::part_of(&targets, 0, n),
-        names::part_of(&path, 0, c),
-    );
+    look(schema, targets, names::part_of(&space, 0, n));
 }
 
 fn look<'a>(schema: &'a [u8], targets: &'a [u8], path: &'a [u8]) {

@@ -1,12 +1,13 @@
 // What the programs share: a record read from a file into a lent buffer, words, numbers and reports printed.
 mod printed;
 
+use libc::STDERR_FILENO;
 use libc::STDOUT_FILENO;
 pub use printed::print_run;
 pub use printed::report_space;
 ghost use mathlib.Core.Path.{_≡_};
 ghost use lib.ListN.{length};
-ghost use Rattle.program.specs.Program.{within};
+ghost use Rattle.program.specs.Program.{Within, zeros, contented};
 
 // How many bytes of a file were put at the front of a buffer, or that it could not be read.
 pub enum Loaded {
@@ -14,17 +15,33 @@ pub enum Loaded {
     Unread,
 }
 
-// Room for a record and more: a file that is longer than a record may be is refused as one. The contract gives the length
-// alone, which is what lending the array needs.
+// Room for a record and more: a file that is longer than a record may be is refused as one. The length is what lending the
+// array needs.
 pub fn record_space() -> [u8; 40960]
+    ensures { λ r. ⌜ r ≡ zeros 40960 ⌝ }
     ensures { λ r. ⌜ 40960 ≡ length r ⌝ }
 {
     [0; 40960]
 }
 
+// Whether a program that reads so many files can run with so many arguments, its own name among them.
+pub fn fits(count: usize, files: usize) -> bool
+    ensures { λ r. ⌜ r ≡ contented count files ⌝ }
+{
+    if count <= 1 {
+        return true;
+    }
+    count - 1 == files
+}
+
+// What is said where the arguments do not fit, apart from what a program answers.
+pub fn print_usage(text: &[u8]) {
+    io::write_all(STDERR_FILENO, text);
+}
+
 // What a first read gave, and what more the file has.
 fn read_on(fd: i32, name: &[u8], space: &mut [u8], got: isize) -> Loaded
-    ensures { λ r. ⌜ within (now (space .exit)) r ⌝ }
+    ensures { λ r. ⌜ Within (now (space .exit)) r ⌝ }
 {
     if got < 0 {
         os::fail(name);
@@ -35,9 +52,10 @@ fn read_on(fd: i32, name: &[u8], space: &mut [u8], got: isize) -> Loaded
     Loaded::Bytes(n + more)
 }
 
-// Reads the file of a name, as far as the space reaches. One that cannot be read is said, with the reason.
+// Reads the file of a name, as far as the space reaches. One that cannot be read is said, with the reason. What a file
+// has no contract can say, as the kit's of `read` does not: its bytes lie in the space.
 pub fn load(name: &[u8], space: &mut [u8]) -> Loaded
-    ensures { λ r. ⌜ within (now (space .exit)) r ⌝ }
+    ensures { λ r. ⌜ Within (now (space .exit)) r ⌝ }
 {
     let fd = os::open_read(name);
     if fd < 0 {
@@ -52,7 +70,7 @@ pub fn load(name: &[u8], space: &mut [u8]) -> Loaded
 
 // The same of the file that an argument names, or of another where there is no such argument.
 pub fn load_argument(i: usize, other: &[u8], space: &mut [u8]) -> Loaded
-    ensures { λ r. ⌜ within (now (space .exit)) r ⌝ }
+    ensures { λ r. ⌜ Within (now (space .exit)) r ⌝ }
 {
     if os::arg_count() <= i {
         return load(other, space);

@@ -5,9 +5,11 @@ use crate::print_refusal;
 use crate::print_u32;
 ghost use mathlib.Core.Path.{_≡_};
 ghost use lib.ListN.{length};
+ghost use Rattle.program.specs.Program.{zeros};
 
-// The buffer of the reports. Its length alone is what lending it needs.
+// The buffer of the reports. The length is what lending it needs.
 pub fn report_space() -> [u8; 65536]
+    ensures { λ r. ⌜ r ≡ zeros 65536 ⌝ }
     ensures { λ r. ⌜ 65536 ≡ length r ⌝ }
 {
     [0; 65536]

@@ -1,21 +1,300 @@
 // Replays the stored cases against the proved crates: each case's answer, and the whole buffer after it, are what the
-// published Rust gave. Prints a line for each list: how many cases, how many differ, and the line of the first that does.
+// published Rust gave. Prints a line for each list: how many cases, how many differ, and which is the first that does.
 //
-// The lists stand in data/; their headings say how they were made and how a line is to be read.
-mod answers;
-mod cases;
-mod checks;
-mod lists;
-mod lookups;
-mod readers;
-mod sums;
-mod terms;
-mod text;
+// The lists stand in data/; their headings say how they were made and how a case is to be read. A case is never copied: its
+// records are parts of the list. Nothing is asked of a list: what no list has makes a case differ.
+use dogwood::Answer;
+use operands::Operand;
+use program::Loaded;
+use program::print;
+use program::print_number;
+ghost use mathlib.Core.Path.{_≡_};
+ghost use lib.ListN.{length};
+
+// How many cases, how many of them differ, which is the first that does.
+struct Tally {
+    cases: usize,
+    differ: usize,
+    first: usize,
+}
+
+// Where the fields of a case stand, and the next case.
+struct Case {
+    output: usize,
+    first: usize,
+    second: usize,
+    third: usize,
+    next: usize,
+}
+
+// Room for a whole list. The contract gives the length alone, which is what lending the array needs.
+fn list_space() -> [u8; 2097152]
+    ensures { λ r. ⌜ 2097152 ≡ length r ⌝ }
+{
+    [0; 2097152]
+}
+
+// A buffer as it is before each call. No case asks for a larger one.
+fn filled() -> [u8; 8192]
+    ensures { λ r. ⌜ 8192 ≡ length r ⌝ }
+{
+    [0xA5; 8192]
+}
+
+// A place or a count some further. None comes near the largest number.
+fn forward(at: usize, n: usize) -> usize {
+    std::num::wrapping_add_usize(at, n)
+}
+
+// The field at a place: its length in two bytes, then its bytes.
+fn field(list: &[u8], at: usize) -> &[u8] {
+    names::part_of(list, forward(at, 2), names::u16_at(list, at))
+}
+
+// The place behind it.
+fn past(list: &[u8], at: usize) -> usize {
+    forward(forward(at, 2), names::u16_at(list, at))
+}
+
+// The letter of the case at a place; past the end that of a heading.
+fn letter_at(list: &[u8], at: usize) -> u8 {
+    if at < list.len() {
+        return list[at];
+    }
+    b'#'
+}
+
+fn case_at(list: &[u8], at: usize) -> Case {
+    let output = forward(at, 7);
+    let first = past(list, output);
+    let second = past(list, first);
+    let third = past(list, second);
+    Case {
+        output: output,
+        first: first,
+        second: second,
+        third: third,
+        next: past(list, third),
+    }
+}
+
+// The number that the reader of a letter gives.
+fn number(letter: u8, record: &[u8]) -> u8 {
+    if letter == b's' {
+        return dogwood::dogwood_read_schema(record);
+    }
+    if letter == b'c' {
+        return dogwood::dogwood_read_condition(record);
+    }
+    if letter == b't' {
+        return dogwood::dogwood_read_targets(record);
+    }
+    if letter == b'p' {
+        return dogwood::dogwood_read_path(record);
+    }
+    255
+}
+
+// The exported function of a letter, with a buffer of the size that its case asks for.
+fn exported<'a>(letter: u8, a: &'a [u8], b: &'a [u8], c: &'a [u8], buffer: &mut [u8]) -> Answer {
+    if letter == b'k' {
+        return dogwood::dogwood_check(a, b, c, buffer);
+    }
+    if letter == b'm' {
+        return dogwood::dogwood_sums(a, buffer);
+    }
+    if letter == b'l' {
+        return dogwood::dogwood_lookup(a, b, c, buffer);
+    }
+    Answer {
+        number: number(letter, a),
+        record: 0,
+        count: 0,
+    }
+}
+
+// The rendered type of an operand, and how long it is; 255 where the records give none.
+fn operand<'a>(
+    a: &'a [u8],
+    b: &'a [u8],
+    c: &'a [u8],
+    position: usize,
+    which: Operand,
+    buffer: &mut [u8],
+) -> Answer {
+    let typed = operands::operand_type(a, b, c, position, which, buffer);
+    match typed {
+        operands::Answer::Written(n) => Answer {
+            number: 0,
+            record: 0,
+            count: n,
+        },
+        operands::Answer::Untyped => Answer {
+            number: 0,
+            record: 0,
+            count: 0,
+        },
+        operands::Answer::NoComparison => refused(),
+        operands::Answer::Refused(_, _) => refused(),
+    }
+}
+
+// What no case has.
+fn refused() -> Answer {
+    Answer {
+        number: 255,
+        record: 0,
+        count: 0,
+    }
+}
+
+// What the operation of a letter answers.
+fn answered<'a>(
+    letter: u8,
+    size: usize,
+    a: &'a [u8],
+    b: &'a [u8],
+    c: &'a [u8],
+    buffer: &mut [u8],
+) -> Answer {
+    if letter == b'e' {
+        return operand(a, b, c, size, Operand::Left, buffer);
+    }
+    if letter == b'f' {
+        return operand(a, b, c, size, Operand::Right, buffer);
+    }
+    if size > buffer.len() {
+        return refused();
+    }
+    let start: usize = 0;
+    exported(letter, a, b, c, &mut buffer[start..size])
+}
+
+// What the case at a place answers.
+fn run(list: &[u8], at: usize, case: Case, buffer: &mut [u8]) -> Answer {
+    answered(
+        letter_at(list, at),
+        names::u16_at(list, forward(at, 5)),
+        field(list, case.first),
+        field(list, case.second),
+        field(list, case.third),
+        buffer,
+    )
+}
+
+// Whether an answer has the numbers of the case at a place.
+fn same_numbers(list: &[u8], at: usize, answer: Answer) -> bool {
+    if names::wide(answer.number) != names::byte_at(list, forward(at, 1)) {
+        return false;
+    }
+    if names::wide(answer.record) != names::byte_at(list, forward(at, 2)) {
+        return false;
+    }
+    answer.count == names::u16_at(list, forward(at, 3))
+}
+
+// Whether a buffer has an output in front, and is else as it was.
+fn same_output(output: &[u8], buffer: &[u8]) -> bool {
+    let n = output.len();
+    let before = filled();
+    if check::same(names::part_of(buffer, 0, n), output) {
+        return check::same(
+            names::part_of(buffer, n, 8192),
+            names::part_of(&before, n, 8192),
+        );
+    }
+    false
+}
+
+// Whether the case at a place goes as it says.
+fn agrees(list: &[u8], at: usize, case: Case) -> bool {
+    let mut buffer = filled();
+    let answer = run(list, at, case, &mut buffer);
+    if same_numbers(list, at, answer) {
+        return same_output(field(list, case.output), &buffer);
+    }
+    false
+}
+
+// One more case.
+fn counted(tally: Tally, agrees: bool) -> Tally {
+    let cases = forward(tally.cases, 1);
+    if agrees {
+        return Tally {
+            cases: cases,
+            differ: tally.differ,
+            first: tally.first,
+        };
+    }
+    if tally.differ == 0 {
+        return Tally {
+            cases: cases,
+            differ: 1,
+            first: cases,
+        };
+    }
+    Tally {
+        cases: cases,
+        differ: forward(tally.differ, 1),
+        first: tally.first,
+    }
+}
+
+// The tally behind the case at a place. A heading is none: it has the letter `#`.
+fn one(list: &[u8], at: usize, case: Case, tally: Tally) -> Tally {
+    if letter_at(list, at) == b'#' {
+        return tally;
+    }
+    counted(tally, agrees(list, at, case))
+}
+
+// All cases of a list.
+fn all(list: &[u8]) -> Tally {
+    let mut tally = Tally {
+        cases: 0,
+        differ: 0,
+        first: 0,
+    };
+    let mut at = 0;
+    let mut turns = list.len();
+    while 0 < turns && at < list.len() {
+        let case = case_at(list, at);
+        tally = one(list, at, case, tally);
+        at = case.next;
+        turns -= 1;
+    }
+    tally
+}
+
+// `NAME: 12 cases, 0 differ`, and where some differ which is the first.
+fn told(file: &[u8], tally: Tally) {
+    print(file);
+    print(b": ");
+    print_number(tally.cases);
+    print(b" cases, ");
+    print_number(tally.differ);
+    print(b" differ");
+    if tally.differ > 0 {
+        print(b", first case ");
+        print_number(tally.first);
+    }
+    print(b"\n");
+}
+
+// Runs the cases of a file, and prints how they went.
+fn replay(file: &[u8]) {
+    let mut space = list_space();
+    let loaded = program::load(file, &mut space);
+    let Loaded::Bytes(n) = loaded else {
+        return;
+    };
+    told(file, all(names::part_of(&space, 0, n)));
+}
 
 fn main() {
-    lists::replay(b"readers", b"readers.txt");
-    lists::replay(b"check", b"check.txt");
-    lists::replay(b"sums", b"sums.txt");
-    lists::replay(b"lookup", b"lookup.txt");
-    lists::replay(b"terms", b"terms.txt");
+    replay(b"readers.cases");
+    replay(b"check.cases");
+    replay(b"sums.cases");
+    replay(b"lookup.cases");
+    replay(b"terms.cases");
 }

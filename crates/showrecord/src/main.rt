@@ -1,45 +1,18 @@
-// Prints records as indented text: each part with the byte where it starts, what it is and its value; or with what number a record is refused, why, and where that
-// shows. It shows the files that its arguments name, or, without arguments, those stored beside it.
+// Prints records as indented text: each part with the byte where it starts, what it is and its value; or with what number a
+// record is refused, why, and where that shows. Its arguments name the files.
 //
-// A record is known by its mark. The proved readers say whether it is accepted and, by `offence`, where a refused one shows its offence; an accepted one is walked here,
-// and the place that the walk comes to is held against the record's length.
-mod conditions;
-mod line;
-mod lookups;
+// A record is known by its mark. The proved readers say whether it is accepted and, by `offence`, where a refused one shows its
+// offence; an accepted one is walked by the layout, and the place that the walk comes to is held against the record's length.
+mod layout;
 mod refusal;
-mod schemas;
-mod shown;
-mod stored;
-mod targeting;
-mod terms;
-mod walk;
-mod words;
 
-// What may stand in a row in a record.
-pub enum Part {
-    EntityType,
-    Attributes,
-    Attribute,
-    Declared,
-    Action,
-    Context,
-    Condition,
-    Arguments,
-    Argument,
-    Term,
-}
-
-// What follows the head of a part: so many parts of a kind from a place on.
-pub struct Follows {
-    pub next: usize,
-    pub count: usize,
-    pub part: Part,
-}
+use program::Loaded;
+use program::print;
 
 fn main() {
     let count = os::arg_count();
     if count <= 1 {
-        stored::show();
+        print(b"usage: showrecord FILE..\n");
         return;
     }
     arguments(count);
@@ -57,5 +30,27 @@ fn arguments(count: usize) {
 fn argument(i: usize) {
     let mut name = io::buffer();
     let n = os::arg(i, &mut name);
-    shown::file(&name[..n]);
+    file(&name[..n]);
+}
+
+// One file: its name, then the record that it is, walked or refused.
+fn file(name: &[u8]) {
+    let mut space = program::record_space();
+    let loaded = program::load(name, &mut space);
+    let Loaded::Bytes(n) = loaded else {
+        return;
+    };
+    print(name);
+    show(names::part_of(&space, 0, n));
+}
+
+fn show(bytes: &[u8]) {
+    let kind = offence::kind_of(bytes);
+    let number = offence::number_of(kind, bytes);
+    let table = layout::TABLE;
+    if number != 0 {
+        refusal::show(&table, bytes, kind, number);
+        return;
+    }
+    layout::show(&table, bytes, offence::record_of(kind));
 }

@@ -1,4 +1,5 @@
-//! A case: an operation, its records and the size of the lent buffer; what the oracle answers; the line that says both.
+//! A case: an operation, its records and the size of the lent buffer; what the oracle answers; the bytes and the line that
+//! say both.
 
 use crate::answers::{self, Answer};
 use crate::hex;
@@ -129,7 +130,29 @@ impl Case {
         }
     }
 
-    /// The case and its outcome on one line.
+    /// The case and its outcome as a stored list has them: one entry, or for terms one for each operand.
+    pub fn stored(&self, outcome: &Outcome) -> Vec<u8> {
+        let letter = self.operation.letter();
+        match outcome {
+            Outcome::Number(number) => self.entry(letter, [*number, 0], 0, &[]),
+            Outcome::Answered(answer, buffer) => {
+                self.entry(letter, [answer.number, answer.record], answer.count, written(buffer))
+            }
+            Outcome::Types([left, right]) => [self.typed('e', left), self.typed('f', right)].concat(),
+        }
+    }
+
+    fn typed(&self, letter: char, ty: &Option<String>) -> Vec<u8> {
+        let text = ty.clone().unwrap_or_default();
+        self.entry(letter, [0, 0], text.len(), text.as_bytes())
+    }
+
+    fn entry(&self, letter: char, number_and_record: [u8; 2], count: usize, output: &[u8]) -> Vec<u8> {
+        let record = |i: usize| self.records.get(i).map_or(&[][..], Vec::as_slice);
+        entry(letter, number_and_record, [count, self.size], [output, record(0), record(1), record(2)])
+    }
+
+    /// The case and its outcome on one line, for people.
     pub fn line(&self, outcome: &Outcome) -> String {
         let mut words = vec![self.operation.letter().to_string()];
         words.extend(self.records.iter().map(|r| hex::encode(r)));
@@ -147,6 +170,23 @@ impl Case {
         }
         words.join(" ")
     }
+}
+
+/// An entry of a stored list: a letter, two numbers in a byte each, two in two bytes each, and four fields, each behind its
+/// length in two bytes.
+pub fn entry(letter: char, small: [u8; 2], large: [usize; 2], fields: [&[u8]; 4]) -> Vec<u8> {
+    let mut bytes = vec![letter as u8];
+    bytes.extend(small);
+    bytes.extend(large.map(u16_of).concat());
+    for field in fields {
+        bytes.extend(u16_of(field.len()));
+        bytes.extend(field);
+    }
+    bytes
+}
+
+fn u16_of(n: usize) -> [u8; 2] {
+    u16::try_from(n).expect("a number of a stored case has two bytes").to_be_bytes()
 }
 
 /// The buffer up to the last byte that is not as it was before.

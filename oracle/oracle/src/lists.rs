@@ -1,6 +1,6 @@
 //! The stored lists of cases, with the oracle's answers. The same seed gives the same bytes.
 
-use crate::cases::{Case, Operation, Outcome};
+use crate::cases::{self, Case, Operation, Outcome};
 use crate::coverage::Coverage;
 use crate::examples::{bytes, rules};
 use crate::generate::{self, boundaries};
@@ -13,7 +13,7 @@ pub const SEED: u64 = 20_261_115;
 /// One stored file.
 pub struct List {
     pub file: &'static str,
-    /// The line's form, for the file's heading.
+    /// What the letters and numbers of its cases mean, for the file's heading.
     pub form: &'static str,
     pub cases: Vec<Case>,
 }
@@ -21,44 +21,63 @@ pub struct List {
 pub fn all() -> Vec<List> {
     vec![
         List {
-            file: "readers.txt",
-            form: "s|c|t|p RECORD NUMBER (schema, condition, targets, path)",
+            file: "readers.cases",
+            form: "s, c, t, p (schema, condition, targets, path). NUMBER is what the first record is refused with.",
             cases: readers(),
         },
-        List { file: "check.txt", form: "k SCHEMA CONDITION TARGETS SIZE NUMBER RECORD COUNT BUFFER", cases: checks() },
-        List { file: "sums.txt", form: "m CONDITION SIZE NUMBER RECORD COUNT BUFFER", cases: sums() },
-        List { file: "lookup.txt", form: "l SCHEMA TARGETS PATH SIZE NUMBER RECORD COUNT BUFFER", cases: lookups() },
         List {
-            file: "terms.txt",
-            form:
-                "e SCHEMA CONDITION TARGETS POSITION LEFT RIGHT (rendered types of a comparison's operands, - for none)",
+            file: "check.cases",
+            form: "k (schema, condition, targets). SIZE is the lent buffer's size; it is filled with A5 before the \
+                   call, and OUTPUT is what its first bytes are after it, all others being A5.",
+            cases: checks(),
+        },
+        List { file: "sums.cases", form: "m (condition). SIZE and OUTPUT as for k in check.cases.", cases: sums() },
+        List {
+            file: "lookup.cases",
+            form: "l (schema, targets, path). SIZE and OUTPUT as for k in check.cases.",
+            cases: lookups(),
+        },
+        List {
+            file: "terms.cases",
+            form: "e and f (schema, condition, targets). OUTPUT is the rendered type of the comparison's left (e) or \
+                   right (f) operand under the target at the position SIZE, COUNT its length, 0 for no type.",
             cases: terms(),
         },
     ]
 }
 
 impl List {
-    /// The file's whole text; what it covers is noted on the way.
-    pub fn text(&self, coverage: &mut Coverage) -> String {
-        let mut text = self.heading();
+    /// The file's whole bytes; what it covers is noted on the way.
+    pub fn bytes(&self, coverage: &mut Coverage) -> Vec<u8> {
+        let mut bytes = self.heading();
         for case in &self.cases {
             let Some(outcome) = case.outcome() else { continue };
             coverage.note(case, &outcome);
-            text.push_str(&case.line(&outcome));
-            text.push('\n');
+            bytes.extend(case.stored(&outcome));
         }
-        text
+        bytes
     }
 
-    fn heading(&self) -> String {
-        format!(
-            "# Cases with the answers of the published Rust (repository dogwood-policy/dogwood 929f49e730) over a reader of\n\
-             # the records. Made by `oracle/run replay-list`, seed {SEED}; made again it has the same bytes.\n\
-             # A line: {}\n\
-             # Bytes are hexadecimal, [..]*n; is a part n times, - is nothing. SIZE is the lent buffer's size in bytes; the\n\
-             # buffer is filled with A5 before the call, and BUFFER is what its first bytes are after it, all others being A5.\n",
+    /// The same cases as lines, for people.
+    pub fn lines(&self) -> Vec<String> {
+        let heading = format!("# {}: {}", self.file, self.form);
+        let cases = self.cases.iter().filter_map(|case| Some(case.line(&case.outcome()?)));
+        std::iter::once(heading).chain(cases).collect()
+    }
+
+    /// What stands at the front of the file, as the output of an entry with the letter `#`.
+    fn heading(&self) -> Vec<u8> {
+        let text = format!(
+            "\n\
+             Cases with the answers of the published Rust (repository dogwood-policy/dogwood 929f49e730) over a\n\
+             reader of the records. Made by `oracle/run replay-list`, seed {SEED}; made again it has the same\n\
+             bytes. `oracle/run replay-list --lines` prints the cases.\n\
+             A case: a letter, NUMBER and RECORD (a byte each), COUNT and SIZE (two bytes each), then OUTPUT and three\n\
+             records, each of them two bytes with its length and then its bytes. Numbers are big-endian.\n\
+             Here: {}\n",
             self.form
-        )
+        );
+        cases::entry('#', [0, 0], [0, 0], [text.as_bytes(), &[], &[], &[]])
     }
 }
 

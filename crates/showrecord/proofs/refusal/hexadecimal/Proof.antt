@@ -5,10 +5,10 @@ use Rattle.showrecord.proofs.refusal.hexadecimal.Statement.{statement}
 use Rattle.showrecord.proofs.refusal.hexadecimal.Tie as tie
 
 abbrev Inv-loop : tie.InvT-loop
-Inv-loop bytes from to at₀ at = Unit {0}
+Inv-loop bytes from to at₀ t5 at = Unit {0}
 
 abbrev μ-loop : tie.MeasureT-loop
-μ-loop bytes from to at₀ at = to - at
+μ-loop bytes from to at₀ t5 at = to - at
 
 pub hexadecimal-spec : {M : Type 1} → statement M
 hexadecimal-spec =
@@ -17,6 +17,8 @@ hexadecimal-spec =
     Inv-loop
     μ-loop
     (λ c. search needs)
+    (λ c. search needs)
+    (λ c κs. search needs)
     (λ c κs. search needs)
     (λ c κs. search needs)
     (λ c. search needs)
