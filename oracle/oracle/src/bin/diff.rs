@@ -1,6 +1,6 @@
 //! The differential test: fresh cases against the static library, answers and whole buffers compared with the oracle's.
 //!
-//! usage: diff N [SEED [LETTERS]]. Without a seed one is taken from the clock; it is printed, so that a run can be had
+//! Usage: `diff N [SEED [LETTERS]]`. Without a seed one is taken from the clock; it is printed, so that a run can be had
 //! again. LETTERS are those of the operations to be compared; without them all that the library has.
 
 #[path = "../library.rs"]
