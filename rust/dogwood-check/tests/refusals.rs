@@ -187,5 +187,6 @@ fn numbers_and_sentences() {
     let refusal = Refusal { cause: Cause::NotAscending, record: Some(RecordKind::Schema) };
     assert_eq!(refusal.to_string(), "the schema has names that are out of order or given twice");
     let refusal = Refusal { cause: Cause::NoSpace, record: None };
-    assert_eq!(refusal.to_string(), "the answer is longer than the space lent for it");
+    let sentence = "the answer is longer than the buffer lent for it, or, where none was lent, than the 16 MiB that a call takes at most";
+    assert_eq!(refusal.to_string(), sentence);
 }
