@@ -13,6 +13,7 @@ pub mod pieces;
 pub mod plot;
 pub mod records;
 pub mod rng;
+pub mod search;
 pub mod shrink;
 pub mod stack;
 pub mod timing;
