@@ -1,4 +1,4 @@
-//! Document 01's example from end to end, and its examples at the edges, through trees.
+//! The example of README.md from end to end, and examples at the edges of the rules, through trees.
 
 mod common;
 

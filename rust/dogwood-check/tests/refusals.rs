@@ -167,7 +167,7 @@ fn refusals_by_the_owned_calls() {
     assert_eq!(lookup(SCHEMA, TARGETS, b"DWP\0\x01\x02"), Err(refusal(Cause::UndefinedChoice, RecordKind::Path)));
 }
 
-/// The numbers are those of document 01, and each has a sentence of its own that names the record.
+/// The numbers are those of `include/dogwood.h`, and each has a sentence of its own that names the record.
 #[test]
 fn numbers_and_sentences() {
     let numbers: Vec<u8> = Cause::ALL.iter().map(|cause| cause.number()).collect();
