@@ -84,7 +84,8 @@ uint8_t dogwood_read_path(const uint8_t *bytes, size_t length);
  * Checks the types of a condition under each target of a rule. Every different pair of message and start is reported once.
  *
  * Number 0: the buffer begins with `count` reports, one after the other (struct dogwood_report); bytes behind them are as
- * they were. A count of 0 means that the condition breaks no rule.
+ * they were. A count of 0 means that no rule was found broken. An empty list of targets has nothing to check; a target that
+ * the schema does not declare, or a field that does not resolve, has no type, and what depends on it is not reported.
  * DOGWOOD_NO_SPACE: the buffer begins with the `count` reports that come before the first that does not fit; bytes behind
  * them are as they were. Call again with more space for all of them.
  * Any other number: `record` says which record was refused (they are read in the order given here, each to its end), and the
@@ -125,7 +126,8 @@ struct dogwood_answer dogwood_lookup(const uint8_t *schema, size_t schema_length
                                      uint8_t *output, size_t output_length);
 
 /*
- * One report: the span in the rule's text, from the condition record, and a message in UTF-8 that is not ended by 0.
+ * One report: the span in the rule's text and a message in UTF-8 that is not ended by 0. The span is the condition record's,
+ * which may hold any numbers: look that start <= end <= the text's length before you cut the text by it.
  * In the buffer it has DOGWOOD_REPORT_HEAD bytes, start and end (32 bits each) and the message's length (16 bits), all
  * big-endian, and then the message.
  */

@@ -28,7 +28,7 @@ fn main() {
     for function in FUNCTIONS.iter().filter(|f| names(&bytes, f)) {
         println!("cargo:rustc-cfg=has_{function}");
     }
-    for program in ["diff", "bench"] {
+    for program in ["diff", "bench", "slow"] {
         println!("cargo:rustc-link-arg-bin={program}={}", library.display());
     }
 }

@@ -1,10 +1,13 @@
 //! Finds the static library of the proved crates, `libdogwood.a`, for the linker.
 //!
 //! It is taken from the folder that the variable `DOGWOOD_LIB_DIR` names, or else made by `rt staticlib dogwood` at the root
-//! of the repository that this crate stands in.
+//! of the repository that this crate stands in. That proves the library from its sources, which takes minutes where they
+//! are not proved yet. Cargo keeps back what a build script says until it has ended, so this is said on the terminal.
 
+use std::io::Write;
 use std::path::{Path, PathBuf};
 use std::process::Command;
+use std::time::Instant;
 use std::{env, fs};
 
 const ARCHIVE: &str = "libdogwood.a";
@@ -69,15 +72,31 @@ fn made() -> Result<PathBuf, String> {
     Ok(out)
 }
 
+/// Proves the library and makes the archive. Before that it says what it does, and afterwards how long it took.
 fn run_kit(root: &Path) -> Result<(), String> {
+    say_at_once(&format!(
+        "dogwood-check: `rt staticlib dogwood` proves the library and makes {ARCHIVE}. In a fresh clone that takes about \
+         ten minutes on two cores, and half a minute where the crates are proved already. To spare it, put the folder of \
+         an archive into the variable {VARIABLE}."
+    ));
+    let began = Instant::now();
     let run = Command::new("rt").args(["staticlib", "dogwood"]).current_dir(root).output();
     let output = run.map_err(|error| format!("the command `rt` does not run ({error})"))?;
     if output.status.success() {
+        let seconds = began.elapsed().as_secs();
+        println!("cargo:warning={ARCHIVE} was proved and made by `rt staticlib dogwood` in {seconds} s");
         return Ok(());
     }
     let said = [output.stdout, output.stderr].concat();
     let said = String::from_utf8_lossy(&said);
     Err(format!("it failed ({}) and said last: {}", output.status, said.lines().last().unwrap_or("nothing")))
+}
+
+/// A line on the terminal, where there is one.
+fn say_at_once(line: &str) {
+    if let Ok(mut terminal) = fs::OpenOptions::new().write(true).open("/dev/tty") {
+        let _ = writeln!(terminal, "{line}");
+    }
 }
 
 fn crate_folder() -> PathBuf {

@@ -2,7 +2,7 @@
 //! stand-ins for the modules of its crate that it leans on. Nothing here decides about types.
 
 // The sources hold more than the check of types, and are not ours to tidy.
-#![allow(dead_code, private_interfaces, clippy::all)]
+#![allow(dead_code, private_interfaces, clippy::all, rustdoc::all)]
 
 pub mod field_paths;
 

@@ -4,6 +4,7 @@ pub mod boundaries;
 pub mod conditions;
 pub mod damage;
 pub mod large;
+pub mod mutations;
 pub mod worlds;
 
 use crate::cases::{Draft, Operation};

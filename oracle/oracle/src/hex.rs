@@ -84,7 +84,7 @@ mod tests {
             vec![],
             vec![1, 2, 3],
             vec![7; 300],
-            [vec![1], vec![3, 0, 0, 0].repeat(31), vec![9]].concat(),
+            [vec![1], [3, 0, 0, 0].repeat(31), vec![9]].concat(),
             vec![0xA5; 65_536],
         ];
         for bytes in cases {

@@ -1,6 +1,7 @@
 //! The oracle: the four records read into the Rust's trees, and Check, Sums and Lookup answered by the published Rust.
 //!
-//! The reader is written from document 01 and the readings of its open points, and from nothing else.
+//! The reader is written from document 01 (the order that the product is built to) and the readings of its open points,
+//! and from nothing else.
 
 pub mod answers;
 pub mod cases;
@@ -13,6 +14,7 @@ pub mod pieces;
 pub mod plot;
 pub mod records;
 pub mod rng;
+pub mod search;
 pub mod shrink;
 pub mod stack;
 pub mod timing;

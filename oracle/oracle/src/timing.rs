@@ -29,11 +29,26 @@ mod clock {
     }
 }
 
-/// Seconds for one call: the best of several turns, each of as many calls as fill its time.
-pub fn time(mut call: impl FnMut()) -> f64 {
+/// Seconds for one call: the best of several turns, each of as many calls as fill its time. A call that takes long by
+/// itself is made less often.
+pub fn time(call: impl FnMut()) -> f64 {
+    best_of(TURNS, TURN, call)
+}
+
+/// As [`time`], for a first look: fewer and shorter turns.
+pub fn glance(call: impl FnMut()) -> f64 {
+    best_of(3, TURN / 10.0, call)
+}
+
+fn best_of(turns: usize, seconds: f64, mut call: impl FnMut()) -> f64 {
     let once = turn(&mut call, 1).max(20e-9);
-    let calls = (TURN / once).clamp(1.0, 200_000.0) as usize;
-    (0..TURNS).map(|_| turn(&mut call, calls)).fold(f64::INFINITY, f64::min)
+    let calls = (seconds / once).clamp(1.0, 200_000.0) as usize;
+    let left = match once {
+        long if long > 100.0 * seconds => 0,
+        long if long > 10.0 * seconds => 2,
+        _ => turns,
+    };
+    (0..left).map(|_| turn(&mut call, calls)).fold(once, f64::min)
 }
 
 fn turn(call: &mut impl FnMut(), calls: usize) -> f64 {
@@ -50,6 +65,7 @@ pub fn shown(seconds: Option<f64>) -> String {
         None => "–".to_string(),
         Some(s) if s < 1e-6 => format!("{:.0} ns", s * 1e9),
         Some(s) if s < 1e-3 => format!("{:.2} µs", s * 1e6),
-        Some(s) => format!("{:.2} ms", s * 1e3),
+        Some(s) if s < 1.0 => format!("{:.2} ms", s * 1e3),
+        Some(s) => format!("{s:.2} s"),
     }
 }

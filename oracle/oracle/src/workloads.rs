@@ -1,5 +1,5 @@
 //! Records for the benchmark: small everyday ones, a condition of 32 KB with 255 targets, a schema of hundreds of names,
-//! deep arrays.
+//! deep arrays, very many reports.
 
 use crate::cases::{Case, Operation};
 use crate::pieces::*;
@@ -16,7 +16,14 @@ pub struct Workload {
     pub condition: Vec<u8>,
     pub targets: Vec<u8>,
     pub path: Vec<u8>,
+    /// Schema, condition, targets and path, before they were written as bytes.
+    pub trees: [Piece; 4],
+    /// The bytes of the lent buffer.
+    pub space: usize,
 }
+
+/// The lent buffer, where nothing else is said.
+const SPACE: usize = 65_536;
 
 fn workload(name: &str, reads: bool, schema: Piece, condition: Piece, targets: Piece, path: Piece) -> Workload {
     Workload {
@@ -26,6 +33,8 @@ fn workload(name: &str, reads: bool, schema: Piece, condition: Piece, targets: P
         condition: condition.bytes(),
         targets: targets.bytes(),
         path: path.bytes(),
+        trees: [schema, condition, targets, path],
+        space: SPACE,
     }
 }
 
@@ -79,6 +88,23 @@ pub fn target_counts() -> Vec<(usize, Workload)> {
     counts.into_iter().map(|count| (count, counted(count))).collect()
 }
 
+/// Requests with very many reports, in one buffer or another: what is worst for telling repeats.
+pub fn crowded() -> Vec<Workload> {
+    vec![
+        differing("136,000 reports: 1,360 comparisons, 100 targets", 1_360, 100, 16 << 20),
+        differing("346,800 reports, in 16 MiB: 255 targets", 1_360, 255, 16 << 20),
+        alike("one start, 26 long names, 255 times, in 1 MiB", 26, 1 << 20),
+        alike("one start, 10 long names, 255 times, in 64 KiB", 10, 64 << 10),
+        three_each("500,310 reports: 654 comparisons, 255 targets", 654, 255, 64 << 20),
+    ]
+}
+
+/// Growing numbers of reports, from 1,360 on, for the plot.
+pub fn report_counts() -> Vec<(usize, Workload)> {
+    let counted = |targets: usize| (1_360 * targets, differing("reports", 1_360, targets, 64 << 20));
+    [1, 2, 4, 8, 16, 32, 64, 128, 255].map(counted).into()
+}
+
 /// What takes the most stack: 32 levels of conditions, of terms and of types.
 pub fn deep() -> Vec<Workload> {
     let nested =
@@ -109,10 +135,66 @@ impl Workload {
             (Operation::Lookup, vec![s, t, p]),
         ];
         let sized = |(operation, records): (Operation, Vec<Vec<u8>>)| {
-            [65_536, 200, 5].map(|size| Case { operation, records: records.clone(), size })
+            [self.space, 200, 5].map(|size| Case { operation, records: records.clone(), size })
         };
         runs.into_iter().flat_map(sized).collect()
     }
+}
+
+// ─── Very many reports ───
+
+/// So many comparisons, each with a start of its own, of a field whose type is another one for each target.
+pub fn differing(name: &str, comparisons: usize, targets: usize, space: usize) -> Workload {
+    let compared = |i: usize| comparison((i as u32, i as u32 + 9), 1, context_field(&["a"]), integer());
+    let context = |i: usize| vec![("a", tagged(&format!("T{i:03}")))];
+    let condition = condition_record(joined((0..comparisons).map(compared).collect()));
+    let all = (0..targets).map(|i| target("", &format!("{i:03}"))).collect();
+    crowd(name, contexts(targets, context), condition, all, space)
+}
+
+/// As many comparisons as fit, all at one start, of fields that have types with long names: each pair of names is a
+/// message of its own, and all come again for each target, since all targets are one action.
+pub fn alike(name: &str, names: usize, space: usize) -> Workload {
+    let letter = |i: usize| char::from(b'a' + (i % names) as u8).to_string();
+    let compared = |i: usize| {
+        let (left, right) = (letter(i), letter(i / names));
+        comparison((0, 9), 1, context_field(&[left]), context_field(&[right]))
+    };
+    let of = |count: usize| condition_record(joined((0..count).map(compared).collect()));
+    let fields: Vec<String> = (0..names).map(letter).collect();
+    let context = |_| fields.iter().map(|f| (f.as_str(), tagged(&format!("{}{f}", "n".repeat(254))))).collect();
+    let all = (0..255).map(|_| target("", "000")).collect();
+    crowd(name, contexts(1, context), of(most(LONGEST, of)), all, space)
+}
+
+/// Comparisons of a sum with a field, which are reported three times each, all types being others for each target.
+fn three_each(name: &str, comparisons: usize, targets: usize, space: usize) -> Workload {
+    let compared = |i: usize| {
+        let sum = arith(context_field(&["a"]), context_field(&["b"]));
+        comparison((i as u32, i as u32 + 9), 1, sum, context_field(&["c"]))
+    };
+    let context = |i: usize| {
+        let typed = |field, letter| (field, tagged(&format!("{letter}{i:03}")));
+        vec![typed("a", "A"), typed("b", "B"), typed("c", "C")]
+    };
+    let condition = condition_record(joined((0..comparisons).map(compared).collect()));
+    let all = (0..targets).map(|i| target("", &format!("{i:03}"))).collect();
+    crowd(name, contexts(targets, context), condition, all, space)
+}
+
+fn crowd(name: &str, schema: Piece, condition: Piece, all: Vec<Piece>, space: usize) -> Workload {
+    let records = workload(name, false, schema, condition, targets(byte(0), byte(0), all), path(0, &NONE, 0));
+    Workload { space, ..records }
+}
+
+/// Actions `000` and on, each with the context that belongs to its number.
+fn contexts<'a>(actions: usize, context: impl Fn(usize) -> Vec<(&'a str, Piece)>) -> Piece {
+    let own = |i: usize| action("Action", &format!("{i:03}"), &NONE, &NONE, record_type(context(i)));
+    schema(vec![], (0..actions).map(own).collect())
+}
+
+fn tagged(name: &str) -> Piece {
+    ty(7, vec![text(name)])
 }
 
 // ─── Schema ───
@@ -245,4 +327,32 @@ fn small(i: usize) -> Piece {
 fn deep_array(depth: usize) -> Piece {
     let nested = |inner| (0..depth).fold(inner, |piece, _| array(vec![piece]));
     comparison((0, 9), 4, nested(integer()), nested(integer()))
+}
+
+#[cfg(test)]
+mod tests {
+    use super::*;
+    use crate::answers;
+
+    /// How many reports a workload has in a buffer of this size.
+    fn reported(w: &Workload, space: usize) -> (u8, usize) {
+        let answer = answers::check(&w.schema, &w.condition, &w.targets, &mut vec![0; space]);
+        (answer.number, answer.count)
+    }
+
+    #[test]
+    fn crowded_requests_have_the_reports_that_they_say() {
+        let all = crowded();
+        for (row, count) in [(0, 136_000), (3, 100), (4, 500_310)] {
+            assert_eq!(reported(&all[row], all[row].space), (0, count));
+        }
+        assert!(all.iter().all(|w| w.schema.len() + w.condition.len() + w.targets.len() <= 50_000));
+    }
+
+    #[test]
+    fn reports_grow_with_the_targets() {
+        for (count, w) in report_counts().into_iter().take(3) {
+            assert_eq!(reported(&w, w.space), (0, count));
+        }
+    }
 }

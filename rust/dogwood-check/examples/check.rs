@@ -3,7 +3,7 @@
 //! `cargo run --example check` submits three rules and prints what their writers are told.
 
 use dogwood_check::{
-    check, sums, Action, Condition, EntityType, Operator, Report, Schema, Span, Target, Targets, Term, Type,
+    check, sums, Action, Condition, EntityType, Findings, Operator, Schema, Span, Target, Targets, Term, Type,
 };
 use std::error::Error;
 
@@ -27,15 +27,15 @@ impl Archive {
 
     /// Keeps a rule, or says what its writer should mend. An error is a rule that is too large, too deep or has a name that
     /// cannot be: its text is for the writer too.
-    fn submit(&mut self, rule: Rule) -> Result<Vec<Report>, Box<dyn Error>> {
+    fn submit(&mut self, rule: Rule) -> Result<Findings, Box<dyn Error>> {
         let condition = rule.condition.encode()?;
         let targets = rule.targets.encode()?;
-        let mut reports = check(&self.schema, &condition, &targets)?;
-        reports.extend(sums(&condition)?);
-        if reports.is_empty() {
+        let mut found = check(&self.schema, &condition, &targets)?;
+        found.reports.extend(sums(&condition)?);
+        if found.is_clean() {
             self.rules.push(rule);
         }
-        Ok(reports)
+        Ok(found)
     }
 }
 
@@ -62,10 +62,14 @@ fn main() -> Result<(), Box<dyn Error>> {
         let text = rule.text;
         println!("{text}");
         match archive.submit(rule) {
-            Ok(reports) if reports.is_empty() => println!("    kept"),
-            Ok(reports) => {
-                for report in reports {
-                    println!("    {}: {}", &text[report.start as usize..report.end as usize], report.message);
+            Ok(found) if found.is_clean() => println!("    kept"),
+            Ok(found) => {
+                for report in found {
+                    // a parser's span may be wrong: then the report stands by its numbers
+                    match report.excerpt(text) {
+                        Some(part) => println!("    {part}: {}", report.message),
+                        None => println!("    {report}"),
+                    }
                 }
             }
             Err(error) => println!("    {error}"),

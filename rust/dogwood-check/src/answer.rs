@@ -20,6 +20,11 @@ impl Answer {
         Answer { refusal, count: returned.count }
     }
 
+    /// Whether the output was longer than the buffer: [`Cause::NoSpace`].
+    pub fn is_cut(&self) -> bool {
+        self.refusal.is_some_and(|refusal| refusal.cause == Cause::NoSpace)
+    }
+
     /// The library's number: 0, or that of the cause.
     pub fn number(&self) -> u8 {
         self.refusal.map_or(0, |refusal| refusal.cause.number())

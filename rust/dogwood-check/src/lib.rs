@@ -32,7 +32,7 @@
 //!
 //! [`check_into`], [`sums_into`] and [`lookup_into`] take a lent buffer and allocate nothing; [`Reports`] and
 //! [`ScopePath::decode`] read what they write. [`check`], [`sums`] and [`lookup`] take the space they need, up to
-//! [`MOST_SPACE`], and give owned values. Any bytes may be given as records: what is no record is refused, with a
+//! [`MOST_SPACE`], and give owned values; [`Findings`] say whether there were more reports than that holds. Any bytes may be given as records: what is no record is refused, with a
 //! [`Cause`] and the record that it is about. A record in another one's place is refused too, by its mark.
 //! [`read_schema`] and its like say beforehand whether bytes are a record.
 //!
@@ -55,6 +55,7 @@ mod decode;
 mod encode;
 #[allow(unsafe_code)]
 mod ffi;
+mod findings;
 mod operations;
 mod path;
 mod refusal;
@@ -70,6 +71,7 @@ pub use binder::{Annotation, Binder, Slot};
 pub use condition::{Argument, Condition, ConditionKind, Operator, Predicate};
 pub use decode::DecodeError;
 pub use encode::{Class, EncodeError, Problem, MOST_BYTES, MOST_LEVELS, MOST_TEXT};
+pub use findings::Findings;
 pub use operations::{
     check, check_into, lookup, lookup_into, read_condition, read_path, read_schema, read_targets, sums, sums_into,
     MOST_SPACE,

@@ -1,13 +1,16 @@
 //! The library's operations: in a lent buffer, and with space of their own.
 
-use crate::{ffi, Answer, Cause, Refusal, Report, Reports, ScopePath};
+use crate::{ffi, Answer, Cause, Findings, Refusal, Reports, ScopePath};
 
-/// The space that [`check`], [`sums`] and [`lookup`] begin with.
-const FIRST_SPACE: usize = 4096;
+/// The space that [`check`], [`sums`] and [`lookup`] begin with: 64 KiB, which hold hundreds of reports.
+const FIRST_SPACE: usize = 64 << 10;
+
+/// How much more space there is at the next try. So a call is made three times at most.
+const GROWTH: usize = 16;
 
 /// The most space that [`check`], [`sums`] and [`lookup`] take for an answer: 16 MiB. Whoever wants another bound
 /// lends a buffer to [`check_into`], [`sums_into`] or [`lookup_into`].
-pub const MOST_SPACE: usize = 16 << 20;
+pub const MOST_SPACE: usize = FIRST_SPACE * GROWTH * GROWTH;
 
 fn read(number: u8) -> Result<(), Cause> {
     Cause::answered(number).map_or(Ok(()), Err)
@@ -77,12 +80,15 @@ pub fn lookup_into(schema: &[u8], targets: &[u8], path: &[u8], output: &mut [u8]
     Answer::new(ffi::lookup(schema, targets, path, output))
 }
 
-/// Checks the types of a condition under each target of a rule: a report for each different pair of message and start. An
-/// empty list means that the condition breaks no rule.
+/// Checks the types of a condition under each target of a rule: a report for each different pair of message and start.
+/// The condition breaks no rule where the findings [are clean](Findings::is_clean).
 ///
-/// The call begins with a few kilobytes for the reports and, where they do not fit, is repeated with twice the space,
-/// up to [`MOST_SPACE`]. Only a condition made to have very many reports needs more, and is refused by
-/// [`Cause::NoSpace`].
+/// The call takes 64 KiB for the reports and, where they do not fit, is repeated with 1 MiB and then with
+/// [`MOST_SPACE`]. Only a condition made to have very many reports has more than that: the findings then
+/// [say so](Findings::more), beside the reports that fit.
+///
+/// An empty list of targets has nothing to check and gives no report. An undeclared target gives reports only for what
+/// can be judged without its action, and a field that does not resolve has no type and is not reported.
 ///
 /// ```
 /// use dogwood_check::{check, Condition, Operator, Schema, Target, Targets, Term};
@@ -90,15 +96,16 @@ pub fn lookup_into(schema: &[u8], targets: &[u8], path: &[u8], output: &mut [u8]
 /// let schema = Schema::new().encode()?;
 /// let condition = Condition::comparison(0..8, Operator::Lt, Term::Bool, Term::Integer).encode()?;
 /// let targets = Targets::new().target(Target::new("view")).encode()?;
-/// let reports = check(&schema, &condition, &targets)?;
+/// let found = check(&schema, &condition, &targets)?;
+/// assert!(!found.is_clean() && !found.more);
 /// assert_eq!(
-///     reports[0].to_string(),
+///     found.reports[0].to_string(),
 ///     "0..8: comparison requires numeric operands on both sides, got `boolean` and `int`"
 /// );
 /// # Ok::<(), Box<dyn std::error::Error>>(())
 /// ```
-pub fn check(schema: &[u8], condition: &[u8], targets: &[u8]) -> Result<Vec<Report>, Refusal> {
-    in_space(|buffer| check_into(schema, condition, targets, buffer), reports)
+pub fn check(schema: &[u8], condition: &[u8], targets: &[u8]) -> Result<Findings, Refusal> {
+    findings(in_space(|buffer| check_into(schema, condition, targets, buffer)))
 }
 
 /// Checks the sums of a condition: a report for each whose summand is declared as something else than `Long`.
@@ -111,15 +118,17 @@ pub fn check(schema: &[u8], condition: &[u8], targets: &[u8]) -> Result<Vec<Repo
 /// // sum v for (v: String). where ..
 /// let sum = Aggregate::sum(0..20, "v", [Binder::new("v", "String")], Condition::call(15..20));
 /// let condition = Condition::comparison(0..25, Operator::Gt, Term::aggregate(sum), Term::Integer);
-/// let reports = sums(&condition.encode()?)?;
-/// assert_eq!(reports[0].message, "cannot sum `v`: sum requires a `Long` summand, but `v` is `String`.");
+/// let found = sums(&condition.encode()?)?;
+/// assert_eq!(found.reports[0].message, "cannot sum `v`: sum requires a `Long` summand, but `v` is `String`.");
 /// # Ok::<(), Box<dyn std::error::Error>>(())
 /// ```
-pub fn sums(condition: &[u8]) -> Result<Vec<Report>, Refusal> {
-    in_space(|buffer| sums_into(condition, buffer), reports)
+pub fn sums(condition: &[u8]) -> Result<Findings, Refusal> {
+    findings(in_space(|buffer| sums_into(condition, buffer)))
 }
 
 /// Says how a path under principal or resource resolves for one target.
+///
+/// Space is taken as by [`check`]; no lookup needs more than [`MOST_SPACE`].
 ///
 /// ```
 /// use dogwood_check::{lookup, Action, EntityType, Path, Schema, ScopePath, Target, Targets, Type};
@@ -134,31 +143,29 @@ pub fn sums(condition: &[u8]) -> Result<Vec<Report>, Refusal> {
 /// # Ok::<(), Box<dyn std::error::Error>>(())
 /// ```
 pub fn lookup(schema: &[u8], targets: &[u8], path: &[u8]) -> Result<ScopePath, Refusal> {
-    in_space(|buffer| lookup_into(schema, targets, path, buffer), scope_path)
+    let (buffer, answer) = in_space(|buffer| lookup_into(schema, targets, path, buffer));
+    let count = answer.into_result()?;
+    Ok(ScopePath::decode(&buffer[..count]).expect("the library writes a whole output"))
 }
 
-/// Runs a call in more and more space until its output fits, and decodes the output by its count.
-fn in_space<T>(
-    mut call: impl FnMut(&mut [u8]) -> Answer,
-    decode: impl FnOnce(&[u8], usize) -> T,
-) -> Result<T, Refusal> {
-    let mut buffer = vec![0; FIRST_SPACE];
+/// Makes a call in more and more space until its output fits or there is no more: the buffer, and the last answer.
+fn in_space(mut call: impl FnMut(&mut [u8]) -> Answer) -> (Vec<u8>, Answer) {
+    let mut space = FIRST_SPACE;
     loop {
-        match call(&mut buffer).into_result() {
-            Err(Refusal { cause: Cause::NoSpace, .. }) if buffer.len() < MOST_SPACE => {
-                let twice = buffer.len() * 2;
-                buffer.resize(twice, 0);
-            }
-            answer => return answer.map(|count| decode(&buffer, count)),
+        let mut buffer = vec![0; space];
+        let answer = call(&mut buffer);
+        if !answer.is_cut() || space >= MOST_SPACE {
+            return (buffer, answer);
         }
+        space *= GROWTH;
     }
 }
 
-fn reports(buffer: &[u8], count: usize) -> Vec<Report> {
-    let reports = Reports::new(buffer, count).expect("the library writes whole reports");
-    reports.map(|report| report.to_report()).collect()
-}
-
-fn scope_path(buffer: &[u8], count: usize) -> ScopePath {
-    ScopePath::decode(&buffer[..count]).expect("the library writes a whole output")
+fn findings((buffer, answer): (Vec<u8>, Answer)) -> Result<Findings, Refusal> {
+    let more = answer.is_cut();
+    if let (Some(refusal), false) = (answer.refusal, more) {
+        return Err(refusal);
+    }
+    let reports = Reports::new(&buffer, answer.count).expect("the library writes whole reports");
+    Ok(Findings { reports: reports.map(|report| report.to_report()).collect(), more })
 }

@@ -1,5 +1,6 @@
 //! Why the library gives no answer.
 
+use crate::MOST_SPACE;
 use std::fmt;
 
 /// The cause of a refusal. Its number is the one that the library returns.
@@ -97,7 +98,12 @@ impl Cause {
                 write!(f, "{subject} has a sum or count inside an array, where none may stand")
             }
             Cause::BytesAfter => write!(f, "{subject} goes on behind its end: there are bytes left over"),
-            Cause::NoSpace => write!(f, "the answer is longer than the space lent for it"),
+            Cause::NoSpace => write!(
+                f,
+                "the answer is longer than the buffer lent for it, or, where none was lent, than the {} MiB that a call \
+                 takes at most",
+                MOST_SPACE >> 20
+            ),
             Cause::NoSuchTarget => write!(f, "the position asked for is not in the list of targets"),
         }
     }

@@ -14,6 +14,25 @@ pub struct Report {
     pub message: String,
 }
 
+impl Report {
+    /// The part of the rule's text that the report is about. There is none where the span is no part of this text: it
+    /// ends before it starts, reaches beyond the text, or cuts a letter of several bytes. A condition may have such
+    /// spans, and they are reported as they stand.
+    ///
+    /// ```
+    /// use dogwood_check::Report;
+    ///
+    /// let at = |start, end| Report { start, end, message: String::new() };
+    /// let rule = "year < 1900";
+    /// assert_eq!(at(0, 4).excerpt(rule), Some("year"));
+    /// assert_eq!(at(5, 3).excerpt(rule), None);
+    /// assert_eq!(at(7, 12).excerpt(rule), None);
+    /// ```
+    pub fn excerpt<'t>(&self, text: &'t str) -> Option<&'t str> {
+        excerpt(self.start, self.end, text)
+    }
+}
+
 impl fmt::Display for Report {
     fn fmt(&self, f: &mut fmt::Formatter) -> fmt::Result {
         write!(f, "{}..{}: {}", self.start, self.end, self.message)
@@ -32,10 +51,19 @@ pub struct ReportRef<'a> {
 }
 
 impl ReportRef<'_> {
+    /// The part of the rule's text that the report is about, as [`Report::excerpt`] says.
+    pub fn excerpt<'t>(&self, text: &'t str) -> Option<&'t str> {
+        excerpt(self.start, self.end, text)
+    }
+
     /// A copy of its own.
     pub fn to_report(self) -> Report {
         Report { start: self.start, end: self.end, message: self.message.to_string() }
     }
+}
+
+fn excerpt(start: u32, end: u32, text: &str) -> Option<&str> {
+    text.get(start.try_into().ok()?..end.try_into().ok()?)
 }
 
 /// The reports at the beginning of a buffer, one after the other, without allocation.

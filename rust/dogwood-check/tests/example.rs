@@ -1,4 +1,4 @@
-//! Document 01's example from end to end, and its examples at the edges, through trees.
+//! The example of README.md from end to end, and examples at the edges of the rules, through trees.
 
 mod common;
 
@@ -11,10 +11,11 @@ fn the_example() {
     let condition = Condition::comparison(0..8, Operator::Lt, Term::Bool, Term::Integer).encode().unwrap();
     let targets = Targets::new().target(Target::new("view")).encode().unwrap();
     assert_eq!((&schema[..], &condition[..], &targets[..]), (SCHEMA, CONDITION, TARGETS));
-    let reports = check(&schema, &condition, &targets).unwrap();
-    assert_eq!(reports, [report(0, 8, MESSAGE)]);
-    assert_eq!(reports[0].to_string(), format!("0..8: {MESSAGE}"));
-    assert_eq!(sums(&condition), Ok(Vec::new()));
+    let found = check(&schema, &condition, &targets).unwrap();
+    assert_eq!(found, Findings { reports: vec![report(0, 8, MESSAGE)], more: false });
+    assert_eq!(found.to_string(), format!("0..8: {MESSAGE}"));
+    assert_eq!(sums(&condition), Ok(Findings::default()));
+    assert!(Findings::default().is_clean());
 }
 
 /// Reader (with a home that has a town) and Letter; view has principals, close has none.
@@ -34,8 +35,8 @@ fn schema() -> Vec<u8> {
 
 /// The messages for a condition under one target.
 fn messages_for(condition: Condition, targets: Targets) -> Vec<String> {
-    let reports = check(&schema(), &condition.encode().unwrap(), &targets.encode().unwrap()).unwrap();
-    reports.into_iter().map(|report| report.message).collect()
+    let found = check(&schema(), &condition.encode().unwrap(), &targets.encode().unwrap()).unwrap();
+    found.into_iter().map(|report| report.message).collect()
 }
 
 fn messages(condition: Condition) -> Vec<String> {
@@ -183,7 +184,7 @@ fn sums_of_what_is_not_long() {
         let binder = Binder::new("v", annotation);
         let sum = Aggregate::sum(3..7, "v", [binder, Binder::new(Slot::BinderRef, "Long")], Condition::call(0..0));
         let condition = Condition::comparison(0..9, Operator::Eq, Term::Integer, Term::aggregate(sum));
-        sums(&condition.encode().unwrap()).unwrap()
+        sums(&condition.encode().unwrap()).unwrap().reports
     };
     assert_eq!(sum("Long"), []);
     assert_eq!(sum("App::Long"), []);
@@ -193,5 +194,5 @@ fn sums_of_what_is_not_long() {
     // the message has letters beyond ASCII
     assert!(sum("Timepoint")[0].message.contains("— use a Timepoint in the `for (…)` binders"));
     let call = Condition::comparison(0..9, Operator::Eq, Term::Integer, Term::aggregate(Aggregate::call(0..1)));
-    assert_eq!(sums(&call.encode().unwrap()), Ok(Vec::new()));
+    assert_eq!(sums(&call.encode().unwrap()), Ok(Findings::default()));
 }

@@ -167,7 +167,7 @@ fn refusals_by_the_owned_calls() {
     assert_eq!(lookup(SCHEMA, TARGETS, b"DWP\0\x01\x02"), Err(refusal(Cause::UndefinedChoice, RecordKind::Path)));
 }
 
-/// The numbers are those of document 01, and each has a sentence of its own that names the record.
+/// The numbers are those of `include/dogwood.h`, and each has a sentence of its own that names the record.
 #[test]
 fn numbers_and_sentences() {
     let numbers: Vec<u8> = Cause::ALL.iter().map(|cause| cause.number()).collect();
@@ -187,5 +187,6 @@ fn numbers_and_sentences() {
     let refusal = Refusal { cause: Cause::NotAscending, record: Some(RecordKind::Schema) };
     assert_eq!(refusal.to_string(), "the schema has names that are out of order or given twice");
     let refusal = Refusal { cause: Cause::NoSpace, record: None };
-    assert_eq!(refusal.to_string(), "the answer is longer than the space lent for it");
+    let sentence = "the answer is longer than the buffer lent for it, or, where none was lent, than the 16 MiB that a call takes at most";
+    assert_eq!(refusal.to_string(), sentence);
 }

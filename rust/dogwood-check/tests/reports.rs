@@ -10,12 +10,16 @@ const ONE: usize = 10 + MESSAGE.len();
 
 /// As many comparisons that are reported, at 0, 10, 20 and so on.
 fn wrong(count: u32) -> Vec<u8> {
-    let mut all: Vec<Condition> = (0..count).map(|number| wrong_comparison(number * 10)).collect();
+    joined((0..count).map(|number| wrong_comparison(number * 10)).collect()).encode().unwrap()
+}
+
+/// All of these as one condition that is nested as little as can be.
+fn joined(mut all: Vec<Condition>) -> Condition {
     while all.len() > 1 {
         let join = |pair: &[Condition]| pair.iter().cloned().reduce(|left, right| Condition::and(0..0, left, right));
         all = all.chunks(2).filter_map(join).collect();
     }
-    all.remove(0).encode().unwrap()
+    all.remove(0)
 }
 
 #[test]
@@ -37,6 +41,7 @@ fn reports_that_do_not_fit() {
         let mut buffer = [0xA5; 3 * ONE];
         let answer = check_into(SCHEMA, &condition, TARGETS, &mut buffer[..space]);
         let kept = space / ONE;
+        assert!(answer.is_cut());
         let refusal = Refusal { cause: Cause::NoSpace, record: None };
         assert_eq!(answer, Answer { refusal: Some(refusal), count: kept });
         assert_eq!(Reports::new(&buffer, kept).unwrap().len(), kept);
@@ -51,7 +56,7 @@ fn sums_that_do_not_fit() {
     let sum = Aggregate::sum(3..7, "v", [Binder::new("v", "String")], Condition::call(0..0));
     let both = Term::arith(Term::aggregate(sum.clone()), Term::aggregate(sum));
     let condition = Condition::comparison(0..9, Operator::Eq, both, Term::Integer).encode().unwrap();
-    let reports = sums(&condition).unwrap();
+    let reports = sums(&condition).unwrap().reports;
     let one = 10 + reports[0].message.len();
     assert_eq!((reports.len(), &reports[0]), (2, &reports[1]));
     let mut buffer = vec![0xA5; 2 * one - 1];
@@ -64,9 +69,60 @@ fn sums_that_do_not_fit() {
 /// More than the space that a call begins with: 1,000 reports have 85,000 bytes.
 #[test]
 fn space_grows() {
-    let reports = check(SCHEMA, &wrong(1000), TARGETS).unwrap();
-    assert_eq!(reports.len(), 1000);
-    assert_eq!(reports[999], report(9990, 9998, MESSAGE));
+    let found = check(SCHEMA, &wrong(1000), TARGETS).unwrap();
+    assert_eq!((found.reports.len(), found.more), (1000, false));
+    assert_eq!(found.reports[999], report(9990, 9998, MESSAGE));
+}
+
+/// A name of 255 bytes.
+fn long_name(number: u8) -> String {
+    format!("N{number:03}{}", "n".repeat(251))
+}
+
+/// Each of these comparisons is reported for each of these actions, whose contexts differ, in words of 590 bytes.
+#[test]
+fn more_than_all_space() {
+    let (comparisons, actions) = (1200, 25);
+    let action = |number: u8| {
+        let context = Type::record([("a", Type::entity(long_name(number)))]);
+        Action::new("Action", number.to_string()).context(context)
+    };
+    let schema = Schema { entity_types: Vec::new(), actions: (0..actions).map(action).collect() };
+    let compared = |at: u32| Condition::comparison(at..at, Operator::Lt, Term::context(["a"]), Term::context(["a"]));
+    let condition = joined((0..comparisons).map(compared).collect());
+    let targets = (0..actions).fold(Targets::new(), |all, number| all.target(Target::new(number.to_string())));
+    let (schema, condition, targets) =
+        (schema.encode().unwrap(), condition.encode().unwrap(), targets.encode().unwrap());
+    let found = check(&schema, &condition, &targets).unwrap();
+    let one = 10 + found.reports[0].message.len();
+    assert!(one * comparisons as usize * actions as usize > MOST_SPACE);
+    assert_eq!((found.reports.len(), found.more), (MOST_SPACE / one, true));
+    assert!(!found.is_clean());
+    assert!(found.to_string().ends_with("those shown fill the 16 MiB that a call takes at most."));
+}
+
+/// A span that is no part of the rule's text has no excerpt, and does no harm.
+#[test]
+fn excerpts() {
+    let text = "jahrüber < 1900";
+    for (start, end, part) in [
+        (0, 9, Some("jahrüber")),
+        (12, 16, Some("1900")),
+        (3, 3, Some("")),
+        (16, 16, Some("")),
+        (5, 3, None),
+        (12, 17, None),
+        (17, 17, None),
+        (0, 5, None),
+        (5, 9, None),
+        (0, u32::MAX, None),
+        (u32::MAX, 0, None),
+    ] {
+        let condition = Condition::comparison(start..end, Operator::Lt, Term::Bool, Term::Integer).encode().unwrap();
+        let found = check(SCHEMA, &condition, TARGETS).unwrap();
+        assert_eq!(found.reports[0].excerpt(text), part, "{start}..{end}");
+        assert_eq!(ReportRef { start, end, message: "" }.excerpt(text), part);
+    }
 }
 
 /// Sums whose messages are as long as a record allows; they need some ten millions of bytes, and there is room for them.
@@ -82,7 +138,7 @@ fn sums_have_space_for_the_worst() {
     let comparison = Condition::comparison(0..1, Operator::Eq, terms.remove(0), Term::Integer);
     let condition = Condition::exists(0..1, Binder { slot: Slot::from("v"), annotation }, comparison).encode().unwrap();
     assert!(condition.len() > 32_000);
-    let reports = sums(&condition).unwrap();
+    let reports = sums(&condition).unwrap().reports;
     assert_eq!(reports.len(), 670);
     assert!(reports.iter().map(|report| report.message.len()).sum::<usize>() > 10_000_000);
 }

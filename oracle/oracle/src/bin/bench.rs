@@ -45,7 +45,7 @@ fn table() -> String {
     let mut out = format!("{}\n\n", machine());
     out += "| input | operation | Rust alone | Rust with reading | ours | Rust with reading / ours |\n";
     out += "|---|---|---:|---:|---:|---:|\n";
-    for w in workloads::all() {
+    for w in workloads::all().into_iter().chain(workloads::crowded()) {
         for (input, operation, times) in rows_of(&w) {
             out += &row(&input, operation, &times);
         }
@@ -80,7 +80,7 @@ fn read(operation: Operation, bytes: &[u8]) -> Times {
 }
 
 fn check(w: &Workload) -> Times {
-    let mut buffer = vec![0; 65_536];
+    let mut buffer = vec![0; w.space];
     let (s, c, t) = (&w.schema[..], &w.condition[..], &w.targets[..]);
     let read = (
         records::read_schema(s).ok().unwrap(),
@@ -165,12 +165,14 @@ fn stacks_of(w: &Workload) -> [(&'static str, usize); 3] {
 
 // ─── The plot ───
 
-fn panels() -> [Panel; 2] {
+fn panels() -> [Panel; 3] {
     let sizes = workloads::sizes().into_iter().map(|w| (w.condition.len() as f64, check(&w))).collect();
     let counts = workloads::target_counts().into_iter().map(|(count, w)| (count as f64, check(&w))).collect();
+    let reports = workloads::report_counts().into_iter().map(|(count, w)| (count as f64, check(&w))).collect();
     [
         panel("Check, one target", "bytes of the condition", sizes),
         panel("Check, a condition of 4 KB", "targets", counts),
+        panel("Check, 1,360 mistakes for each target", "reports", reports),
     ]
 }
 

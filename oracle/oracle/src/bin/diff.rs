@@ -1,6 +1,6 @@
 //! The differential test: fresh cases against the static library, answers and whole buffers compared with the oracle's.
 //!
-//! usage: diff N [SEED [LETTERS]]. Without a seed one is taken from the clock; it is printed, so that a run can be had
+//! Usage: `diff N [SEED [LETTERS]]`. Without a seed one is taken from the clock; it is printed, so that a run can be had
 //! again. LETTERS are those of the operations to be compared; without them all that the library has.
 
 #[path = "../library.rs"]
@@ -11,6 +11,9 @@ use oracle::coverage::Coverage;
 use oracle::{generate, hex, lists, rng::Rng, shrink, workloads};
 use std::time::{SystemTime, UNIX_EPOCH};
 
+/// Every operation is compared but that of terms, which the library does not export.
+const COMPARED: usize = Operation::ALL.len() - 1;
+
 fn main() {
     let mut words = std::env::args().skip(1);
     let count: usize = words.next().and_then(|w| w.parse().ok()).expect("usage: diff N [SEED]");
@@ -19,9 +22,9 @@ fn main() {
     let mut operations = library::operations();
     operations.retain(|o| wanted.as_ref().is_none_or(|letters| letters.contains(o.letter())));
     let letters: String = operations.iter().map(|o| o.letter()).collect();
-    if operations.is_empty() {
-        println!("oracle: NOTHING COMPARED, the static library is not there or has none of the functions");
-        return;
+    if operations.is_empty() || wanted.is_none() && operations.len() < COMPARED {
+        println!("oracle: NOTHING COMPARED, the static library is not there or lacks functions: it has '{letters}'");
+        std::process::exit(1);
     }
     println!("oracle: operations {letters}, seed {seed}");
     let stored = compare_stored(&operations);
@@ -36,7 +39,8 @@ fn seed_from_clock() -> u64 {
 
 /// The cases of the stored lists and the benchmark's, for the operations that the library has.
 fn compare_stored(operations: &[Operation]) -> usize {
-    let large = workloads::all().into_iter().flat_map(|w| w.cases());
+    let crowded = [workloads::differing("reports", 200, 20, 1 << 20), workloads::alike("one start", 3, 1 << 20)];
+    let large = workloads::all().into_iter().chain(crowded).flat_map(|w| w.cases());
     let all = lists::all().into_iter().flat_map(|list| list.cases).chain(large);
     let mut compared = 0;
     for case in all.filter(|case| operations.contains(&case.operation)) {

@@ -153,8 +153,11 @@ fn target_kinds() -> Vec<Record> {
 
 // ─── Levels ───
 
+/// A way to put a piece into another one, and how many levels deeper it then stands.
+type Nesting = (usize, fn(Piece) -> Piece);
+
 /// Ways to put a condition into a condition, one level deeper (an aggregate's body: two levels).
-fn condition_nestings() -> Vec<(usize, fn(Piece) -> Piece)> {
+fn condition_nestings() -> Vec<Nesting> {
     vec![
         (1, |c| condition(3, (0, 0), vec![c])),
         (1, |c| condition(4, (0, 0), vec![c])),
@@ -373,9 +376,12 @@ fn with_byte(bytes: &[u8], at: usize, byte: u8) -> Vec<u8> {
 
 // ─── Lengths ───
 
+/// A reader, and what makes a record for it of a given length.
+type Maker = (Operation, fn(usize) -> Piece);
+
 /// The longest record and one byte more, well formed, with a wrong mark, and with a byte after its end.
 fn lengths() -> Vec<Case> {
-    let makers: [(Operation, fn(usize) -> Piece); 4] = [
+    let makers: [Maker; 4] = [
         (Operation::ReadSchema, large::schema_of),
         (Operation::ReadCondition, large::condition_of),
         (Operation::ReadTargets, large::targets_of),

@@ -8,7 +8,7 @@ pub mod spell;
 
 use dogwood_check::{Condition, Operator, Report, Term};
 
-/// Document 01's example.
+/// The example of README.md: `true < 1`.
 pub const SCHEMA: &[u8] = b"DWS\0\x01\0\0\0\0";
 pub const CONDITION: &[u8] = b"DWC\0\x01\x08\0\0\0\0\0\0\0\x08\x01\x05\x02";
 pub const TARGETS: &[u8] = b"DWT\0\x01\0\0\x01\0\x04view";
