@@ -380,10 +380,7 @@ fn read_count(s: &[u8], at: usize, left: usize) -> Read
 pub fn read_condition(s: &[u8]) -> Read
     ensures { λ r. ⌜ r ≡ ending (whole conditionRecord (now (s .entry))) ⌝ }
 {
-    if 32768 < s.len() {
-        return Read::Refused(1);
-    }
-    let heading = names::read_heading(s, b"DWC");
+    let heading = names::read_start(s, b"DWC");
     let Read::Next(at) = heading else {
         return heading;
     };
@@ -391,8 +388,5 @@ pub fn read_condition(s: &[u8]) -> Read
     let Read::Next(end) = root else {
         return root;
     };
-    if end == s.len() {
-        return Read::Next(end);
-    }
-    Read::Refused(10)
+    names::read_end(s, end)
 }

@@ -17,11 +17,13 @@ use Rattle.names.specs.Laws.Readers.{Keeps, u8-got, string-got, string-view, St
 use Rattle.names.specs.Laws.Rows.{Opens, opens, row-cons, counted-view, counted-start, each-done, each-turn}
 use Rattle.condition.specs.Condition.{termAt}
 use Rattle.condition.specs.Places.{isTerm, isPath}
+use Rattle.nodes.specs.Offsets.{termPart}
+use Rattle.nodes.specs.Laws.Inside.{term-place}
 use Rattle.nodes.specs.Open.{Skipped, TermOpened}
 use Rattle.nodes.specs.Parts.{stringsAt}
 use Rattle.condition.specs.Laws.ByKind.{entity-read, var-read, path-read}
 use Rattle.nodes.specs.Laws.Opens.{term-stands, raw-term, skipped-term}
-use Rattle.nodes.specs.Laws.Pieces.{skipped-names, skipped-path}
+use Rattle.nodes.specs.Laws.Pieces.{skipped-names, skipped-path, context-path, scope-path}
 
 ended : {A : Type 0} {g : Got A} {a : A} {n : ℕ} → g ≡ got a n → ending g ≡ Next n
 unfolding ending
@@ -118,68 +120,59 @@ pub ruleset by-strings = (needs, names-strings, names-past, path-strings, path-p
 
 -- ---- terms that are a word or a path
 
-module _ (s : List ℕ) (at : ℕ) (acc : isTerm s at ≡ true) (k : ℕ) (o : TermOpened s at k) where
-  module _ (class : List ℕ → Bool) (i : ending (stringOf class s (at + 1)) ≡ ending (termAt levels false s at)) where
-    own : Accepted (stringOf class s (at + 1))
-    own = accept _ (passes (stringOf class s (at + 1)) refl (i ∙ ended (term-stands s at acc .read)))
+module _ (s : List ℕ) (at : ℕ) (acc : isTerm s at ≡ true) (k : ℕ) (o : TermOpened s at k) (p : ℕ) (place : p ≡ termPart s at) where
+  module _ (class : List ℕ → Bool) (i : ending (stringOf class s p) ≡ ending (termAt levels false s at)) where
+    own : Accepted (stringOf class s p)
+    own = accept _ (passes (stringOf class s p) refl (i ∙ ended (term-stands s at acc .read)))
 
-    view : StringView class s (at + 1) (own .value) (own .place)
-    view = string-view class s (at + 1) (own .read)
+    view : StringView class s p (own .value) (own .place)
+    view = string-view class s p (own .read)
 
-    word-inside : at + 1 + 1 + getD s (at + 1) 0 ≤ length s
+    word-inside : p + 1 + getD s p 0 ≤ length s
     word-inside = rw (← view .place) (view .inside)
 
-    word-past : (n : ℕ) → n ≡ at + 1 + 1 + getD s (at + 1) 0 → Skipped (termAt levels false s at) at n
-    word-past n e = record { ends = sym i ∙ ended (own .read) ∙ ap Next (view .place ∙ sym e); ahead = omega arith }
+    word-past : (n : ℕ) → n ≡ p + 1 + getD s p 0 → Skipped (termAt levels false s at) at n
+    word-past n e = record { ends = sym i ∙ ended (own .read) ∙ ap Next (view .place ∙ sym e); ahead = omega (arith, term-place s at p place) }
 
   module _ (is : k ≡ 1) where
-    entity-ends : ending (stringOf pathName s (at + 1)) ≡ ending (termAt levels false s at)
-    entity-ends = entity-read s at levels false (o .inside) (λ z. omega arith) _ (raw-term s at acc 1 (λ z. omega arith) (sym (o .kind) ∙ is)) refl
+    entity-ends : ending (stringOf pathName s p) ≡ ending (termAt levels false s at)
+    entity-ends = ap (λ j. ending (stringOf pathName s j)) (term-place s at p place) ∙ entity-read s at levels false (o .inside) (λ z. omega arith) _ (raw-term s at acc 1 (λ z. omega arith) (sym (o .kind) ∙ is)) refl
 
-    pub entity-inside : at + 1 + 1 + getD s (at + 1) 0 ≤ length s
+    pub entity-inside : p + 1 + getD s p 0 ≤ length s
     entity-inside = word-inside pathName entity-ends
 
-    pub entity-past : (n : ℕ) → n ≡ at + 1 + 1 + getD s (at + 1) 0 → Skipped (termAt levels false s at) at n
+    pub entity-past : (n : ℕ) → n ≡ p + 1 + getD s p 0 → Skipped (termAt levels false s at) at n
     entity-past = word-past pathName entity-ends
 
   module _ (is : k ≡ 8) where
-    var-ends : ending (stringOf plain s (at + 1)) ≡ ending (termAt levels false s at)
-    var-ends = var-read s at levels false (o .inside) (λ z. omega arith) _ (raw-term s at acc 8 (λ z. omega arith) (sym (o .kind) ∙ is)) refl
+    var-ends : ending (stringOf plain s p) ≡ ending (termAt levels false s at)
+    var-ends = ap (λ j. ending (stringOf plain s j)) (term-place s at p place) ∙ var-read s at levels false (o .inside) (λ z. omega arith) _ (raw-term s at acc 8 (λ z. omega arith) (sym (o .kind) ∙ is)) refl
 
-    pub var-inside : at + 1 + 1 + getD s (at + 1) 0 ≤ length s
+    pub var-inside : p + 1 + getD s p 0 ≤ length s
     var-inside = word-inside plain var-ends
 
-    pub var-past : (n : ℕ) → n ≡ at + 1 + 1 + getD s (at + 1) 0 → Skipped (termAt levels false s at) at n
+    pub var-past : (n : ℕ) → n ≡ p + 1 + getD s p 0 → Skipped (termAt levels false s at) at n
     var-past = word-past plain var-ends
 
   module _ (l : 5 < getD s at 0) (h : getD s at 0 ≤ 7) where
-    path-ends : ending (pathOf s (at + 1)) ≡ ending (termAt levels false s at)
-    path-ends = path-read s at levels false (o .inside) (λ z. omega arith) _ l h refl
+    path-ends : ending (pathOf s p) ≡ ending (termAt levels false s at)
+    path-ends = ap (λ j. ending (pathOf s j)) (term-place s at p place) ∙ path-read s at levels false (o .inside) (λ z. omega arith) _ l h refl
 
-    path-there : isPath s (at + 1) ≡ true
-    path-there = passes (pathOf s (at + 1)) refl (path-ends ∙ ended (term-stands s at acc .read))
-
-    path-over : (n : ℕ) → Skipped (pathOf s (at + 1)) (at + 1) n → Skipped (termAt levels false s at) at n
-    path-over n z = record { ends = sym path-ends ∙ z .ends; ahead = omega (arith, z .ahead) }
+    path-over : (n : ℕ) → Skipped (pathOf s p) p n → Skipped (termAt levels false s at) at n
+    path-over n z = record { ends = sym path-ends ∙ z .ends; ahead = omega (arith, z .ahead, term-place s at p place) }
 
   module _ (is : k ≡ 6) where
     six : getD s at 0 ≡ 6
     six = raw-term s at acc 6 (λ z. omega arith) (sym (o .kind) ∙ is)
 
-    pub context-path : isPath s (at + 1) ≡ true
-    context-path = path-there (omega (arith, six)) (omega (arith, six))
-
-    pub context-past : (n : ℕ) → Skipped (pathOf s (at + 1)) (at + 1) n → Skipped (termAt levels false s at) at n
+    pub context-past : (n : ℕ) → Skipped (pathOf s p) p n → Skipped (termAt levels false s at) at n
     context-past = path-over (omega (arith, six)) (omega (arith, six))
 
   module _ (is : k ≡ 7) where
     seven : getD s at 0 ≡ 7
     seven = raw-term s at acc 7 (λ z. omega arith) (sym (o .kind) ∙ is)
 
-    pub scope-path : isPath s (at + 1) ≡ true
-    scope-path = path-there (omega (arith, seven)) (omega (arith, seven))
-
-    pub scope-past : (n : ℕ) → Skipped (pathOf s (at + 1)) (at + 1) n → Skipped (termAt levels false s at) at n
+    pub scope-past : (n : ℕ) → Skipped (pathOf s p) p n → Skipped (termAt levels false s at) at n
     scope-past = path-over (omega (arith, seven)) (omega (arith, seven))
 
 pub ruleset past-terms = (needs, entity-inside, entity-past, var-inside, var-past, context-path, context-past, scope-path, scope-past, skipped-term)

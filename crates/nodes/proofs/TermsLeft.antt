@@ -17,9 +17,11 @@ use Rattle.condition.specs.Condition as tree
 use Rattle.condition.specs.Walk.{operandAggregates}
 use Rattle.condition.specs.Places.{isCondition, conditionIn, isTerm, termIn, aggregateIn}
 use Rattle.nodes.specs.Kinds.{kindOf, spanOf, termKindOf}
-use Rattle.nodes.specs.Open.{Skipped, TermOpened, AggregateHere}
+use Rattle.nodes.specs.Offsets.{firstPart, termPart}
+use Rattle.nodes.specs.Laws.Inside.{place-compared, term-place, aggregate-inside}
+use Rattle.nodes.specs.Open.{Skipped, TermOpened}
 use Rattle.nodes.specs.Parts.{isTerms, aggregatesIn, AggregateNext, OperandsHere}
-use Rattle.nodes.specs.Laws.Opens.{Stands, stood, ends-at, term-stands, term-index, arith-here, comparison-here}
+use Rattle.nodes.specs.Laws.Opens.{term-there, Stands, stood, ends-at, term-stands, term-index, arith-here, comparison-here}
 use Rattle.nodes.specs.Laws.Pieces.{term-ahead}
 
 -- an operand that is no aggregate and no arithmetic has none
@@ -99,9 +101,9 @@ module _ (s : List ℕ) (list : List Aggregate) (n at : ℕ) (inv : TermsLeft s 
       unfolding aggregatesIn
       others-are = ap (gather operandAggregates) (has-value [] others-read)
 
-      pub found-next : (k : ℕ) → TermOpened s at k → (p : ℕ) → AggregateHere s at p → AggregateNext s list p (record { count = n - 1; first = m })
+      pub found-next : (k : ℕ) → TermOpened s at k → k ≡ 11 → (p : ℕ) → p ≡ termPart s at → AggregateNext s list p (record { count = n - 1; first = m })
       unfolding operandAggregates
-      found-next k o p here = record {
+      found-next k o is p place = let here = aggregate-inside s at first-stands p place k o is in record {
         stands = here .stands;
         others = is-accepted others-read;
         value = parted ∙ ap (λ t. operandAggregates t ++ gather operandAggregates (first .others)) (here .value) ∙ ap (λ l. aggregateIn s p ∷ l) (sym others-are);
@@ -114,9 +116,9 @@ module _ (s : List ℕ) (list : List Aggregate) (n at : ℕ) (inv : TermsLeft s 
         value = others-are ∙ sym (parted ∙ ap (λ l. l ++ gather operandAggregates (first .others)) (no-aggregates (termIn s at) (λ e. j (o .kind ∙ e)) (λ e. i (o .kind ∙ e))));
       }
 
-    pub arith-turn : (k : ℕ) → TermOpened s at k → k ≡ 12 → TermsLeft s list (n + 1) (at + 1)
+    turned : (k : ℕ) → TermOpened s at k → k ≡ 12 → TermsLeft s list (n + 1) (at + 1)
     unfolding aggregatesIn gather operandAggregates
-    arith-turn k o is =
+    turned k o is =
         let v = arith-here s at first-stands (sym (o .kind) ∙ is) in
         let e = same-place (term-stands s at first-stands .read) (first .here) in
         let r = two-more s n at h (v .reads) (v .further) (ap (row (termAt levels false) (n - 1) s) e ∙ first .rest) in
@@ -129,12 +131,16 @@ module _ (s : List ℕ) (list : List Aggregate) (n at : ℕ) (inv : TermsLeft s 
               ∙ sym (parted ∙ ap (λ t. operandAggregates t ++ gather operandAggregates (first .others)) (v .whole));
         }
 
+    pub arith-turn : (k : ℕ) → TermOpened s at k → k ≡ 12 → (p : ℕ) → p ≡ termPart s at → TermsLeft s list (n + 1) p
+    arith-turn k o is p place = rw (term-place s at p place) (turned k o is)
+
 -- The operands of a comparison.
-pub operands-here : (s : List ℕ) (at : ℕ) → isCondition s at ≡ true → kindOf (conditionIn s at) ≡ 8 → OperandsHere s at (record { count = 2; first = at + 10 })
+pub operands-here : (s : List ℕ) (at : ℕ) → isCondition s at ≡ true → kindOf (conditionIn s at) ≡ 8 → (p : ℕ) → p ≡ firstPart s at → OperandsHere s at (record { count = 2; first = p })
 unfolding aggregatesIn gather many
-operands-here s at acc is =
+operands-here s at acc is p place =
     let v = comparison-here s at acc is in
-    let r = row-cons (termAt levels false) s 1 (at + 10) (v .reads) (row-cons (termAt levels false) s 0 (v .middle) (v .further) refl) in
+    let j : p ≡ at + 10 = place-compared s at acc p place is in
+    let r = row-cons (termAt levels false) s 1 p (term-there s j (v .reads)) (row-cons (termAt levels false) s 0 (v .middle) (v .further) refl) in
     record {
       op = v .test;
       left = v .left;

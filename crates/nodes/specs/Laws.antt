@@ -1,5 +1,6 @@
 -- Laws of the definitions, for the proofs of this crate and of those above it. They are proved: whoever reads what is promised may pass over them.
 pub mod Views
 pub mod Opens
+pub mod Inside
 pub mod Pieces
 pub mod Binders

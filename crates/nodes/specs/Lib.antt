@@ -1,4 +1,5 @@
 pub mod Kinds
+pub mod Offsets
 pub mod Open
 pub mod Parts
 pub mod Laws

@@ -3,12 +3,13 @@ use mathlib.Core.Path.{_≡_}
 use mathlib.Core.Bool.{Bool, true, false}
 use mathlib.Core.List.{List, [], _∷_, _++_}
 use mathlib.Core.Option.{Option, none, some}
-use Prim.Native.Nat.{ℕ, _+_, _-_, _<_}
+use Prim.Native.Nat.{ℕ, _+_, _-_, _≤_, _<_}
 use lib.ListN.{getD, take, drop}
 use Rattle.names.specs.Lists.{gather}
 use Rattle.names.specs.Fields.{Reader, levels, number, stringOf, each, counted}
 use Rattle.names.specs.Names.{pathName, identifier}
-use Rattle.names.specs.Read.{accepted, valueOr, wordAt, Listed, isRow, rowIn}
+use Rattle.names.specs.declared.Read.the-variants.{Next}
+use Rattle.names.specs.Read.{ending, accepted, valueOr, wordAt, Listed, isRow, rowIn}
 use Rattle.nodes.specs.declared.Ends.{Ends}
 use Rattle.nodes.specs.declared.ComparisonAt.{ComparisonAt}
 use Rattle.nodes.specs.declared.Operands.{Operands}
@@ -21,9 +22,9 @@ use Rattle.nodes.specs.declared.Bound.{Bound}
 use Rattle.nodes.specs.declared.Bound.the-variants.{Segments, Timepoint, Nothing}
 use Rattle.nodes.specs.declared.NextAggregate.{NextAggregate}
 use Rattle.nodes.specs.declared.NextAggregate.the-variants.{At, Done}
-use Rattle.condition.specs.Condition.{Span, Slot, named, paramRef, binderRef, Annotation, timepoint, path, Binder, Operator, Condition, Term, Aggregate, termAt, predicate, comparison, tp, argument, array, arith, cons, sum, binder}
-use Rattle.condition.specs.Walk.{operandAggregates, declaredBy, declares}
-use Rattle.condition.specs.Places.{conditionIn, isTerm, termIn, isAggregate, aggregateIn, isArguments, argumentsIn, isElements, elementsIn, isPath, pathIn, isSlot, slotIn, isBinder, binderIn}
+use Rattle.condition.specs.Condition.{Span, Slot, named, paramRef, binderRef, Annotation, timepoint, path, Binder, Operator, Condition, Term, Aggregate, conditionAt, termAt, predicate, comparison, tp, argument, array, arith, cons, sum, binder}
+use Rattle.condition.specs.Walk.{reached, reachedBody, operandAggregates, declaredBy}
+use Rattle.condition.specs.Places.{isCondition, conditionIn, isTerm, termIn, aggregateAt, isAggregate, aggregateIn, isArguments, argumentsIn, isElements, elementsIn, isPath, pathIn, isSlot, slotIn}
 use Rattle.nodes.specs.Kinds.{spanOf, ownSpanOf, aggregateSpanOf, operatorNumber}
 
 -- the two numbers of a span that starts there
@@ -72,10 +73,6 @@ pub record TimepointHere (s : List ℕ) (at p : ℕ) : Type 0 where
   pub stands : isSlot s p ≡ true
   pub value : conditionIn s at ≡ tp (spanOf (conditionIn s at)) (slotIn s p)
 
-pub record ExistsHere (s : List ℕ) (at p : ℕ) : Type 0 where
-  pub stands : isBinder s p ≡ true
-  pub value : declares (conditionIn s at) ≡ binderIn s p ∷ []
-
 -- the elements of an array, and the first of so many, which stands at its own place
 pub record ElementsHere (s : List ℕ) (at : ℕ) (p : Several) : Type 0 where
   pub stands : isElements s (p .count) (p .first) ≡ true
@@ -106,9 +103,20 @@ isBinders s at = accepted (counted (each binder) s at)
 unfoldable pub bindersIn : List ℕ → ℕ → List Binder
 bindersIn s at = valueOr [] (counted (each binder) s at)
 
+-- the binders of an aggregate, and its body, which stands behind them
 pub record BindersHere (s : List ℕ) (at p : ℕ) : Type 0 where
+  pub body : ℕ
   pub stands : isBinders s p ≡ true
+  pub ahead : at + 9 ≤ p
   pub value : declaredBy (aggregateIn s at) ≡ bindersIn s p
+  pub between : ending (counted (each binder) s p) ≡ Next body
+  pub behind : isCondition s body ≡ true
+  pub reaches : reachedBody (aggregateIn s at) ≡ reached (conditionIn s body)
+  pub ends : ending (aggregateAt s at) ≡ ending (conditionAt levels s body)
+
+-- the name of a binder that has one, behind the choice byte of its slot
+unfoldable pub nameIn : List ℕ → ℕ → List ℕ
+nameIn s at = wordAt s (at + 1)
 
 -- what a slot is
 abbrev pub slotOf : List ℕ → SlotAt → Slot

@@ -1,7 +1,8 @@
 // The aggregates of a comparison's operands, one after another.
 use crate::NextAggregate;
 use crate::Several;
-use crate::parts::aggregate_at;
+use crate::offsets::first_part;
+use crate::offsets::term_part;
 use crate::parts::past_term;
 use crate::parts::term_kind_at;
 ghost use mathlib.Core.Path.{_≡_};
@@ -18,7 +19,7 @@ pub fn operands_at(s: &[u8], at: usize) -> Several
 {
     Several {
         count: 2,
-        first: at + 10,
+        first: first_part(s, at),
     }
 }
 
@@ -32,7 +33,7 @@ pub fn next_aggregate(s: &[u8], count: usize, first: usize) -> NextAggregate
     while 0 < rest {
         let kind = term_kind_at(s, at);
         if kind == 11 {
-            let place = aggregate_at(s, at);
+            let place = term_part(s, at);
             let next = past_term(s, at);
             let others = Several {
                 count: rest - 1,
@@ -41,7 +42,7 @@ pub fn next_aggregate(s: &[u8], count: usize, first: usize) -> NextAggregate
             return NextAggregate::At(place, others);
         }
         if kind == 12 {
-            at += 1;
+            at = term_part(s, at);
             rest += 1;
             continue;
         }

@@ -2,18 +2,22 @@
 //
 // `s` is an accepted record; a position `at` denotes a condition (`conditionIn`), a term (`termIn`), .. of `condition`'s `specs/Places`, and `is..` says that one
 // stands there. Kinds are document 01's numbers (`specs/Kinds`). What a function tells of its answer is the record of `specs/Open` or `specs/Parts` beside it.
-// This crate alone knows at which byte of a node its parts stand.
+// This crate alone knows at which byte of a node its parts stand: `first_part`, `term_part`, `aggregate_part`, of which the laws of `specs/Laws/Inside` say what is there.
 //
 // | module | what it has |
 // |---|---|
+// | offsets | where the first part of a node stands |
 // | parts | kinds, spans and parts of conditions, terms, aggregates, slots, paths and annotations |
 // | aggregates | `next_aggregate(s, count, first)`: `NextIs` of `aggregatesIn s count first` |
 mod aggregates;
+mod offsets;
 mod parts;
 
 pub use aggregates::next_aggregate;
 pub use aggregates::operands_at;
-pub use parts::aggregate_at;
+pub use offsets::aggregate_part;
+pub use offsets::first_part;
+pub use offsets::term_part;
 pub use parts::aggregate_kind_at;
 pub use parts::aggregate_span_at;
 pub use parts::argument_at;
@@ -22,14 +26,13 @@ pub use parts::binders_at;
 pub use parts::body_at;
 pub use parts::bound_at;
 pub use parts::comparison_at;
-pub use parts::context_at;
 pub use parts::elements_at;
-pub use parts::entity_at;
-pub use parts::exists_at;
 pub use parts::has_one;
 pub use parts::has_two;
+pub use parts::is_named;
 pub use parts::kind_at;
 pub use parts::last_segment;
+pub use parts::name_of;
 pub use parts::own_span_at;
 pub use parts::past_binder;
 pub use parts::past_condition;
@@ -38,14 +41,13 @@ pub use parts::past_slot;
 pub use parts::past_term;
 pub use parts::path_at;
 pub use parts::predicate_at;
-pub use parts::scope_at;
 pub use parts::segments_at;
 pub use parts::slot_at;
 pub use parts::span_at;
-pub use parts::summand_at;
 pub use parts::term_kind_at;
-pub use parts::timepoint_at;
-pub use parts::var_at;
+
+// Where a condition record's own condition stands, behind the mark and the version.
+pub const ROOT: usize = 5;
 
 // The ends of a span.
 pub struct Ends {

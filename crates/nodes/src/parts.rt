@@ -7,15 +7,11 @@
 // | `comparison_at` | kind 8 | `ComparisonHere`: operator's number, places of both operands, the tree |
 // | `predicate_at` | kind 7 | `PredicateHere`: namespace as a `Listed`, action's place, arguments, the tree |
 // | `argument_at(s, n, at)` | `isArguments s n at`, `0 < n` | `ArgumentHere`: field path, term, the rest; `arguments-over` where n is 0 |
-// | `timepoint_at`, `exists_at` | kind 10, 9 | `TimepointHere`: the slot; `ExistsHere`: the binder |
 // | `term_kind_at(s, at)` | `isTerm` | `TermOpened`: `termKindOf (termIn s at)` |
-// | `entity_at`, `var_at` | kind 1, 8 | `termIn s at ≡ entity (wordAt s r)`, `.. var (wordAt s r)` |
-// | `context_at`, `scope_at` | kind 6, 7 | `PathHere contextField`, `PathHere scopeField` |
 // | `elements_at`, `past_element(s, n, at)` | kind 10; `isElements s n at`, `0 < n` | `ElementsHere`, `ElementHere`; `elements-over` where n is 0 |
 // | `arith_at` | kind 12 | `ArithHere`: the places of both operands |
-// | `aggregate_at` | kind 11 | `AggregateHere`: the place of its own kind byte, which the next four take |
 // | `aggregate_kind_at`, `aggregate_span_at` | `isAggregate` | `AggregateOpened`: 1 Sum, 2 Count, 3 Call; `Spans (aggregateSpanOf ..)` |
-// | `summand_at`, `binders_at`, `body_at` | kind 1; not 3; not 3 | `SummandHere`, `BindersHere`, `BodyHere` |
+// | `binders_at`, `body_at` | kind not 3 | `BindersHere`, `BodyHere` |
 // | `slot_at` | `isSlot` | `slotIn s at ≡ slotOf s r` |
 // | `path_at`, `segments_at` | `isPath`, `SegmentsHere` | `Listed` |
 // | `last_segment` | `SegmentsHere` | `wordAt s r ≡ lastOf (segmentsIn s at)` |
@@ -28,6 +24,9 @@ use crate::Operands;
 use crate::PredicateAt;
 use crate::Several;
 use crate::SlotAt;
+use crate::offsets::aggregate_part;
+use crate::offsets::first_part;
+use crate::offsets::term_part;
 use condition::read_binder;
 use condition::read_binders;
 use condition::read_slot;
@@ -37,18 +36,19 @@ use names::Read;
 ghost use mathlib.Core.Path.{_≡_};
 ghost use mathlib.Core.Bool.{true, false};
 ghost use mathlib.Core.Option.{some};
-ghost use Prim.Native.Nat.{_+_, _*_, _<_, _≤_};
-ghost use lib.ListN.{length, take, drop};
-ghost use Rattle.names.specs.Fields.{each, counted, stringOf, number, levels};
+ghost use Prim.Native.Nat.{_+_, _<_, _≤_};
+ghost use lib.ListN.{length};
+ghost use Rattle.names.specs.Fields.{each, counted, stringOf, levels};
 ghost use Rattle.names.specs.Names.{plain, pathName, identifier, lastOf};
 ghost use Rattle.names.specs.Paths.{pathOf};
 ghost use Rattle.names.specs.Read.{accepted, ending, wordAt, Listed};
 ghost use Rattle.names.specs.declared.Read.the-variants.{Next};
-ghost use Rattle.condition.specs.Condition.{entity, contextField, scopeField, var, slot, binder, conditionAt, termAt};
-ghost use Rattle.condition.specs.Places.{isCondition, conditionIn, isTerm, termIn, isAggregate, aggregateIn, isArguments, isElements, isPath, pathIn, isSlot, slotIn, isAnnotation, annotationIn, isBinder};
+ghost use Rattle.condition.specs.Condition.{slot, binder, conditionAt, termAt};
+ghost use Rattle.condition.specs.Walk.{hasName};
+ghost use Rattle.condition.specs.Places.{isCondition, conditionIn, isTerm, termIn, isAggregate, aggregateIn, isArguments, isElements, isPath, pathIn, isSlot, slotIn, isAnnotation, annotationIn, isBinder, binderIn};
 ghost use Rattle.nodes.specs.Kinds.{kindOf, spanOf, ownSpanOf, oneKind, twoKind, termKindOf, aggregateKindOf, aggregateSpanOf};
-ghost use Rattle.nodes.specs.Open.{placeOf, Skipped, Opened, TermOpened, AggregateOpened, AggregateHere, BodyHere};
-ghost use Rattle.nodes.specs.Parts.{EndsHere, Spans, ComparisonHere, ArithHere, PredicateHere, ArgumentHere, TimepointHere, ExistsHere, ElementsHere, ElementHere, PathHere, SummandHere, BindersHere, isBinders, slotOf, segmentsIn, SegmentsHere, Says, stringsAt};
+ghost use Rattle.nodes.specs.Open.{placeOf, Skipped, Opened, TermOpened, AggregateOpened, BodyHere};
+ghost use Rattle.nodes.specs.Parts.{EndsHere, Spans, ComparisonHere, ArithHere, PredicateHere, ArgumentHere, ElementsHere, ElementHere, BindersHere, isBinders, slotOf, segmentsIn, SegmentsHere, Says, stringsAt, nameIn};
 
 // The place behind what was read; `other` where it was refused.
 fn place_of(r: Read, other: usize) -> usize
@@ -122,7 +122,7 @@ pub fn past_term(s: &[u8], at: usize) -> usize
     ensures { λ n. ⌜ Skipped (termAt levels false (now (s .entry)) at) at n ⌝ }
 {
     let kind = term_kind_at(s, at);
-    let next = at + 1;
+    let next = term_part(s, at);
     if kind == 8 {
         return names::past_word(s, next);
     }
@@ -196,15 +196,6 @@ pub fn term_kind_at(s: &[u8], at: usize) -> u8
     kind
 }
 
-// Where the aggregate that is the term at `at` has its own kind byte.
-pub fn aggregate_at(s: &[u8], at: usize) -> usize
-    requires { ⌜ isTerm (now s) at ≡ true ⌝ }
-    requires { ⌜ termKindOf (termIn (now s) at) ≡ 11 ⌝ }
-    ensures { λ p. ⌜ AggregateHere (now (s .entry)) at p ⌝ }
-{
-    at + 1
-}
-
 pub fn aggregate_kind_at(s: &[u8], at: usize) -> u8
     requires { ⌜ isAggregate (now s) at ≡ true ⌝ }
     ensures { λ k. ⌜ AggregateOpened (now (s .entry)) at k ⌝ }
@@ -218,10 +209,7 @@ pub fn body_at(s: &[u8], at: usize) -> usize
     requires { ⌜ (aggregateKindOf (aggregateIn (now s) at) ≡ 3 → ⊥) ⌝ }
     ensures { λ p. ⌜ BodyHere (now (s .entry)) at p ⌝ }
 {
-    if aggregate_kind_at(s, at) == 1 {
-        return past_binders(s, past_slot(s, at + 9));
-    }
-    past_binders(s, at + 9)
+    past_binders(s, binders_at(s, at))
 }
 
 // Where the count of a Sum's or a Count's binders stands.
@@ -231,44 +219,17 @@ pub fn binders_at(s: &[u8], at: usize) -> usize
     ensures { λ p. ⌜ BindersHere (now (s .entry)) at p ⌝ }
 {
     if aggregate_kind_at(s, at) == 1 {
-        return past_slot(s, at + 9);
+        return past_slot(s, aggregate_part(s, at));
     }
-    at + 9
-}
-
-// Where the slot of a Sum stands.
-pub fn summand_at(s: &[u8], at: usize) -> usize
-    requires { ⌜ isAggregate (now s) at ≡ true ⌝ }
-    requires { ⌜ aggregateKindOf (aggregateIn (now s) at) ≡ 1 ⌝ }
-    ensures { λ p. ⌜ SummandHere (now (s .entry)) at p ⌝ }
-{
-    at + 9
-}
-
-fn quad(a: usize, b: usize, c: usize, d: usize) -> u32
-    requires { ⌜ (a < 256) × (b < 256) × (c < 256) × (d < 256) ⌝ }
-    ensures { λ r. ⌜ r ≡ ((a * 256 + b) * 256 + c) * 256 + d ⌝ }
-{
-    (((a * 256 + b) * 256 + c) * 256 + d) as u32
-}
-
-fn u32_at(s: &[u8], at: usize) -> u32
-    requires { ⌜ at + 4 ≤ length (now s) ⌝ }
-    ensures { λ r. ⌜ r ≡ number 0 (take 4 (drop at (now (s .entry)))) ⌝ }
-{
-    let a = names::wide(s[at]);
-    let b = names::wide(s[at + 1]);
-    let c = names::wide(s[at + 2]);
-    let d = names::wide(s[at + 3]);
-    quad(a, b, c, d)
+    aggregate_part(s, at)
 }
 
 fn ends_at(s: &[u8], at: usize) -> Ends
     requires { ⌜ at + 8 ≤ length (now s) ⌝ }
     ensures { λ r. ⌜ EndsHere (now (s .entry)) at r ⌝ }
 {
-    let start = u32_at(s, at);
-    let end = u32_at(s, at + 4);
+    let start = names::u32_at(s, at);
+    let end = names::u32_at(s, at + 4);
     Ends {
         start: start,
         end: end,
@@ -305,7 +266,7 @@ pub fn comparison_at(s: &[u8], at: usize) -> ComparisonAt
     ensures { λ r. ⌜ ComparisonHere (now (s .entry)) at r ⌝ }
 {
     let operator = s[at + 9];
-    let left = at + 10;
+    let left = first_part(s, at);
     let right = past_term(s, left);
     ComparisonAt {
         operator: operator,
@@ -319,7 +280,7 @@ pub fn arith_at(s: &[u8], at: usize) -> Operands
     requires { ⌜ termKindOf (termIn (now s) at) ≡ 12 ⌝ }
     ensures { λ r. ⌜ ArithHere (now (s .entry)) at r ⌝ }
 {
-    let left = at + 1;
+    let left = term_part(s, at);
     let right = past_term(s, left);
     Operands {
         left: left,
@@ -362,66 +323,17 @@ pub fn argument_at(s: &[u8], count: usize, at: usize) -> ArgumentAt
     }
 }
 
-// Where the slot of a timepoint stands, and the binder of an Exists.
-pub fn timepoint_at(s: &[u8], at: usize) -> usize
-    requires { ⌜ isCondition (now s) at ≡ true ⌝ }
-    requires { ⌜ kindOf (conditionIn (now s) at) ≡ 10 ⌝ }
-    ensures { λ p. ⌜ TimepointHere (now (s .entry)) at p ⌝ }
-{
-    at + 9
-}
-
-pub fn exists_at(s: &[u8], at: usize) -> usize
-    requires { ⌜ isCondition (now s) at ≡ true ⌝ }
-    requires { ⌜ kindOf (conditionIn (now s) at) ≡ 9 ⌝ }
-    ensures { λ p. ⌜ ExistsHere (now (s .entry)) at p ⌝ }
-{
-    at + 9
-}
-
-// Where the name of an entity or a variable stands, and the path of a field.
-pub fn entity_at(s: &[u8], at: usize) -> usize
-    requires { ⌜ isTerm (now s) at ≡ true ⌝ }
-    requires { ⌜ termKindOf (termIn (now s) at) ≡ 1 ⌝ }
-    ensures { λ p. ⌜ termIn (now (s .entry)) at ≡ entity (wordAt (now (s .entry)) p) ⌝ }
-{
-    at + 1
-}
-
-pub fn var_at(s: &[u8], at: usize) -> usize
-    requires { ⌜ isTerm (now s) at ≡ true ⌝ }
-    requires { ⌜ termKindOf (termIn (now s) at) ≡ 8 ⌝ }
-    ensures { λ p. ⌜ termIn (now (s .entry)) at ≡ var (wordAt (now (s .entry)) p) ⌝ }
-{
-    at + 1
-}
-
-pub fn context_at(s: &[u8], at: usize) -> usize
-    requires { ⌜ isTerm (now s) at ≡ true ⌝ }
-    requires { ⌜ termKindOf (termIn (now s) at) ≡ 6 ⌝ }
-    ensures { λ p. ⌜ PathHere contextField (now (s .entry)) at p ⌝ }
-{
-    at + 1
-}
-
-pub fn scope_at(s: &[u8], at: usize) -> usize
-    requires { ⌜ isTerm (now s) at ≡ true ⌝ }
-    requires { ⌜ termKindOf (termIn (now s) at) ≡ 7 ⌝ }
-    ensures { λ p. ⌜ PathHere scopeField (now (s .entry)) at p ⌝ }
-{
-    at + 1
-}
-
 // The elements of an array, and the place behind the first of so many.
 pub fn elements_at(s: &[u8], at: usize) -> Several
     requires { ⌜ isTerm (now s) at ≡ true ⌝ }
     requires { ⌜ termKindOf (termIn (now s) at) ≡ 10 ⌝ }
     ensures { λ r. ⌜ ElementsHere (now (s .entry)) at r ⌝ }
 {
-    let count = names::wide(s[at + 1]);
+    let list = term_part(s, at);
+    let count = names::wide(s[list]);
     Several {
         count: count,
-        first: at + 2,
+        first: list + 1,
     }
 }
 
@@ -496,4 +408,23 @@ pub fn bound_at(s: &[u8], at: usize) -> Bound
         return Bound::Timepoint;
     }
     Bound::Segments(at)
+}
+
+// Whether a binder has a name.
+pub fn is_named(s: &[u8], at: usize) -> bool
+    requires { ⌜ isBinder (now s) at ≡ true ⌝ }
+    ensures { λ r. ⌜ r ≡ hasName ((binderIn (now (s .entry)) at) .slot) ⌝ }
+{
+    if s[at] == 0 {
+        return true;
+    }
+    false
+}
+
+// The name of a binder that has one.
+pub fn name_of(s: &[u8], at: usize) -> &[u8]
+    requires { ⌜ at < 65536 ⌝ }
+    ensures { λ r. ⌜ now r ≡ nameIn (now (s .entry)) at ⌝ }
+{
+    names::word(s, at + 1)
 }

@@ -21,9 +21,6 @@ ghost use Rattle.terms.specs.Facts.{factsIn, Known};
 ghost use Rattle.operands.specs.Operands.{answered, underTarget, atPosition, operandType};
 ghost use Rattle.operands.specs.Answers.{placeOf, outcomeOf, Records};
 
-// Where a condition record's own condition stands.
-const ROOT: usize = 5;
-
 // Where an operand of a comparison stands.
 fn place_of(parts: ComparisonAt, which: Operand) -> usize
     ensures { λ r. ⌜ r ≡ placeOf parts which ⌝ }
@@ -47,8 +44,8 @@ fn under_facts<'a>(
     requires { ⌜ Known (now schema) (now condition) (now env) facts ⌝ }
     ensures { λ r. ⌜ outcomeOf r (now (out .exit)) ≡ answered which (recordIn (now (condition .entry))) (factsIn (now (schema .entry)) (now (condition .entry)) (now (targets .entry)) facts) (now (out .entry)) ⌝ }
 {
-    if nodes::kind_at(condition, ROOT) == 8 {
-        let parts = nodes::comparison_at(condition, ROOT);
+    if nodes::kind_at(condition, nodes::ROOT) == 8 {
+        let parts = nodes::comparison_at(condition, nodes::ROOT);
         let at = place_of(parts, which);
         let typed = terms::term_type(schema, condition, targets, env, facts, at);
         return show_type(schema, condition, typed, out);

@@ -20,6 +20,7 @@ use Rattle.nodes.specs.declared.Ends.{Ends}
 use Rattle.condition.specs.Condition.{Span, Slot, sum, path}
 use Rattle.nodes.specs.Kinds.{aggregateSpanOf}
 use Rattle.condition.specs.Places.{recordIn, aggregateIn, slotIn}
+use Rattle.nodes.specs.Laws.Pieces.{summand-inside, summand-slot}
 use Rattle.nodes.specs.Parts.{segmentsIn, SegmentsHere, boundIn, BoundStands, Says, slotOf, SummandHere, Spans}
 use Rattle.condition.specs.Walk.{binders, lastNamed}
 use Rattle.reports.specs.declared.Message.the-variants.{CannotSum, CannotSumTimepoint, CannotSumDecimal}
@@ -104,4 +105,4 @@ module _ (s : List ℕ) (at p : ℕ) (h : SummandHere s at p) (x : SlotAt) (i : 
       ap (aggregateBreaches (recordIn s)) (h .value) ∙ ap (λ (l : Slot). aggregateBreaches (recordIn s) (sum (aggregateSpanOf (aggregateIn s at)) l (h .declared) (h .body))) (i ∙ ap (slotOf s) e) in
       rw (v, ← is .is, ← says .value, ← span) j
 
-pub ruleset slots = (needs, name-there, slot-param, slot-binder, slot-named)
+pub ruleset slots = (needs, name-there, summand-inside, summand-slot, slot-param, slot-binder, slot-named)

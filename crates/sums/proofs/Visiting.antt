@@ -20,6 +20,7 @@ use Rattle.condition.specs.Condition.{Condition, Term, Terms, Aggregate, Argume
 use Rattle.condition.specs.Condition as tree
 use Rattle.nodes.specs.Kinds.{kindOf, termKindOf, aggregateKindOf}
 use Rattle.condition.specs.Places.{recordIn, conditionIn, isTerm, termIn, aggregateIn, isArguments, argumentsIn}
+use Rattle.nodes.specs.Laws.Inside.{aggregate-first, aggregate-inside}
 use Rattle.nodes.specs.Open.{Opened, TermOpened, AggregateOpened, AggregateHere}
 use Rattle.nodes.specs.Parts.{ArithHere, ComparisonHere, PredicateHere, ArgumentHere}
 use Rattle.walk.specs.Index.{nodesOf, Index, Reached}
@@ -158,7 +159,7 @@ module _ (s : List ℕ) (at : ℕ) (a : Sink) where
 pub is-sum : (s : List ℕ) (p k : ℕ) → AggregateOpened s p k → k ≡ 1 → aggregateKindOf (aggregateIn s p) ≡ 1
 is-sum s p k o e = sym (o .kind) ∙ e
 
-pub ruleset visits = (needs, is-sum, left-sound, arith-visited, sum-visited, other-visited, leaf-visited)
+pub ruleset visits = (needs, is-sum, aggregate-first, aggregate-inside, left-sound, arith-visited, sum-visited, other-visited, leaf-visited)
 
 -- ---- arguments: what is left of them, reported, makes the whole
 

@@ -102,7 +102,7 @@ pub fn in_sum(s: &[u8], env: &[u16], at: usize, buf: &mut [u8], state: State) ->
     requires { ⌜ Sound (sink (now buf) state) ⌝ }
     ensures { λ r. ⌜ sink (now (buf .exit)) r ≡ appendAll (sink (now (buf .entry)) state) (aggregateBreaches (recordIn (now (s .entry))) (aggregateIn (now (s .entry)) at)) ⌝ }
 {
-    let slot = nodes::slot_at(s, nodes::summand_at(s, at));
+    let slot = nodes::slot_at(s, nodes::aggregate_part(s, at));
     match slot {
         SlotAt::Named(p) => {
             let name = named(s, p);

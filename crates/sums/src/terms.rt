@@ -29,7 +29,7 @@ fn in_term(s: &[u8], env: &[u16], at: usize, buf: &mut [u8], state: State) -> St
         return in_term(s, env, right, buf, first);
     }
     if kind == 11 {
-        let aggregate = nodes::aggregate_at(s, at);
+        let aggregate = nodes::term_part(s, at);
         if nodes::aggregate_kind_at(s, aggregate) == 1 {
             return in_sum(s, env, aggregate, buf, state);
         }

@@ -21,6 +21,8 @@ use Rattle.nodes.specs.Kinds.{termKindOf}
 use Rattle.condition.specs.Places.{isTerm, termIn}
 use Rattle.nodes.specs.Open.{TermOpened, Skipped}
 use Rattle.condition.specs.Laws.Levels.{none-left, term-wider, term-anywhere}
+use Rattle.nodes.specs.Offsets.{termPart}
+use Rattle.nodes.specs.Laws.Inside.{term-place}
 use Rattle.nodes.specs.Laws.Opens.{raw-term, ends-at}
 use Rattle.resolution.specs.Places.{typedOf}
 use Rattle.resolution.specs.declared.Typed.{Typed}
@@ -193,23 +195,27 @@ module _ (c : List ℕ) (at left : ℕ) (h : left ≤ 32) (acc : accepted (termA
     pub array-falls : (t : ℕ) → 2 * left ≡ t → 2 * (left - 1) + 1 < t
     array-falls t i = omega (arith, array-level)
 
-    pub array-inside : at + 1 < length c
-    unfolding elementList
-    array-inside = u8-view c (at + 1) (split (u8 c (at + 1)) _ (parts .reads) .first) .0
+    module _ (p : ℕ) (place : p ≡ termPart c at) where
+      listing : listAt (left - 1) c p ≡ got (parts .list) (accept _ acc .place)
+      listing = ap (listAt (left - 1) c) (term-place c at p place) ∙ parts .reads
 
-    pub array-list : accepted (listAt (left - 1) c (at + 1)) ≡ true
-    array-list = is-accepted (parts .reads)
+      pub array-inside : p < length c
+      unfolding elementList
+      array-inside = u8-view c p (split (u8 c p) _ listing .first) .0
 
-    pub array-typed : (s : List ℕ) (r : Element) → TypedAt s c (listAt (left - 1) c (at + 1)) (some (arrayOf (elementTypes (listIn (left - 1) c (at + 1))))) (left - 1 + 1) r → TypedAt s c (termAt levels false c at) (termType none (termIn c at)) left r
-    unfolding termType termIn listIn ending
-    array-typed s r h =
-        let i : left - 1 + 1 ≡ left = omega (arith, array-level) in
-        let w = widened (accept _ acc .read) in
-        record {
-          value = h .value ∙ rw (has-value _ w, parts .whole, has-value _ (parts .reads));
-          ends = rw w (rw (parts .reads) at (h .ends));
-          within = rw i at (h .within);
-        }
+      pub array-list : accepted (listAt (left - 1) c p) ≡ true
+      array-list = is-accepted listing
+
+      pub array-typed : (s : List ℕ) (r : Element) → TypedAt s c (listAt (left - 1) c p) (some (arrayOf (elementTypes (listIn (left - 1) c p)))) (left - 1 + 1) r → TypedAt s c (termAt levels false c at) (termType none (termIn c at)) left r
+      unfolding termType termIn listIn ending
+      array-typed s r h =
+          let i : left - 1 + 1 ≡ left = omega (arith, array-level) in
+          let w = widened (accept _ acc .read) in
+          record {
+            value = h .value ∙ rw (has-value _ w, parts .whole, has-value _ listing);
+            ends = rw w (rw listing at (h .ends));
+            within = rw i at (h .within);
+          }
 
   -- any other term
   pub leaf-typed : (s : List ℕ) (r : Typed) (n : ℕ) → LeafTyped c at r → Skipped (termAt levels false c at) at n → TypedAt s c (termAt levels false c at) (termType none (termIn c at)) left (record { typed = r; next = n })

@@ -8,7 +8,7 @@ use native.Mathlib.Omega.{arith}
 use borrow.Author.Needs.{needs}
 use borrow.Author.Tests.{ne-eqb}
 use lib.ListN.{length, getD, take, drop}
-use Rattle.names.specs.Fields.{stringOf}
+use Rattle.names.specs.Fields.{got, stringOf}
 use Rattle.names.specs.Names.{pathName, simpleName}
 use Rattle.names.specs.Read.{wordAt}
 use Rattle.names.specs.Laws.Readers.{string-view}
@@ -23,6 +23,8 @@ use Rattle.condition.specs.Condition as tree
 use Rattle.nodes.specs.Kinds.{termKindOf}
 use Rattle.condition.specs.Places.{isTerm, termIn}
 use Rattle.nodes.specs.Open.{TermOpened}
+use Rattle.nodes.specs.Offsets.{termPart}
+use Rattle.nodes.specs.Laws.Inside.{term-place}
 use Rattle.nodes.specs.Laws.Views.{PartView, entity-view}
 use Rattle.nodes.specs.Laws.Opens.{term-stands, raw-term}
 use Rattle.resolution.specs.Places.{typedOf}
@@ -106,18 +108,22 @@ module _ (c : List ℕ) (at : ℕ) (acc : isTerm c at ≡ true) (k : ℕ) (o : T
     named : PartView (stringOf pathName) entity c at (termIn c at) (term-stands c at acc .end)
     named = entity-view c at (term-stands c at acc .read) (raw-term c at acc 1 (λ i. omega arith) (sym (o .kind) ∙ e))
 
-    pub name-inside : at + 1 + 1 + getD c (at + 1) 0 ≤ length c
-    name-inside = let v = string-view pathName c (at + 1) (named .reads) in omega (arith, v .place, v .inside)
+    module _ (p : ℕ) (place : p ≡ termPart c at) where
+      spelt : stringOf pathName c p ≡ got (named .part) (term-stands c at acc .end)
+      spelt = ap (stringOf pathName c) (term-place c at p place) ∙ named .reads
 
-    pub name-byte : at + 1 + 1 ≤ length c
-    name-byte = let h = name-inside in omega arith
+      pub name-inside : p + 1 + getD c p 0 ≤ length c
+      name-inside = let v = string-view pathName c p spelt in omega (arith, v .place, v .inside)
 
-    pub leaf-entity : (tag : Tag) → EntityTag c (at + 1) tag → LeafTyped c at (As (record { layers = 0; base = Base.Tagged tag }))
-    unfolding termType layered
-    leaf-entity tag is = record {
-      value = λ s. let v = string-view pathName c (at + 1) (named .reads) in rw (is .value s, named .whole, v .word);
-      within = record { layers = omega arith; tag = is .short };
-    }
+      pub name-byte : p + 1 ≤ length c
+      name-byte = let h = name-inside in omega arith
+
+      pub leaf-entity : (tag : Tag) → EntityTag c p tag → LeafTyped c at (As (record { layers = 0; base = Base.Tagged tag }))
+      unfolding termType layered
+      leaf-entity tag is = record {
+        value = λ s. let v = string-view pathName c p spelt in rw (is .value s, named .whole, v .word);
+        within = record { layers = omega arith; tag = is .short };
+      }
 
   pub leaf-kind : (termKindOf (termIn c at) ≡ 10 → ⊥) → (k ≡ 1 → ⊥) → (r : Typed) → r ≡ kindType k → LeafTyped c at r
   leaf-kind h i r e =

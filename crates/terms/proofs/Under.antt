@@ -23,6 +23,7 @@ use Rattle.condition.specs.Condition as tree
 use Rattle.condition.specs.Walk.{lastNamed, binders}
 use Rattle.nodes.specs.Kinds.{termKindOf}
 use Rattle.condition.specs.Places.{recordIn, termIn, pathIn}
+use Rattle.nodes.specs.Laws.Pieces.{context-path, scope-path, context-inside, scope-inside, var-inside}
 use Rattle.nodes.specs.Open.{TermOpened}
 use Rattle.nodes.specs.Parts.{PathHere, segmentsIn, SegmentsHere, Says}
 use Rattle.nodes.specs.declared.Bound.{Bound}
@@ -147,4 +148,4 @@ module _ (s c n : List ℕ) (facts : Facts) (at k : ℕ) (o : TermOpened c at k)
     pub term-plain : (k ≡ 6 → ⊥) → (k ≡ 7 → ⊥) → (k ≡ 8 → ⊥) → TypeOf s c (termType none (termIn c at)) r → TypeOf s c (termType (some (factsIn s c n facts)) (termIn c at)) r
     term-plain a b d t = record { value = t .value ∙ plain-same (some (factsIn s c n facts)) (termIn c at) (λ e. a (o .kind ∙ e)) (λ e. b (o .kind ∙ e)) (λ e. d (o .kind ∙ e)); small = t .small }
 
-pub ruleset by-kind = (needs, kind-here, term-context, term-scope, term-var, term-plain)
+pub ruleset by-kind = (needs, kind-here, context-path, scope-path, context-inside, scope-inside, var-inside, term-context, term-scope, term-var, term-plain)

@@ -138,7 +138,7 @@ fn leaf_type(condition: &[u8], at: usize) -> Typed
 {
     let kind = nodes::term_kind_at(condition, at);
     if kind == 1 {
-        let tag = entity_tag(condition, at + 1);
+        let tag = entity_tag(condition, nodes::term_part(condition, at));
         let base = Base::Tagged(tag);
         return Typed::As(Rich { layers: 0, base });
     }
@@ -152,7 +152,7 @@ pub fn element_type<'a>(schema: &'a [u8], condition: &'a [u8], at: usize, left: 
     ensures { λ r. ⌜ TypedAt (now (schema .entry)) (now (condition .entry)) (termAt levels false (now (condition .entry)) at) (termType none (termIn (now (condition .entry)) at)) left r ⌝ }
 {
     if nodes::term_kind_at(condition, at) == 10 {
-        return array_type(schema, condition, at + 1, left - 1);
+        return array_type(schema, condition, nodes::term_part(condition, at), left - 1);
     }
     let typed = leaf_type(condition, at);
     let next = nodes::past_term(condition, at);

@@ -86,17 +86,15 @@ pub fn term_type<'a>(
     ensures { λ r. ⌜ TypeOf (now (schema .entry)) (now (condition .entry)) (termType (some (factsIn (now (schema .entry)) (now (condition .entry)) (now (targets .entry)) facts)) (termIn (now (condition .entry)) at)) r ⌝ }
 {
     let kind = nodes::term_kind_at(condition, at);
+    let part = nodes::term_part(condition, at);
     if kind == 6 {
-        let path = nodes::context_at(condition, at);
-        return context_field_type(schema, condition, facts, path);
+        return context_field_type(schema, condition, facts, part);
     }
     if kind == 7 {
-        let path = nodes::scope_at(condition, at);
-        return scope_field_type(schema, condition, targets, facts, path);
+        return scope_field_type(schema, condition, targets, facts, part);
     }
     if kind == 8 {
-        let name = nodes::var_at(condition, at);
-        return var_type(schema, condition, env, facts, names::word(condition, name));
+        return var_type(schema, condition, env, facts, names::word(condition, part));
     }
     plain_type(schema, condition, at)
 }

@@ -376,7 +376,7 @@ fn tp<'a>(
     ensures { λ after. ⌜ sink (now (buf .exit)) after ≡ pushAll (sink (now (buf .entry)) state) (nodeBreaches (factsIn (now (schema .entry)) (now (condition .entry)) (now (targets .entry)) facts) (conditionIn (now (condition .entry)) at)) ⌝ }
 {
     let span = nodes::span_at(condition, at);
-    let slot = nodes::timepoint_at(condition, at);
+    let slot = nodes::first_part(condition, at);
     timepoint_breaches(
         buf,
         state,

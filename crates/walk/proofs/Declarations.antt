@@ -15,9 +15,11 @@ use Rattle.nodes.specs.declared.NextAggregate.{NextAggregate}
 use Rattle.nodes.specs.declared.NextAggregate.the-variants.{At, Done}
 use Rattle.condition.specs.Condition.{paramRef, timepoint, Binder, binder}
 use Rattle.condition.specs.Walk.{declaredBy, operandAggregates, operandBinders, declares, binders, namedOnes}
-use Rattle.condition.specs.Places.{recordIn, conditionIn, isAggregate, aggregateIn, isBinder, binderIn}
-use Rattle.nodes.specs.Open.{Skipped, Opened, AggregateOpened}
-use Rattle.nodes.specs.Parts.{ExistsHere, isBinders, bindersIn, BindersHere, isTerms, aggregatesIn, AggregateNext, NextIs, OperandsHere}
+use Rattle.condition.specs.Places.{recordIn, isCondition, conditionIn, isAggregate, aggregateIn, isBinder, binderIn}
+use Rattle.nodes.specs.Offsets.{firstPart}
+use Rattle.nodes.specs.Open.{Skipped, Opened, AggregateOpened, QuantifiedHere}
+use Rattle.nodes.specs.Laws.Inside.{quantified-inside}
+use Rattle.nodes.specs.Parts.{isBinders, bindersIn, BindersHere, isTerms, aggregatesIn, AggregateNext, NextIs, OperandsHere}
 use Rattle.walk.specs.Index.{nodesOf, Index, Reached}
 use Rattle.walk.specs.Environment.{MayDeclare, Declared}
 use Rattle.condition.specs.Laws.Sizes.{named-append}
@@ -142,18 +144,24 @@ module _ (s : List ℕ) where
 pub ruleset declaring-operands = (needs, operands-begin, operands-done, aggregate-there, aggregate-may, fewer-left, operands-next)
 
 -- a reached condition
-module _ (s : List ℕ) (at : ℕ) (t : List ℕ) (a : ℕ) (may : MayDeclare s (declares (conditionIn s at)) t a) where
-  module _ (p : ℕ) (h : ExistsHere s at p) where
+module _ (s : List ℕ) (at : ℕ) (k : ℕ) (o : Opened s at k) (t : List ℕ) (a : ℕ) (may : MayDeclare s (declares (conditionIn s at)) t a) where
+  module _ (acc : isCondition s at ≡ true) (is : k ≡ 9) (p : ℕ) (place : p ≡ firstPart s at) where
+    own : QuantifiedHere s at p
+    own = quantified-inside s at acc p place k (o .kind) is
+
+    pub own-stands : isBinder s p ≡ true
+    own-stands = own .stands
+
     pub own-may : MayDeclare s (binderIn s p ∷ []) t a
-    own-may = rw (h .value) at may
+    own-may = rw (own .value) at may
 
     pub exists-table : (u : List ℕ) (b : ℕ) → Declared s (binderIn s p ∷ []) t a u b → Declared s (declares (conditionIn s at)) t a u b
-    exists-table u b q = rw (h .value) q
+    exists-table u b q = rw (own .value) q
 
-  pub other-table : (k : ℕ) → Opened s at k → (k ≡ 9 → ⊥) → (k ≡ 8 → ⊥) → Declared s (declares (conditionIn s at)) t a t a
-  other-table k o h i = rw (declares-none (conditionIn s at) (λ e. h (o .kind ∙ e)) (λ e. i (o .kind ∙ e))) (same-table s t a may)
+  pub other-table : (k ≡ 9 → ⊥) → (k ≡ 8 → ⊥) → Declared s (declares (conditionIn s at)) t a t a
+  other-table h i = rw (declares-none (conditionIn s at) (λ e. h (o .kind ∙ e)) (λ e. i (o .kind ∙ e))) (same-table s t a may)
 
-pub ruleset declaring-node = (needs, own-may, exists-table, other-table)
+pub ruleset declaring-node = (needs, own-stands, own-may, exists-table, other-table)
 
 -- all of them
 pub record NodesOn (s : List ℕ) (old : List ℕ) (before : ℕ) (i : ℕ) (table : List ℕ) (n : ℕ) : Type 0 where

@@ -13,54 +13,24 @@ use lib.Seq.{length-take-le, take-set-lt, getD-set-same, getD-set-other}
 use Rattle.names.specs.Lists.{maybe, select}
 use Rattle.names.specs.Names.{same, below}
 use Rattle.names.specs.Laws.Names.{same-refl, same-eq, below-order, order-refl}
-use Rattle.names.specs.Read.{wordAt}
 use Rattle.walk.specs.declared.Spot.{Spot}
 use Rattle.nodes.specs.declared.Bound.{Bound}
 use Rattle.nodes.specs.declared.Bound.the-variants.{Nothing}
 use Rattle.condition.specs.Condition.{Slot, named, paramRef, binderRef, Annotation, Binder, slot}
 use Rattle.condition.specs.Walk.{binders, hasName, namedOnes, namedHere, lastNamed}
-use Rattle.condition.specs.Places.{isRecord, recordIn, isSlot, slotIn, isAnnotation, annotationIn, isBinder, binderIn}
+use Rattle.condition.specs.Places.{isRecord, recordIn, isSlot, isAnnotation, annotationIn, isBinder, binderIn}
 use Rattle.condition.specs.Laws.Sizes.{named-append, record-bytes}
 use Rattle.nodes.specs.Open.{Skipped}
-use Rattle.nodes.specs.Parts.{Says}
+use Rattle.nodes.specs.Parts.{Says, nameIn}
 use Rattle.walk.specs.Environment.{nameAt, Sorted, Entry, Environment, SpotOf, insertAt, Inserted, MayDeclare, Declared}
-use Rattle.nodes.specs.Laws.Pieces.{slot-index, slot-name, slot-param, slot-binder}
 use Rattle.condition.specs.Laws.Records.{record-small}
 use Rattle.walk.proofs.ByPlace.{prefix}
 use Rattle.walk.proofs.Bindings.{last-append}
-use Rattle.nodes.specs.Laws.Binders.{says-nothing, binder-slot, binder-annotation, slot-is, annotation-is}
+use Rattle.nodes.specs.Laws.Binders.{says-nothing, binder-index, own-slot, binder-slot, binder-annotation, annotation-is}
 use Rattle.walk.proofs.Spots.{Beside, before, here, behind, beside, insert-length, insert-before, insert-here, insert-behind}
 
--- ---- whether a binder has a name
-
-module _ (s : List ℕ) (at : ℕ) (acc : isBinder s at ≡ true) where
-  pub binder-index : at < length s
-  binder-index = slot-index s at (binder-slot s at acc)
-
-  pub place-small : {new : List Binder} {t : List ℕ} {n : ℕ} → MayDeclare s new t n → at < 65536
-  place-small h = omega (arith, binder-index, h .small)
-
-  first-byte : getD s at 0 ≡ 0 → (binderIn s at) .slot ≡ named (wordAt s (at + 1))
-  first-byte e = slot-is s at acc ∙ slot-name s at (binder-slot s at acc) e
-
-  pub name-there : getD s at 0 ≡ 0 → true ≡ hasName ((binderIn s at) .slot)
-  name-there e = sym (ap hasName (first-byte e))
-
-  pub name-missing : (getD s at 0 ≡ 0 → ⊥) → false ≡ hasName ((binderIn s at) .slot)
-  name-missing h = sym (ap hasName (slot-is s at acc) ∙ go (eqb (getD s at 0) 1) refl)
-    where
-      go : (b : Bool) → eqb (getD s at 0) 1 ≡ b → hasName (slotIn s at) ≡ false
-      go true e = ap hasName (slot-param s at (binder-slot s at acc) (eqb-true _ _ e))
-      go false e = ap hasName (slot-binder s at (binder-slot s at acc) h (eqb-false _ _ e))
-
-  own-slot : hasName ((binderIn s at) .slot) ≡ true → (binderIn s at) .slot ≡ named (wordAt s (at + 1))
-  own-slot h = go (eqb (getD s at 0) 0) refl
-    where
-      go : (b : Bool) → eqb (getD s at 0) 0 ≡ b → (binderIn s at) .slot ≡ named (wordAt s (at + 1))
-      go true e = first-byte (eqb-true _ _ e)
-      go false e = absurd (false≢true (name-missing (eqb-false _ _ e) ∙ h))
-
-pub ruleset naming = (needs, binder-index, name-there, name-missing)
+pub place-small : (s : List ℕ) (at : ℕ) → isBinder s at ≡ true → {new : List Binder} {t : List ℕ} {n : ℕ} → MayDeclare s new t n → at < 65536
+place-small s at acc h = omega (arith, binder-index s at acc, h .small)
 
 -- ---- what one binder more says of a name
 
@@ -120,32 +90,32 @@ module _ (s : List ℕ) (bs : List Binder) (l : List ℕ) (env : Environment s b
   }
 
 -- the names, with a place of the same name in place of the i-th
-module _ (s l : List ℕ) (at i : ℕ) (h : i < length l) (e : nameAt s l i ≡ wordAt s (at + 1)) where
+module _ (s l : List ℕ) (at i : ℕ) (h : i < length l) (e : nameAt s l i ≡ nameIn s at) where
   name-set : (k : ℕ) → nameAt s (set l i at) k ≡ nameAt s l k
   unfolding nameAt
   name-set k = go (eqb k i) refl
     where
-      go : (b : Bool) → eqb k i ≡ b → wordAt s (getD (set l i at) k 0 + 1) ≡ wordAt s (getD l k 0 + 1)
-      go true q = let z : k ≡ i = eqb-true k i q in ap (λ m. wordAt s (getD (set l i at) m 0 + 1)) z ∙ ap (λ m. wordAt s (m + 1)) (getD-set-same l i at 0 h) ∙ sym (ap (λ m. wordAt s (getD l m 0 + 1)) z ∙ e)
-      go false q = ap (λ m. wordAt s (m + 1)) (getD-set-other l i k at 0 (eqb-false k i q))
+      go : (b : Bool) → eqb k i ≡ b → nameIn s (getD (set l i at) k 0) ≡ nameIn s (getD l k 0)
+      go true q = let z : k ≡ i = eqb-true k i q in ap (λ m. nameIn s (getD (set l i at) m 0)) z ∙ ap (λ m. nameIn s m) (getD-set-same l i at 0 h) ∙ sym (ap (λ m. nameIn s (getD l m 0)) z ∙ e)
+      go false q = ap (λ m. nameIn s m) (getD-set-other l i k at 0 (eqb-false k i q))
 
   set-sorted : Sorted s l → Sorted s (set l i at)
   set-sorted o = record { ascend = λ j k p q. rw (name-set j, name-set k) (o .ascend j k p (rw (length-set l i at) at q)) }
 
 -- the names, with one put in where it belongs
-module _ (s l : List ℕ) (at i : ℕ) (h : i ≤ length l) (low : (k : ℕ) → k < i → below (nameAt s l k) (wordAt s (at + 1)) ≡ true) (high : (k : ℕ) → i ≤ k → k < length l → below (wordAt s (at + 1)) (nameAt s l k) ≡ true) where
+module _ (s l : List ℕ) (at i : ℕ) (h : i ≤ length l) (low : (k : ℕ) → k < i → below (nameAt s l k) (nameIn s at) ≡ true) (high : (k : ℕ) → i ≤ k → k < length l → below (nameIn s at) (nameAt s l k) ≡ true) where
   -- what each index has: the own name, or another that stands before or behind
   name-before : (k : ℕ) → k < i → nameAt s (insertAt i at l) k ≡ nameAt s l k
   unfolding nameAt
-  name-before k p = ap (λ m. wordAt s (m + 1)) (insert-before i at l h k p)
+  name-before k p = ap (λ m. nameIn s m) (insert-before i at l h k p)
 
-  name-here : nameAt s (insertAt i at l) i ≡ wordAt s (at + 1)
+  name-here : nameAt s (insertAt i at l) i ≡ nameIn s at
   unfolding nameAt
-  name-here = ap (λ m. wordAt s (m + 1)) (insert-here i at l h)
+  name-here = ap (λ m. nameIn s m) (insert-here i at l h)
 
   name-behind : (k : ℕ) → i ≤ k → nameAt s (insertAt i at l) (k + 1) ≡ nameAt s l k
   unfolding nameAt
-  name-behind k p = ap (λ m. wordAt s (m + 1)) (insert-behind i at l h k p)
+  name-behind k p = ap (λ m. nameIn s m) (insert-behind i at l h k p)
 
   insert-sorted : Sorted s l → Sorted s (insertAt i at l)
   insert-sorted o = record { ascend = λ j k p q. go j k p (rw (insert-length i at l h) at q) (beside i j) (beside i k) }
@@ -161,26 +131,26 @@ module _ (s l : List ℕ) (at i : ℕ) (h : i ≤ length l) (low : (k : ℕ) →
       go j k p q (behind n x v) (here y) = absurd (omega arith)
       go j k p q (behind n x v) (behind m y z) = rw (x, y, name-behind n v, name-behind m z) (o .ascend n m (omega arith) (omega arith))
 
-  apart : (k : ℕ) → k < length l → same (wordAt s (at + 1)) (nameAt s l k) ≡ false
+  apart : (k : ℕ) → k < length l → same (nameIn s at) (nameAt s l k) ≡ false
   apart k p = go (ltb k i) refl
     where
-      go : (b : Bool) → ltb k i ≡ b → same (wordAt s (at + 1)) (nameAt s l k) ≡ false
+      go : (b : Bool) → ltb k i ≡ b → same (nameIn s at) (nameAt s l k) ≡ false
       go true q = above-differs _ _ (low k (ltb-true k i q))
       go false q = below-differs _ _ (high k (ltb-false k i q) p)
 
 module _ (s : List ℕ) (bs : List Binder) (l : List ℕ) (env : Environment s bs l) (at : ℕ) (acc : isBinder s at ≡ true) (has : hasName ((binderIn s at) .slot) ≡ true) where
   own-entry : Entry s (bs ++ (binderIn s at ∷ [])) at
-  own-entry = record { stands = acc; slot = own-slot s at acc has; last = own-last bs (binderIn s at) _ (wordAt s (at + 1)) (own-slot s at acc has) (same-refl _) }
+  own-entry = record { stands = acc; slot = own-slot s at acc has; last = own-last bs (binderIn s at) _ (nameIn s at) (own-slot s at acc has) (same-refl _) }
 
-  kept-entry : (k : ℕ) → k < length l → same (wordAt s (at + 1)) (nameAt s l k) ≡ false → Entry s (bs ++ (binderIn s at ∷ [])) (getD l k 0)
+  kept-entry : (k : ℕ) → k < length l → same (nameIn s at) (nameAt s l k) ≡ false → Entry s (bs ++ (binderIn s at ∷ [])) (getD l k 0)
   unfolding nameAt
-  kept-entry k p h = let e = env .entries k p in record { stands = e .stands; slot = e .slot; last = other-last bs (binderIn s at) _ (wordAt s (at + 1)) (own-slot s at acc has) h ∙ e .last }
+  kept-entry k p h = let e = env .entries k p in record { stands = e .stands; slot = e .slot; last = other-last bs (binderIn s at) _ (nameIn s at) (own-slot s at acc has) h ∙ e .last }
 
   -- a name that no entry has, nor the new one
-  kept-none : (name : List ℕ) → same (wordAt s (at + 1)) name ≡ false → ((k : ℕ) → k < length l → same (nameAt s l k) name ≡ false) → lastNamed name (bs ++ (binderIn s at ∷ [])) ≡ none
-  kept-none name h n = other-last bs (binderIn s at) name (wordAt s (at + 1)) (own-slot s at acc has) h ∙ env .complete name n
+  kept-none : (name : List ℕ) → same (nameIn s at) name ≡ false → ((k : ℕ) → k < length l → same (nameAt s l k) name ≡ false) → lastNamed name (bs ++ (binderIn s at ∷ [])) ≡ none
+  kept-none name h n = other-last bs (binderIn s at) name (nameIn s at) (own-slot s at acc has) h ∙ env .complete name n
 
-  replaced-on : (i : ℕ) → i < length l → nameAt s l i ≡ wordAt s (at + 1) → Environment s (bs ++ (binderIn s at ∷ [])) (set l i at)
+  replaced-on : (i : ℕ) → i < length l → nameAt s l i ≡ nameIn s at → Environment s (bs ++ (binderIn s at ∷ [])) (set l i at)
   replaced-on i h e = record {
     entries = λ k p. entry k (rw (length-set l i at) at p) (beside i k);
     sorted = set-sorted s l at i h e (env .sorted);
@@ -194,13 +164,13 @@ module _ (s : List ℕ) (bs : List Binder) (l : List ℕ) (env : Environment s b
       entry k p (here y) = rw (y, getD-set-same l i at 0 h) own-entry
       entry k p (behind m y z) = rw (getD-set-other l i k at 0 (λ q. omega arith)) (kept-entry k p (rw (← e) (below-differs _ _ (env .sorted .ascend i k (omega arith) p))))
 
-  module _ (i : ℕ) (h : i ≤ length l) (low : (k : ℕ) → k < i → below (nameAt s l k) (wordAt s (at + 1)) ≡ true) (high : (k : ℕ) → i ≤ k → k < length l → below (wordAt s (at + 1)) (nameAt s l k) ≡ true) where
+  module _ (i : ℕ) (h : i ≤ length l) (low : (k : ℕ) → k < i → below (nameAt s l k) (nameIn s at) ≡ true) (high : (k : ℕ) → i ≤ k → k < length l → below (nameIn s at) (nameAt s l k) ≡ true) where
     inserted-on : Environment s (bs ++ (binderIn s at ∷ [])) (insertAt i at l)
     inserted-on = record {
       entries = λ k p. entry k (rw (insert-length i at l h) at p) (beside i k);
       sorted = insert-sorted s l at i h low high (env .sorted);
       complete = λ name n.
-          let own : same (wordAt s (at + 1)) name ≡ false = rw (name-here s l at i h low high) at (n i (rw (insert-length i at l h) (omega arith))) in
+          let own : same (nameIn s at) name ≡ false = rw (name-here s l at i h low high) at (n i (rw (insert-length i at l h) (omega arith))) in
           kept-none name own (λ k p. others name n k p (ltb k i) refl);
     }
       where
@@ -235,7 +205,7 @@ module _ (s : List ℕ) where
     short : length (take n old) ≡ n
     short = length-take-le n old (omega (arith, may .room))
 
-    module _ (has : hasName ((binderIn s at) .slot) ≡ true) (p : Spot) (o : SpotOf s (take n old) (wordAt s (at + 1)) p) where
+    module _ (has : hasName ((binderIn s at) .slot) ≡ true) (p : Spot) (o : SpotOf s (take n old) (nameIn s at) p) where
       one-named : length (namedOnes (binderIn s at ∷ [])) ≡ 1
       unfolding namedOnes select
       one-named = rw has
@@ -273,7 +243,7 @@ module _ (s : List ℕ) where
         }
 
 -- the name as the code has it
-pub spot-there : (s l : List ℕ) (at : ℕ) (w : List ℕ) → w ≡ wordAt s (at + 1) → (p : Spot) → SpotOf s l w p → SpotOf s l (wordAt s (at + 1)) p
+pub spot-there : (s l : List ℕ) (at : ℕ) (w : List ℕ) → w ≡ nameIn s at → (p : Spot) → SpotOf s l w p → SpotOf s l (nameIn s at) p
 spot-there s l at w e p o = rw e at o
 
 pub named-is : (s : List ℕ) (at : ℕ) (b : Bool) → b ≡ hasName ((binderIn s at) .slot) → b ≡ true → hasName ((binderIn s at) .slot) ≡ true
@@ -282,7 +252,7 @@ named-is s at b e h = sym e ∙ h
 pub spot-room : (s : List ℕ) (new : List Binder) (t : List ℕ) (n : ℕ) → MayDeclare s new t n → n ≤ length t
 spot-room s new t n h = omega (arith, h .room)
 
-pub ruleset spotting = (needs, prefix, spot-room, spot-there)
+pub ruleset spotting = (needs, prefix, place-small, spot-room, spot-there)
 
 pub ruleset declaring-one = (needs, place-small, named-is, unnamed-table, spot-index, replaced-table, insert-index, insert-room, inserted-table)
 
@@ -314,9 +284,9 @@ module _ (s table name : List ℕ) (bs : List Binder) (env : Environment s bs ta
       found : Entry s bs q
       found = rw e (env .entries (p .at) found-index)
 
-      found-name : wordAt s (q + 1) ≡ name
+      found-name : nameIn s q ≡ name
       unfolding nameAt
-      found-name = ap (λ m. wordAt s (m + 1)) e ∙ o .found is .1
+      found-name = ap (λ m. nameIn s m) e ∙ o .found is .1
 
       pub found-slot : isSlot s q ≡ true
       found-slot = binder-slot s q (found .stands)

@@ -5,19 +5,21 @@ use mathlib.Core.List.{List, [], _∷_, _++_}
 use Prim.Native.Nat.{ℕ, _+_, _-_, _≤_, _<_}
 use native.Mathlib.Omega.{arith}
 use lib.ListN.{length, getD, length-append}
+use Rattle.names.specs.declared.Read.{Read}
 use Rattle.names.specs.declared.Read.the-variants.{Next}
-use Rattle.names.specs.Fields.{Got, got, levels}
+use Rattle.names.specs.Fields.{Got, levels}
 use Rattle.names.specs.Read.{ending}
-use Rattle.names.specs.Laws.Readers.{is-accepted}
 use Rattle.walk.specs.declared.Indexed.{Indexed}
-use Rattle.condition.specs.Condition.{Condition, Term, One, negation, formerly, previous, refine, Two, and, or, since, one, two, predicate, comparison, exists, tp, opaque, entity, literal, contextField, scopeField, var, wildcard, array, aggregate, sigil, count, binder, conditionAt, termAt}
+use Rattle.condition.specs.Condition.{Condition, Term, Aggregate, One, negation, formerly, previous, refine, Two, and, or, since, one, two, predicate, comparison, exists, tp, opaque, entity, literal, contextField, scopeField, var, wildcard, array, aggregate, sigil, sum, count, call, binder, conditionAt, termAt}
 use Rattle.condition.specs.Condition as tree
 use Rattle.condition.specs.Walk.{reached, reachedIn, reachedBody}
-use Rattle.condition.specs.Places.{isCondition, conditionIn, isTerm, termIn, aggregateAt, isBinder}
-use Rattle.nodes.specs.Kinds.{kindOf, oneNumber, twoNumber, oneKind, twoKind, termKindOf}
-use Rattle.nodes.specs.Open.{Skipped, Opened, TermOpened, AggregateOpened, AggregateHere, BodyHere}
+use Rattle.condition.specs.Places.{isCondition, conditionIn, isTerm, termIn, isAggregate, aggregateIn, isBinder}
+use Rattle.nodes.specs.Kinds.{kindOf, oneNumber, twoNumber, oneKind, twoKind, termKindOf, aggregateKindOf}
+use Rattle.nodes.specs.Offsets.{firstPart, termPart}
+use Rattle.nodes.specs.Open.{Skipped, Opened, TermOpened, AggregateOpened, OneHere, TwoHere, ComparedHere, QuantifiedHere, AddedHere, AggregateHere, BodyHere}
 use Rattle.walk.specs.Index.{Indexes, Room, Put, Filled}
-use Rattle.nodes.specs.Laws.Opens.{condition-there, condition-value, term-there, term-value, condition-stands, condition-ahead, term-stands, aggregate-stands, ends-at, two-here, one-here, comparison-here, exists-here, arith-here, aggregate-ends, call-here}
+use Rattle.nodes.specs.Laws.Opens.{condition-ahead}
+use Rattle.nodes.specs.Laws.Inside.{two-inside, one-inside, compared-inside, quantified-inside, added-inside, aggregate-inside}
 
 -- A table whose entries are the same indexes the same; two runs of entries are one.
 module _ (s : List ℕ) where
@@ -72,30 +74,6 @@ module _ (s : List ℕ) where
   alike : {A B : Type 0} {g : Got A} {h : Got B} {at n : ℕ} {xs ys : List Condition} {t u : List ℕ} {b : Indexed} → ending h ≡ ending g → ys ≡ xs → Filled s at g xs t n u b → Filled s at h ys t n u b
   alike e f p = rw f (record { ends = e ∙ p .ends; counted = p .counted; within = p .within; took = p .took; entries = p .entries; kept = p .kept; size = p .size })
 
--- what was read in full ends where its last part does
-same-end : {A B : Type 0} {g : Got A} {h : Got B} {a : A} {b : B} {n : ℕ} → g ≡ got a n → h ≡ got b n → ending g ≡ ending h
-unfolding ending
-same-end e f = rw (e, f)
-
-ended : {A : Type 0} {g : Got A} {a : A} {n : ℕ} → g ≡ got a n → ending g ≡ Next n
-unfolding ending
-ended e = rw e
-
--- Where the part behind another stands.
-module _ (s : List ℕ) (at : ℕ) {m n : ℕ} {xs : List Condition} {t u : List ℕ} {a : Indexed} where
-  pub two-next : Filled s m (conditionAt levels s (at + 9)) xs t n u a → (k : ℕ) → Opened s at k → (b : Bool) → b ≡ twoKind k → b ≡ true → isCondition s at ≡ true → isCondition s (a .next) ≡ true
-  two-next p k o b q is acc = let v = two-here s at acc k (o .kind) (sym q ∙ is) in is-accepted (condition-there s (ends-at (v .reads) (p .ends)) (v .further))
-
-  pub comparison-next : Filled s m (termAt levels false s (at + 10)) xs t n u a → kindOf (conditionIn s at) ≡ 8 → isCondition s at ≡ true → isTerm s (a .next) ≡ true
-  comparison-next p is acc = let v = comparison-here s at acc is in is-accepted (term-there s (ends-at (v .reads) (p .ends)) (v .further))
-
-  pub arith-next : Filled s m (termAt levels false s (at + 1)) xs t n u a → termKindOf (termIn s at) ≡ 12 → isTerm s at ≡ true → isTerm s (a .next) ≡ true
-  arith-next p is acc = let v = arith-here s at acc is in is-accepted (term-there s (ends-at (v .reads) (p .ends)) (v .further))
-
-module _ (s : List ℕ) (at : ℕ) {m : ℕ} where
-  pub exists-next : Skipped (binder s (at + 9)) (at + 9) m → kindOf (conditionIn s at) ≡ 9 → isCondition s at ≡ true → isCondition s m ≡ true
-  exists-next z is acc = let v = exists-here s at acc is in is-accepted (condition-there s (ends-at (v .declares) (z .ends)) (v .reads))
-
 -- a condition with none reached below it
 alone : (x : Condition) → (twoKind (kindOf x) ≡ false) → (oneKind (kindOf x) ≡ false) → (kindOf x ≡ 8 → ⊥) → (kindOf x ≡ 9 → ⊥) → reached x ≡ x ∷ []
 unfolding reached
@@ -118,6 +96,13 @@ alone (exists span bi c) h i a b = absurd (b refl)
 alone (tp span sl) h i a b = refl
 alone (opaque span) h i a b = refl
 
+-- a call reaches nothing
+calls : (x : Aggregate) → aggregateKindOf x ≡ 3 → reachedBody x ≡ []
+unfolding reachedBody
+calls (sum span sl bs body) e = absurd (omega arith)
+calls (count span bs body) e = absurd (omega arith)
+calls (call span) e = refl
+
 -- a term that is no aggregate and no arithmetic reaches nothing
 bare : (x : Term) → (termKindOf x ≡ 11 → ⊥) → (termKindOf x ≡ 12 → ⊥) → reachedIn x ≡ []
 unfolding reachedIn
@@ -132,69 +117,71 @@ bare (aggregate x) a b = absurd (a refl)
 bare (tree.arith l r) a b = absurd (b refl)
 bare sigil a b = refl
 
+-- a part ends where it was said to
+ends-there : {x : Read} {m n : ℕ} → x ≡ Next m → x ≡ Next n → m ≡ n
+ends-there e f = cc
+
 -- What each kind of condition asks of its parts, and what it puts into the table. For `search`: the premises stand as the code learns them, in an order in
 -- which each leaves little open when it is looked for.
-module _ (s : List ℕ) (at : ℕ) (acc : isCondition s at ≡ true) (k : ℕ) (o : Opened s at k) where
+module _ (s : List ℕ) (at : ℕ) (acc : isCondition s at ≡ true) (k : ℕ) (o : Opened s at k) (p : ℕ) (place : p ≡ firstPart s at) where
   module _ (b : Bool) (q : b ≡ twoKind k) (taken : b ≡ true) where
-    two-is : twoKind k ≡ true
-    two-is = sym q ∙ taken
+    two-is : TwoHere s at p
+    two-is = two-inside s at acc p place k (o .kind) (sym q ∙ taken)
 
-    pub two-first : isCondition s (at + 9) ≡ true
-    two-first = is-accepted (two-here s at acc k (o .kind) two-is .reads)
+    pub two-first : isCondition s p ≡ true
+    two-first = two-is .stands
 
-    pub two-filled : {n : ℕ} {t₀ t₁ t₂ t₃ : List ℕ} {a b : Indexed} → Put t₀ n at t₁ → Filled s (at + 9) (conditionAt levels s (at + 9)) (reached (conditionIn s (at + 9))) t₁ (n + 1) t₂ a
-        → Filled s (a .next) (conditionAt levels s (a .next)) (reached (conditionIn s (a .next))) t₂ (a .count) t₃ b
-        → Filled s at (conditionAt levels s at) (reached (conditionIn s at)) t₀ n t₃ b
-    unfolding reached
-    two-filled {n} {t₀} {t₁} {t₂} {t₃} {a} u p q =
-        let v = two-here s at acc k (o .kind) two-is in
-        let m = ends-at (v .reads) (p .ends) in
-        let e : reached (conditionIn s at) ≡ conditionIn s at ∷ (reached (conditionIn s (at + 9)) ++ reached (conditionIn s (a .next))) = rw (v .whole, condition-value s refl (v .reads), condition-value s m (v .further)) in
-        alike s (same-end (condition-stands s at acc .read) (condition-there s m (v .further))) e (self s acc u (both s p q) (omega arith))
+    module _ {n : ℕ} {t₀ t₁ t₂ : List ℕ} {a : Indexed} (u : Put t₀ n at t₁) (f : Filled s p (conditionAt levels s p) (reached (conditionIn s p)) t₁ (n + 1) t₂ a) where
+      pub two-filled : {t₃ : List ℕ} {b : Indexed} → Filled s (a .next) (conditionAt levels s (a .next)) (reached (conditionIn s (a .next))) t₂ (a .count) t₃ b
+          → Filled s at (conditionAt levels s at) (reached (conditionIn s at)) t₀ n t₃ b
+      two-filled g =
+          let m : two-is .second ≡ a .next = ends-there (two-is .between) (f .ends) in
+          alike s (rw m at (two-is .ends)) (rw m at (two-is .reaches)) (self s acc u (both s f g) (two-is .ahead))
 
   module _ (b : Bool) (q : b ≡ oneKind k) (taken : b ≡ true) where
-    one-is : oneKind k ≡ true
-    one-is = sym q ∙ taken
+    one-is : OneHere s at p
+    one-is = one-inside s at acc p place k (o .kind) (sym q ∙ taken)
 
-    pub one-first : isCondition s (at + 9) ≡ true
-    one-first = is-accepted (one-here s at acc k (o .kind) one-is .reads)
+    pub one-first : isCondition s p ≡ true
+    one-first = one-is .stands
 
-    pub one-filled : {n : ℕ} {t₀ t₁ t₂ : List ℕ} {b : Indexed} → Put t₀ n at t₁ → Filled s (at + 9) (conditionAt levels s (at + 9)) (reached (conditionIn s (at + 9))) t₁ (n + 1) t₂ b
+    pub one-filled : {n : ℕ} {t₀ t₁ t₂ : List ℕ} {b : Indexed} → Put t₀ n at t₁ → Filled s p (conditionAt levels s p) (reached (conditionIn s p)) t₁ (n + 1) t₂ b
         → Filled s at (conditionAt levels s at) (reached (conditionIn s at)) t₀ n t₂ b
-    unfolding reached
-    one-filled u p =
-        let v = one-here s at acc k (o .kind) one-is in
-        let e : reached (conditionIn s at) ≡ conditionIn s at ∷ reached (conditionIn s (at + 9)) = rw (v .whole, condition-value s refl (v .reads)) in
-        alike s (same-end (condition-stands s at acc .read) (v .reads)) e (self s acc u p (omega arith))
+    one-filled u f = alike s (one-is .ends) (one-is .reaches) (self s acc u f (one-is .ahead))
 
   module _ (is : k ≡ 8) where
-    pub comparison-first : isTerm s (at + 10) ≡ true
-    comparison-first = is-accepted (comparison-here s at acc (sym (o .kind) ∙ is) .reads)
+    compared-is : ComparedHere s at p
+    compared-is = compared-inside s at acc p place k (o .kind) is
 
-    pub comparison-filled : {n : ℕ} {t₀ t₁ t₂ t₃ : List ℕ} {a b : Indexed} → Put t₀ n at t₁ → Filled s (at + 10) (termAt levels false s (at + 10)) (reachedIn (termIn s (at + 10))) t₁ (n + 1) t₂ a
-        → Filled s (a .next) (termAt levels false s (a .next)) (reachedIn (termIn s (a .next))) t₂ (a .count) t₃ b
-        → Filled s at (conditionAt levels s at) (reached (conditionIn s at)) t₀ n t₃ b
-    unfolding reached
-    comparison-filled {n} {t₀} {t₁} {t₂} {t₃} {a} u p q =
-        let v = comparison-here s at acc (sym (o .kind) ∙ is) in
-        let m = ends-at (v .reads) (p .ends) in
-        let e : reached (conditionIn s at) ≡ conditionIn s at ∷ (reachedIn (termIn s (at + 10)) ++ reachedIn (termIn s (a .next))) = rw (v .whole, term-value s refl (v .reads), term-value s m (v .further)) in
-        alike s (same-end (condition-stands s at acc .read) (term-there s m (v .further))) e (self s acc u (both s p q) (omega arith))
+    pub comparison-first : isTerm s p ≡ true
+    comparison-first = compared-is .stands
+
+    module _ {n : ℕ} {t₀ t₁ t₂ : List ℕ} {a : Indexed} (u : Put t₀ n at t₁) (f : Filled s p (termAt levels false s p) (reachedIn (termIn s p)) t₁ (n + 1) t₂ a) where
+      pub comparison-filled : {t₃ : List ℕ} {b : Indexed} → Filled s (a .next) (termAt levels false s (a .next)) (reachedIn (termIn s (a .next))) t₂ (a .count) t₃ b
+          → Filled s at (conditionAt levels s at) (reached (conditionIn s at)) t₀ n t₃ b
+      comparison-filled g =
+          let m : compared-is .second ≡ a .next = ends-there (compared-is .between) (f .ends) in
+          alike s (rw m at (compared-is .ends)) (rw m at (compared-is .reaches)) (self s acc u (both s f g) (compared-is .ahead))
 
   module _ (is : k ≡ 9) where
-    pub exists-first : isBinder s (at + 9) ≡ true
-    exists-first = is-accepted (exists-here s at acc (sym (o .kind) ∙ is) .declares)
+    quantified-is : QuantifiedHere s at p
+    quantified-is = quantified-inside s at acc p place k (o .kind) is
 
-    pub exists-filled : {m n : ℕ} {t₀ t₁ t₂ : List ℕ} {r : Indexed} → Put t₀ n at t₁ → Skipped (binder s (at + 9)) (at + 9) m
-        → Filled s m (conditionAt levels s m) (reached (conditionIn s m)) t₁ (n + 1) t₂ r → Filled s at (conditionAt levels s at) (reached (conditionIn s at)) t₀ n t₂ r
-    unfolding reached
-    exists-filled {m} u z p =
-        let v = exists-here s at acc (sym (o .kind) ∙ is) in
-        let i = ends-at (v .declares) (z .ends) in
-        let e : reached (conditionIn s at) ≡ conditionIn s at ∷ reached (conditionIn s m) = rw (v .whole, condition-value s i (v .reads)) in
-        alike s (same-end (condition-stands s at acc .read) (condition-there s i (v .reads))) e (self s acc u p (omega arith))
+    pub exists-first : isBinder s p ≡ true
+    exists-first = quantified-is .stands
 
-  -- any other kind
+    module _ {m : ℕ} (z : Skipped (binder s p) p m) where
+      body-is : quantified-is .body ≡ m
+      body-is = ends-there (quantified-is .between) (z .ends)
+
+      pub exists-next : isCondition s m ≡ true
+      exists-next = rw body-is at (quantified-is .behind)
+
+      pub exists-filled : {n : ℕ} {t₀ t₁ t₂ : List ℕ} {r : Indexed} → Put t₀ n at t₁ → Filled s m (conditionAt levels s m) (reached (conditionIn s m)) t₁ (n + 1) t₂ r → Filled s at (conditionAt levels s at) (reached (conditionIn s at)) t₀ n t₂ r
+      exists-filled u f = alike s (rw body-is at (quantified-is .ends)) (rw body-is at (quantified-is .reaches)) (self s acc u f (omega (arith, quantified-is .ahead, z .ahead)))
+
+-- any other kind
+module _ (s : List ℕ) (at : ℕ) (acc : isCondition s at ≡ true) (k : ℕ) (o : Opened s at k) where
   pub alone-filled : {m n : ℕ} {t₀ t₁ : List ℕ} (two-in one-in : Bool) → two-in ≡ twoKind k → two-in ≡ false → one-in ≡ oneKind k → one-in ≡ false → (k ≡ 8 → ⊥) → (k ≡ 9 → ⊥) → Room s at (length t₀) n → Put t₀ n at t₁ → Skipped (conditionAt levels s at) at m
       → Filled s at (conditionAt levels s at) (reached (conditionIn s at)) t₀ n t₁ (record { next = m; count = n + 1 })
   alone-filled two-in one-in h h′ i i′ a b room u z =
@@ -202,38 +189,49 @@ module _ (s : List ℕ) (at : ℕ) (acc : isCondition s at ≡ true) (k : ℕ) (
       alike s refl e (self s acc u (empty s (z .ends) (condition-ahead s at acc z) (omega arith)) (omega arith))
 
 -- The same of an operand.
-module _ (s : List ℕ) (at : ℕ) (acc : isTerm s at ≡ true) (k : ℕ) (o : TermOpened s at k) where
-  module _ (is : k ≡ 11) (p : ℕ) (here : AggregateHere s at p) where
+module _ (s : List ℕ) (at : ℕ) (acc : isTerm s at ≡ true) (k : ℕ) (o : TermOpened s at k) (p : ℕ) (place : p ≡ termPart s at) where
+  module _ (is : k ≡ 11) where
+    aggregate-is : AggregateHere s at p
+    aggregate-is = aggregate-inside s at acc p place k o is
+
     pub body-filled : {q n : ℕ} {t u : List ℕ} {b : Indexed} → BodyHere s p q → Filled s q (conditionAt levels s q) (reached (conditionIn s q)) t n u b
         → Filled s at (termAt levels false s at) (reachedIn (termIn s at)) t n u b
     unfolding reachedIn
-    body-filled y f =
-        let e : ending (termAt levels false s at) ≡ ending (conditionAt levels s _) = aggregate-ends s at acc (sym (o .kind) ∙ is) ∙ ap (λ (i : ℕ). ending (aggregateAt s i)) (sym (here .place)) ∙ y .ends in
-        alike s e (rw (here .value) (y .value)) (onward s f (omega arith))
+    body-filled y f = alike s (aggregate-is .ends ∙ y .ends) (rw (aggregate-is .value) (y .value)) (onward s f (omega (arith, aggregate-is .ahead, y .ahead)))
 
-    pub call-filled : (j : ℕ) → AggregateOpened s p j → j ≡ 3 → {n : ℕ} {t : List ℕ} → Room s at (length t) n → Filled s at (termAt levels false s at) (reachedIn (termIn s at)) t n t (record { next = at + 10; count = n })
-    unfolding reachedIn reachedBody
-    call-filled j g h room =
-        let v = call-here s p (here .stands) (sym (g .kind) ∙ h) in
-        let e = aggregate-ends s at acc (sym (o .kind) ∙ is) ∙ ap (λ (i : ℕ). ending (aggregateAt s i)) (sym (here .place)) ∙ ended (aggregate-stands s p (here .stands) .read) in
-        let i : aggregate-stands s p (here .stands) .end ≡ at + 10 = omega arith in
-        alike s refl (rw (here .value, v .whole)) (empty s (e ∙ ap Next i) (omega arith) (omega arith))
+    pub call-filled : (j : ℕ) → AggregateOpened s p j → j ≡ 3 → {m n : ℕ} {t : List ℕ} → Room s at (length t) n → Skipped (termAt levels false s at) at m → Filled s at (termAt levels false s at) (reachedIn (termIn s at)) t n t (record { next = m; count = n })
+    unfolding reachedIn
+    call-filled j g h room z =
+        alike s refl (ap reachedIn (aggregate-is .value) ∙ calls (aggregateIn s p) (sym (g .kind) ∙ h)) (empty s (z .ends) (z .ahead) (omega arith))
 
   module _ (is : k ≡ 12) where
-    pub arith-first : isTerm s (at + 1) ≡ true
-    arith-first = is-accepted (arith-here s at acc (sym (o .kind) ∙ is) .reads)
+    added-is : AddedHere s at p
+    added-is = added-inside s at acc p place (sym (o .kind) ∙ is)
 
-    pub arith-filled : {n : ℕ} {t₀ t₁ t₂ : List ℕ} {a b : Indexed} → Filled s (at + 1) (termAt levels false s (at + 1)) (reachedIn (termIn s (at + 1))) t₀ n t₁ a
-        → Filled s (a .next) (termAt levels false s (a .next)) (reachedIn (termIn s (a .next))) t₁ (a .count) t₂ b
-        → Filled s at (termAt levels false s at) (reachedIn (termIn s at)) t₀ n t₂ b
-    unfolding reachedIn
-    arith-filled {n} {t₀} {t₁} {t₂} {a} p q =
-        let v = arith-here s at acc (sym (o .kind) ∙ is) in
-        let m = ends-at (v .reads) (p .ends) in
-        let e : reachedIn (termIn s at) ≡ reachedIn (termIn s (at + 1)) ++ reachedIn (termIn s (a .next)) = rw (v .whole, term-value s refl (v .reads), term-value s m (v .further)) in
-        alike s (same-end (term-stands s at acc .read) (term-there s m (v .further))) e (onward s (both s p q) (omega arith))
+    pub arith-first : isTerm s p ≡ true
+    arith-first = added-is .stands
 
-  -- any other kind
+    module _ {n : ℕ} {t₀ t₁ : List ℕ} {a : Indexed} (f : Filled s p (termAt levels false s p) (reachedIn (termIn s p)) t₀ n t₁ a) where
+      pub arith-filled : {t₂ : List ℕ} {b : Indexed} → Filled s (a .next) (termAt levels false s (a .next)) (reachedIn (termIn s (a .next))) t₁ (a .count) t₂ b
+          → Filled s at (termAt levels false s at) (reachedIn (termIn s at)) t₀ n t₂ b
+      unfolding reachedIn
+      arith-filled g =
+          let m : added-is .second ≡ a .next = ends-there (added-is .between) (f .ends) in
+          alike s (rw m at (added-is .ends)) (ap reachedIn (rw m at (added-is .value))) (onward s (both s f g) (omega (arith, added-is .ahead)))
+
+-- any other kind
+module _ (s : List ℕ) (at : ℕ) (k : ℕ) (o : TermOpened s at k) where
   pub bare-filled : {m n : ℕ} {t : List ℕ} → (k ≡ 11 → ⊥) → (k ≡ 12 → ⊥) → Room s at (length t) n → Skipped (termAt levels false s at) at m
       → Filled s at (termAt levels false s at) (reachedIn (termIn s at)) t n t (record { next = m; count = n })
   bare-filled h i room z = rw (bare (termIn s at) (λ e. h (o .kind ∙ e)) (λ e. i (o .kind ∙ e))) (empty s (z .ends) (z .ahead) (omega arith))
+
+-- Where the part behind another stands.
+module _ (s : List ℕ) (p : ℕ) {m n : ℕ} {xs : List Condition} {t u : List ℕ} {a : Indexed} where
+  pub two-next : Filled s m (conditionAt levels s p) xs t n u a → (at k : ℕ) → Opened s at k → p ≡ firstPart s at → (b : Bool) → b ≡ twoKind k → b ≡ true → isCondition s at ≡ true → isCondition s (a .next) ≡ true
+  two-next f at k o place b q is acc = let v = two-is s at acc k o p place b q is in rw (ends-there (f .ends) (v .between)) (v .behind)
+
+  pub comparison-next : Filled s m (termAt levels false s p) xs t n u a → (at : ℕ) → p ≡ firstPart s at → kindOf (conditionIn s at) ≡ 8 → isCondition s at ≡ true → isTerm s (a .next) ≡ true
+  comparison-next f at place is acc = let v = compared-inside s at acc p place 8 (sym is) refl in rw (ends-there (f .ends) (v .between)) (v .behind)
+
+  pub arith-next : Filled s m (termAt levels false s p) xs t n u a → (at k : ℕ) → TermOpened s at k → k ≡ 12 → p ≡ termPart s at → isTerm s at ≡ true → isTerm s (a .next) ≡ true
+  arith-next f at k o is place acc = let v = added-is s at acc k o p place is in rw (ends-there (f .ends) (v .between)) (v .behind)

@@ -15,15 +15,15 @@ use Rattle.names.specs.declared.Order.the-variants.{Less, Same, More}
 use Rattle.names.specs.Names.{below, order}
 use Rattle.names.specs.Laws.Names.{below-order, order-flip, order-same, below-trans}
 use Rattle.names.specs.Order.{orderNumber}
-use Rattle.names.specs.Read.{wordAt}
+use Rattle.nodes.specs.Parts.{nameIn}
 use Rattle.walk.specs.Environment.{nameAt, Sorted, SpotOf, insertAt, Inserted}
 
 -- ---- the order of an entry's name and another
 
-module _ (s table name : List ℕ) (i p : ℕ) (e : p ≡ getD table i 0) (w : List ℕ) (j : w ≡ wordAt s (p + 1)) (o : Order) (k : orderNumber o ≡ order w name) where
+module _ (s table name : List ℕ) (i p : ℕ) (e : p ≡ getD table i 0) (w : List ℕ) (j : w ≡ nameIn s p) (o : Order) (k : orderNumber o ≡ order w name) where
   entry-order : orderNumber o ≡ order (nameAt s table i) name
   unfolding nameAt
-  entry-order = k ∙ ap (λ v. order v name) (j ∙ ap (λ q. wordAt s (q + 1)) e)
+  entry-order = k ∙ ap (λ v. order v name) (j ∙ ap (nameIn s) e)
 
   pub entry-below : o ≡ Less → 0 ≡ order (nameAt s table i) name
   entry-below h = sym (ap orderNumber h) ∙ entry-order

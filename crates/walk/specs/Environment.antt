@@ -6,15 +6,15 @@ use mathlib.Core.Option.{none, some}
 use Prim.Native.Nat.{ℕ, _+_, _≤_, _<_}
 use lib.ListN.{length, getD, take, drop}
 use Rattle.names.specs.Names.{same, below}
-use Rattle.names.specs.Read.{wordAt}
+use Rattle.nodes.specs.Parts.{nameIn}
 use Rattle.walk.specs.declared.Spot.{Spot}
 use Rattle.condition.specs.Condition.{Binder, named}
 use Rattle.condition.specs.Walk.{namedOnes, lastNamed}
 use Rattle.condition.specs.Places.{isBinder, binderIn}
 
--- the name of the i-th entry: an entry is the place of a named binder, whose name stands behind the slot's byte
+-- the name of the i-th entry: an entry is the place of a named binder
 unfoldable pub nameAt : List ℕ → List ℕ → ℕ → List ℕ
-nameAt s table i = wordAt s (getD table i 0 + 1)
+nameAt s table i = nameIn s (getD table i 0)
 
 -- the names ascend, so that each stands once
 pub record Sorted (s table : List ℕ) : Type 0 where
@@ -23,8 +23,8 @@ pub record Sorted (s table : List ℕ) : Type 0 where
 -- an entry under the binders bs: a named binder, the last of its name among them
 pub record Entry (s : List ℕ) (bs : List Binder) (p : ℕ) : Type 0 where
   pub stands : isBinder s p ≡ true
-  pub slot : (binderIn s p) .slot ≡ named (wordAt s (p + 1))
-  pub last : lastNamed (wordAt s (p + 1)) bs ≡ some ((binderIn s p) .annotation)
+  pub slot : (binderIn s p) .slot ≡ named (nameIn s p)
+  pub last : lastNamed (nameIn s p) bs ≡ some ((binderIn s p) .annotation)
 
 -- the table is the environment of the binders bs: a name that it does not have is declared by none of them
 pub record Environment (s : List ℕ) (bs : List Binder) (table : List ℕ) : Type 0 where

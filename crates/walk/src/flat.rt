@@ -10,8 +10,10 @@ use nodes::NextAggregate;
 use nodes::aggregate_kind_at;
 use nodes::binders_at;
 use nodes::bound_at;
-use nodes::exists_at;
+use nodes::first_part;
+use nodes::is_named;
 use nodes::kind_at;
+use nodes::name_of;
 use nodes::next_aggregate;
 use nodes::operands_at;
 use nodes::past_binder;
@@ -21,32 +23,20 @@ ghost use mathlib.Core.Bool.{true};
 ghost use mathlib.Core.List.{[], _∷_};
 ghost use Prim.Native.Nat.{_+_, _≤_};
 ghost use lib.ListN.{length, take};
-ghost use Rattle.names.specs.Read.{wordAt};
 ghost use Rattle.condition.specs.Walk.{declaredBy, declares, binders, hasName, lastNamed};
 ghost use Rattle.condition.specs.Places.{isRecord, recordIn, isCondition, conditionIn, isAggregate, aggregateIn, isBinder, binderIn};
 ghost use Rattle.nodes.specs.Kinds.{kindOf};
-ghost use Rattle.nodes.specs.Parts.{isBinders, bindersIn, Says};
+ghost use Rattle.nodes.specs.Parts.{nameIn, isBinders, bindersIn, Says};
 ghost use Rattle.walk.specs.Index.{Index};
 ghost use Rattle.walk.specs.Environment.{Environment, SpotOf, MayDeclare, Declared};
-
-// Whether a binder has a name.
-fn is_named(s: &[u8], at: usize) -> bool
-    requires { ⌜ isBinder (now s) at ≡ true ⌝ }
-    ensures { λ r. ⌜ r ≡ hasName ((binderIn (now (s .entry)) at) .slot) ⌝ }
-{
-    if s[at] == 0 {
-        return true;
-    }
-    false
-}
 
 // Where the name of a binder stands among the entries so far, or where it belongs.
 fn spot_of(s: &[u8], table: &[u16], n: usize, at: usize) -> Spot
     requires { ⌜ isBinder (now s) at ≡ true ⌝ }
     requires { ⌜ MayDeclare (now s) (binderIn (now s) at ∷ []) (now table) n ⌝ }
-    ensures { λ r. ⌜ SpotOf (now (s .entry)) (take n (now (table .entry))) (wordAt (now (s .entry)) (at + 1)) r ⌝ }
+    ensures { λ r. ⌜ SpotOf (now (s .entry)) (take n (now (table .entry))) (nameIn (now (s .entry)) at) r ⌝ }
 {
-    spot(s, &table[..n], names::word(s, at + 1))
+    spot(s, &table[..n], name_of(s, at))
 }
 
 // One binder more, which has a name: in place of the one of its name, or put in.
@@ -134,7 +124,7 @@ fn declare_node(s: &[u8], table: &mut [u16], n: usize, at: usize) -> usize
 {
     let kind = kind_at(s, at);
     if kind == 9 {
-        return declare(s, table, n, exists_at(s, at));
+        return declare(s, table, n, first_part(s, at));
     }
     if kind == 8 {
         return declare_operands(s, table, n, at);

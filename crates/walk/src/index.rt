@@ -1,8 +1,8 @@
 // The index of the reached conditions: their places in walk order, filled in one walk.
 use crate::Indexed;
-use nodes::aggregate_at;
 use nodes::aggregate_kind_at;
 use nodes::body_at;
+use nodes::first_part;
 use nodes::has_one;
 use nodes::has_two;
 use nodes::kind_at;
@@ -10,6 +10,7 @@ use nodes::past_binder;
 use nodes::past_condition;
 use nodes::past_term;
 use nodes::term_kind_at;
+use nodes::term_part;
 ghost use mathlib.Core.Path.{_≡_};
 ghost use mathlib.Core.Bool.{true, false};
 ghost use Prim.Native.Nat.{_≤_, _<_};
@@ -36,23 +37,23 @@ fn index(s: &[u8], at: usize, table: &mut [u16], n: usize) -> Indexed
     let kind = kind_at(s, at);
     put(table, n, at);
     if has_two(kind) {
-        let a = index(s, at + 9, table, n + 1);
+        let a = index(s, first_part(s, at), table, n + 1);
         let next = a.next;
         let count = a.count;
         return index(s, next, table, count);
     }
     if has_one(kind) {
-        return index(s, at + 9, table, n + 1);
+        return index(s, first_part(s, at), table, n + 1);
     }
     if kind == 8 {
-        let left = at + 10;
+        let left = first_part(s, at);
         let a = index_operand(s, left, table, n + 1);
         let right = a.next;
         let count = a.count;
         return index_operand(s, right, table, count);
     }
     if kind == 9 {
-        let next = past_binder(s, at + 9);
+        let next = past_binder(s, first_part(s, at));
         return index(s, next, table, n + 1);
     }
     let next = past_condition(s, at);
@@ -70,10 +71,11 @@ fn index_operand(s: &[u8], at: usize, table: &mut [u16], n: usize) -> Indexed
 {
     let kind = term_kind_at(s, at);
     if kind == 11 {
-        let aggregate = aggregate_at(s, at);
+        let aggregate = term_part(s, at);
         if aggregate_kind_at(s, aggregate) == 3 {
+            let next = past_term(s, at);
             return Indexed {
-                next: at + 10,
+                next: next,
                 count: n,
             };
         }
@@ -81,7 +83,7 @@ fn index_operand(s: &[u8], at: usize, table: &mut [u16], n: usize) -> Indexed
         return index(s, body, table, n);
     }
     if kind == 12 {
-        let a = index_operand(s, at + 1, table, n);
+        let a = index_operand(s, term_part(s, at), table, n);
         let next = a.next;
         let count = a.count;
         return index_operand(s, next, table, count);
@@ -100,6 +102,6 @@ pub fn index_record(s: &[u8], table: &mut [u16]) -> usize
     ensures fits { λ r. ⌜ r ≤ length (now (table .exit)) ⌝ }
     ensures index { λ r. ⌜ Index (now (s .entry)) (take r (now (table .exit))) ⌝ }
 {
-    let filled = index(s, 5, table, 0);
+    let filled = index(s, nodes::ROOT, table, 0);
     filled.count
 }

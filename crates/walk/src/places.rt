@@ -1,14 +1,9 @@
 // The reached conditions by their places.
+use crate::sorted::wide;
 ghost use mathlib.Core.Path.{_≡_};
 ghost use Prim.Native.Nat.{_<_};
 ghost use lib.ListN.{length};
 ghost use Rattle.walk.specs.Index.{Index, Reached};
-
-fn wide(x: u16) -> usize
-    ensures { λ r. ⌜ r ≡ x ⌝ }
-{
-    x as usize
-}
 
 // Where the i-th reached condition stands.
 pub fn reached_at(s: &[u8], places: &[u16], i: usize) -> usize

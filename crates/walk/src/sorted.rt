@@ -20,7 +20,7 @@ fn order_at(s: &[u8], table: &[u16], i: usize, name: &[u8]) -> usize
     ensures { λ r. ⌜ r ≡ order (nameAt (now (s .entry)) (now (table .entry)) i) (now (name .entry)) ⌝ }
 {
     let place = wide(table[i]);
-    let order = names::compare(names::word(s, place + 1), name);
+    let order = names::compare(nodes::name_of(s, place), name);
     match order {
         Order::Less => 0,
         Order::Same => 1,

@@ -10,7 +10,12 @@ use Rattle.names.specs.Fields.{Got, got, Reader, next, refuse, u8, choose, stri
 use Rattle.names.specs.Names.{plain, pathName}
 use Rattle.names.specs.Paths.{pathOf}
 use Rattle.names.specs.Laws.Readers.{Keeps, Wider, next-wider, split, Each, each-below, choose-beyond, keysUpTo}
+use Rattle.condition.specs.Laws.Tables.{_&_}
 use Rattle.condition.specs.Condition.{Condition, Term, One, Two, span, slot, binder, operator, arguments, argumentList, elements, elementList, unary, binary, predicateOf, comparisonOf, existsOf, conditionKinds, sumOf, countOf, aggregateKinds, aggregateOf, arithOf, termKinds, tooDeep, conditionAt, termAt}
+
+-- read alike
+same : {A : Type 0} (f : Reader A) → Wider f f
+same f s at a n e = e
 
 module _ {A B : Type 0} where
   -- a part that both read alike, then the rest
@@ -106,19 +111,12 @@ module _ (f g : Reader Condition) (t u : Bool → Reader Term) (wide : Wider f g
   unfolding choose aggregateKinds Each keysUpTo
   aggregate-kinds-wider =
       table-wider 3 (aggregateKinds f t) (aggregateKinds g u) refl
-      (each-below (λ k. Wider (choose k (aggregateKinds f t)) (choose k (aggregateKinds g u))) 4 (
-        (
-          (
-            (
-              tt,
-              λ s at a n e. e,
-            ),
-            sum-wider,
-          ),
-          count-wider,
-        ),
-        λ s at a n e. e,
-      ))
+      (each-below (λ k. Wider (choose k (aggregateKinds f t)) (choose k (aggregateKinds g u))) 4
+      (tt
+      & same _
+      & sum-wider
+      & count-wider
+      & same _))
 
   aggregate-wider : Wider (aggregateOf f t) (aggregateOf g u)
   unfolding aggregateOf
@@ -128,100 +126,44 @@ module _ (f g : Reader Condition) (t u : Bool → Reader Term) (wide : Wider f g
   unfolding choose conditionKinds Each keysUpTo
   condition-kinds-wider =
       table-wider 13 (conditionKinds f t) (conditionKinds g u) refl
-      (each-below (λ k. Wider (choose k (conditionKinds f t)) (choose k (conditionKinds g u))) 14 (
-        (
-          (
-            (
-              (
-                (
-                  (
-                    (
-                      (
-                        (
-                          (
-                            (
-                              (
-                                (
-                                  tt,
-                                  λ s at a n e. e,
-                                ),
-                                binary-wider _,
-                              ),
-                              binary-wider _,
-                            ),
-                            unary-wider _,
-                          ),
-                          unary-wider _,
-                        ),
-                        unary-wider _,
-                      ),
-                      binary-wider _,
-                    ),
-                    predicate-wider,
-                  ),
-                  comparison-wider,
-                ),
-                exists-wider,
-              ),
-              λ s at a n e. e,
-            ),
-            λ s at a n e. e,
-          ),
-          λ s at a n e. e,
-        ),
-        unary-wider _,
-      ))
+      (each-below (λ k. Wider (choose k (conditionKinds f t)) (choose k (conditionKinds g u))) 14
+      (tt
+      & same _
+      & binary-wider _
+      & binary-wider _
+      & unary-wider _
+      & unary-wider _
+      & unary-wider _
+      & binary-wider _
+      & predicate-wider
+      & comparison-wider
+      & exists-wider
+      & same _
+      & same _
+      & same _
+      & unary-wider _))
 
   term-kinds-wider : (b : Bool) (k : ℕ) → Wider (choose k (termKinds f t b)) (choose k (termKinds g u b))
   unfolding choose termKinds Each keysUpTo
   term-kinds-wider b =
       table-wider 14 (termKinds f t b) (termKinds g u b) refl
-      (each-below (λ k. Wider (choose k (termKinds f t b)) (choose k (termKinds g u b))) 15 (
-        (
-          (
-            (
-              (
-                (
-                  (
-                    (
-                      (
-                        (
-                          (
-                            (
-                              (
-                                (
-                                  (
-                                    tt,
-                                    λ s at a n e. e,
-                                  ),
-                                  λ s at a n e. e,
-                                ),
-                                λ s at a n e. e,
-                              ),
-                              λ s at a n e. e,
-                            ),
-                            λ s at a n e. e,
-                          ),
-                          λ s at a n e. e,
-                        ),
-                        λ s at a n e. e,
-                      ),
-                      λ s at a n e. e,
-                    ),
-                    λ s at a n e. e,
-                  ),
-                  λ s at a n e. e,
-                ),
-                λ s at. last-wider (elementList f t s at) (elementList g u s at) _ (element-list-wider s at),
-              ),
-              cond-wider b _ _ _ (λ s at. last-wider (aggregateOf f t s at) (aggregateOf g u s at) _ (aggregate-wider s at)),
-            ),
-            arith-wider b,
-          ),
-          λ s at a n e. e,
-        ),
-        λ s at a n e. e,
-      ))
+      (each-below (λ k. Wider (choose k (termKinds f t b)) (choose k (termKinds g u b))) 15
+      (tt
+      & same _
+      & same _
+      & same _
+      & same _
+      & same _
+      & same _
+      & same _
+      & same _
+      & same _
+      & same _
+      & (λ s at. last-wider (elementList f t s at) (elementList g u s at) _ (element-list-wider s at))
+      & cond-wider b _ _ _ (λ s at. last-wider (aggregateOf f t s at) (aggregateOf g u s at) _ (aggregate-wider s at))
+      & arith-wider b
+      & same _
+      & same _))
 
 -- with no level left nothing is read
 pub none-left : {A : Type 0} (last : ℕ) (s : List ℕ) (at : ℕ) {a : A} {n : ℕ} → tooDeep last s at ≡ got a n → ⊥
@@ -263,52 +205,23 @@ module _ (f : Reader Condition) (t : Bool → Reader Term) (wide : Wider (t true
   unfolding choose termKinds Each keysUpTo
   kinds-anywhere =
       table-wider 14 (termKinds f t true) (termKinds f t false) refl
-      (each-below (λ k. Wider (choose k (termKinds f t true)) (choose k (termKinds f t false))) 15 (
-        (
-          (
-            (
-              (
-                (
-                  (
-                    (
-                      (
-                        (
-                          (
-                            (
-                              (
-                                (
-                                  (
-                                    tt,
-                                    λ s at a n e. e,
-                                  ),
-                                  λ s at a n e. e,
-                                ),
-                                λ s at a n e. e,
-                              ),
-                              λ s at a n e. e,
-                            ),
-                            λ s at a n e. e,
-                          ),
-                          λ s at a n e. e,
-                        ),
-                        λ s at a n e. e,
-                      ),
-                      λ s at a n e. e,
-                    ),
-                    λ s at a n e. e,
-                  ),
-                  λ s at a n e. e,
-                ),
-                λ s at a n e. e,
-              ),
-              λ s at a n e. let z : _≡_ {A = ℕ} 0 1 = cc in absurd (omega arith),
-            ),
-            arith-anywhere,
-          ),
-          λ s at a n e. e,
-        ),
-        λ s at a n e. e,
-      ))
+      (each-below (λ k. Wider (choose k (termKinds f t true)) (choose k (termKinds f t false))) 15
+      (tt
+      & same _
+      & same _
+      & same _
+      & same _
+      & same _
+      & same _
+      & same _
+      & same _
+      & same _
+      & same _
+      & same _
+      & (λ s at a n e. let z : _≡_ {A = ℕ} 0 1 = cc in absurd (omega arith))
+      & arith-anywhere
+      & same _
+      & same _))
 
 pub term-anywhere : (l : ℕ) → Wider (termAt l true) (termAt l false)
 unfolding termAt

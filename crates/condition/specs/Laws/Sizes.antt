@@ -17,6 +17,7 @@ use Rattle.condition.specs.Condition.{Condition, Term, Aggregate, Binder
 use Rattle.condition.specs.Condition as tree
 use Rattle.condition.specs.Walk.{declaredBy, operandAggregates, operandBinders, reached, reachedIn, reachedBody, declares, binders, hasName, namedOnes}
 use Rattle.condition.specs.Places.{isRecord, recordIn}
+use Rattle.condition.specs.Laws.Tables.{_also_}
 use Rattle.condition.specs.Laws.Records.{record-read}
 
 -- ---- how much each weighs
@@ -276,7 +277,20 @@ module _ (f : Reader Condition) (t : Bool → Reader Term) (p : Owes 0 weight f)
   unfolding conditionKinds AllOwe
   conditions-owe k =
       chosen k (conditionKinds f t)
-      (binary-owes _, (binary-owes _, (unary-owes _, (unary-owes _, (unary-owes _, (binary-owes _, (predicate-owes, (comparison-owes, (exists-owes, (timepoint-owes, (opaque-owes, (opaque-owes, (unary-owes _, tt)))))))))))))
+      (binary-owes _
+      also binary-owes _
+      also unary-owes _
+      also unary-owes _
+      also unary-owes _
+      also binary-owes _
+      also predicate-owes
+      also comparison-owes
+      also exists-owes
+      also timepoint-owes
+      also opaque-owes
+      also opaque-owes
+      also unary-owes _
+      also tt)
 
   sum-owes : Owes 0 aggregateWeight (sumOf f t)
   unfolding sumOf aggregateWeight declaredBy reachedBody weight
@@ -303,7 +317,21 @@ module _ (f : Reader Condition) (t : Bool → Reader Term) (p : Owes 0 weight f)
   unfolding termKinds AllOwe termWeight operandBinders operandAggregates reachedIn bindersWeight nodesWeight namedOnes select gather
   terms-owe b k =
       chosen k (termKinds f t b)
-      (made _ (forward-string _) (λ _. omega arith), (stay _ (omega arith), (stay _ (omega arith), (stay _ (omega arith), (stay _ (omega arith), (made _ forward-path (λ _. omega arith), (made _ forward-path (λ _. omega arith), (made _ (forward-string _) (λ _. omega arith), (stay _ (omega arith), (made _ forward-element-list (λ _. omega arith), (either-way b (never 9) (made aggregate aggregate-owes (λ a. omega (arith, aggregate-weight a))), (arith-owes b, (stay _ (omega arith), (stay _ (omega arith), tt))))))))))))))
+      (made _ (forward-string _) (λ _. omega arith)
+      also stay _ (omega arith)
+      also stay _ (omega arith)
+      also stay _ (omega arith)
+      also stay _ (omega arith)
+      also made _ forward-path (λ _. omega arith)
+      also made _ forward-path (λ _. omega arith)
+      also made _ (forward-string _) (λ _. omega arith)
+      also stay _ (omega arith)
+      also made _ forward-element-list (λ _. omega arith)
+      also either-way b (never 9) (made aggregate aggregate-owes (λ a. omega (arith, aggregate-weight a)))
+      also arith-owes b
+      also stay _ (omega arith)
+      also stay _ (omega arith)
+      also tt)
 
 deep-owes : {A : Type 0} {size : A → ℕ} (last : ℕ) → Owes 0 size (tooDeep last)
 unfolding tooDeep

@@ -1,23 +1,26 @@
 -- A binder is a slot and an annotation; what an annotation binds. Assumes nothing.
 use mathlib.Core.Path.{_≡_, refl, sym, ap, _∙_}
-use mathlib.Core.Bool.{true, cond}
+use mathlib.Core.Bool.{Bool, true, false, cond, false≢true}
 use mathlib.Core.List.{List}
 use mathlib.Core.Option.{none, some}
 use Prim.Native.Nat.{ℕ, _+_, _-_, _<_}
 use native.Mathlib.Omega.{arith}
 use borrow.Author.Needs.{needs}
-use borrow.Author.Tests.{eq-eqb, ne-eqb}
+use borrow.Author.Tests.{eq-eqb, ne-eqb, eqb-true, eqb-false}
 use lib.Dec.{eqb}
 use lib.ListN.{length, getD}
 use Rattle.names.specs.Fields.{got, _>>=_, pure, u8, stringOf, each, counted, many}
 use Rattle.names.specs.Names.{identifier}
+use Rattle.names.specs.Read.{wordAt}
 use Rattle.names.specs.Laws.Readers.{split, u8-view, u8-got, is-accepted, has-value, got-value}
 use Rattle.nodes.specs.declared.Bound.the-variants.{Segments, Timepoint, Nothing}
-use Rattle.condition.specs.Condition.{Slot, Annotation, timepoint, path, Binder, Condition, slot, annotation, binder}
+use Rattle.condition.specs.Condition.{Slot, named, Annotation, timepoint, path, Binder, Condition, slot, annotation, binder}
 use Rattle.condition.specs.Condition as tree
+use Rattle.condition.specs.Walk.{hasName}
 use Rattle.condition.specs.Places.{isSlot, slotIn, isAnnotation, annotationIn, isBinder, binderIn}
 use Rattle.nodes.specs.Open.{Skipped}
-use Rattle.nodes.specs.Parts.{segmentsIn, Says}
+use Rattle.nodes.specs.Parts.{segmentsIn, Says, nameIn}
+use Rattle.nodes.specs.Laws.Pieces.{slot-index, slot-name, slot-param, slot-binder}
 use Rattle.nodes.specs.Laws.Opens.{Stands, stood, ends-at}
 
 -- What is bound, by cases.
@@ -93,3 +96,36 @@ module _ (s : List ℕ) (at : ℕ) (acc : isBinder s at ≡ true) where
       ap (λ (b : Binder). b .annotation) (binder-view .whole) ∙ sym (has-value _ e)
 
 pub ruleset at-binder = (needs, annotation-index, bound-timepoint, bound-segments)
+
+-- ---- whether a binder has a name
+
+module _ (s : List ℕ) (at : ℕ) (acc : isBinder s at ≡ true) where
+  pub binder-index : at < length s
+  binder-index = slot-index s at (binder-slot s at acc)
+
+  first-byte : getD s at 0 ≡ 0 → (binderIn s at) .slot ≡ named (nameIn s at)
+  unfolding nameIn
+  first-byte e = slot-is s at acc ∙ slot-name s at (binder-slot s at acc) e
+
+  pub name-there : getD s at 0 ≡ 0 → true ≡ hasName ((binderIn s at) .slot)
+  name-there e = sym (ap hasName (first-byte e))
+
+  pub name-missing : (getD s at 0 ≡ 0 → ⊥) → false ≡ hasName ((binderIn s at) .slot)
+  name-missing h = sym (ap hasName (slot-is s at acc) ∙ go (eqb (getD s at 0) 1) refl)
+    where
+      go : (b : Bool) → eqb (getD s at 0) 1 ≡ b → hasName (slotIn s at) ≡ false
+      go true e = ap hasName (slot-param s at (binder-slot s at acc) (eqb-true _ _ e))
+      go false e = ap hasName (slot-binder s at (binder-slot s at acc) h (eqb-false _ _ e))
+
+  pub own-slot : hasName ((binderIn s at) .slot) ≡ true → (binderIn s at) .slot ≡ named (nameIn s at)
+  own-slot h = go (eqb (getD s at 0) 0) refl
+    where
+      go : (b : Bool) → eqb (getD s at 0) 0 ≡ b → (binderIn s at) .slot ≡ named (nameIn s at)
+      go true e = first-byte (eqb-true _ _ e)
+      go false e = absurd (false≢true (name-missing (eqb-false _ _ e) ∙ h))
+
+pub name-is : (s w : List ℕ) (at : ℕ) → w ≡ wordAt s (at + 1) → w ≡ nameIn s at
+unfolding nameIn
+name-is s w at e = e
+
+pub ruleset naming = (needs, binder-index, name-there, name-missing, name-is)

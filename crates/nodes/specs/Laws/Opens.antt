@@ -12,14 +12,13 @@ use Rattle.names.specs.declared.Read.{Read}
 use Rattle.names.specs.declared.Read.the-variants.{Next}
 use Rattle.names.specs.Fields.{Got, got, bad, Reader, levels, each, counted}
 use Rattle.names.specs.Read.{ending, accepted, valueOr}
-use Rattle.names.specs.Laws.Readers.{arrives, is-accepted, has-value}
-use Rattle.condition.specs.Condition.{Condition, Term, Aggregate, aggregate, sum, count, call, slot, binder, conditionAt, termAt}
-use Rattle.condition.specs.Walk.{reached, reachedBody}
+use Rattle.names.specs.Laws.Readers.{arrives, has-value}
+use Rattle.condition.specs.Condition.{Condition, Term, Aggregate, sum, count, call, slot, binder, conditionAt, termAt}
 use Rattle.condition.specs.Places.{isCondition, conditionIn, isTerm, termIn, aggregateAt, isAggregate, aggregateIn, isSlot, isBinder}
 use Rattle.nodes.specs.Kinds.{kindOf, oneKind, twoKind, termKindOf, aggregateKindOf}
-use Rattle.nodes.specs.Open.{placeOf, Skipped, Opened, TermOpened, AggregateOpened, AggregateHere, BodyHere}
+use Rattle.nodes.specs.Open.{placeOf, Skipped, Opened, TermOpened, AggregateOpened}
 use Rattle.condition.specs.Laws.Sizes.{Forward, nine-condition, forward-slot, forward-binder, forward-counted, forward-condition, forward-term}
-use Rattle.nodes.specs.Laws.Views.{Head, head-view, OneView, one-view, TwoView, two-view, ComparisonView, comparison-view, ExistsView, exists-view, span-view, inside, term-inside, term-number, PartView, aggregate-view, ArithView, arith-view, aggregate-head-view, SumView, sum-view, CountView, count-view, CallView, call-view}
+use Rattle.nodes.specs.Laws.Views.{Head, head-view, OneView, one-view, TwoView, two-view, ComparisonView, comparison-view, ExistsView, exists-view, span-view, inside, term-inside, term-number, ArithView, arith-view, aggregate-head-view, SumView, sum-view, CountView, count-view, CallView, call-view}
 
 -- what is accepted, and the place behind it
 pub record Stands {A : Type 0} (g : Got A) (x : A) : Type 0 where
@@ -188,20 +187,6 @@ module _ (s : List ℕ) (at : ℕ) (acc : isTerm s at ≡ true) where
   pub arith-here : termKindOf (termIn s at) ≡ 12 → ArithView s at (termIn s at) (term-stands .end)
   arith-here e = arith-view s at (term-stands .read) (raw-term 12 (λ i. omega arith) e)
 
-  aggregated : termKindOf (termIn s at) ≡ 11 → PartView aggregateAt aggregate s at (termIn s at) (term-stands .end)
-  aggregated e = aggregate-view s at (term-stands .read) (raw-term 11 (λ i. omega arith) e)
-
-  pub aggregate-here : termKindOf (termIn s at) ≡ 11 → AggregateHere s at (at + 1)
-  unfolding aggregateIn
-  aggregate-here e =
-      let v = aggregated e in
-      record { place = refl; stands = is-accepted (v .reads); value = v .whole ∙ ap aggregate (sym (has-value _ (v .reads))) }
-
-  -- it ends where its aggregate does
-  pub aggregate-ends : termKindOf (termIn s at) ≡ 11 → ending (termAt levels false s at) ≡ ending (aggregateAt s (at + 1))
-  unfolding ending
-  aggregate-ends e = let v = aggregated e in rw (term-stands .read, v .reads)
-
 -- An aggregate that stands at a position.
 module _ (s : List ℕ) (at : ℕ) (acc : isAggregate s at ≡ true) where
   pub aggregate-stands : Stands (aggregateAt s at) (aggregateIn s at)
@@ -213,6 +198,9 @@ module _ (s : List ℕ) (at : ℕ) (acc : isAggregate s at ≡ true) where
       let v = aggregate-head-view s at (aggregate-stands .read) in
       let w = span-view s (at + 1) (v .spans) in
       record { inside = omega arith; kind = v .kind }
+
+  pub aggregate-room : at + 9 ≤ length s
+  aggregate-room = aggregate-kind-here .inside
 
   pub aggregate-index : at < length s
   aggregate-index = let o = aggregate-kind-here in omega arith
@@ -235,53 +223,4 @@ counts (sum span sl bs body) h i = absurd (i refl)
 counts (count span bs body) h i = refl
 counts (call span) h i = absurd (h refl)
 
--- Where the body stands: behind the span, a Sum's slot, the binders.
-module _ (s : List ℕ) (at : ℕ) (acc : isAggregate s at ≡ true) (k : ℕ) (o : AggregateOpened s at k) where
-  module _ (is : k ≡ 1) where
-    summing : SumView s at (aggregateIn s at) (aggregate-stands s at acc .end)
-    summing = sum-here s at acc (sym (o .kind) ∙ is)
-
-    pub sum-slot : isSlot s (at + 9) ≡ true
-    sum-slot = is-accepted (summing .adds)
-
-    module _ (m : ℕ) (z : Skipped (slot s (at + 9)) (at + 9) m) where
-      sum-list : m ≡ summing .list
-      sum-list = ends-at (summing .adds) (z .ends)
-
-      pub sum-binders : accepted (counted (each binder) s m) ≡ true
-      sum-binders = rw sum-list (is-accepted (summing .declares))
-
-      pub sum-body : (p : ℕ) → Skipped (counted (each binder) s m) m p → BodyHere s at p
-      unfolding conditionIn reachedBody ending
-      sum-body p y =
-          let v = summing in
-          let i : p ≡ v .middle = ends-at (v .declares) (rw sum-list at (y .ends)) in
-          record {
-            stands = rw i (is-accepted (v .reads));
-            value = rw (v .whole, i) (ap reached (sym (has-value _ (v .reads))));
-            ends = rw (aggregate-stands s at acc .read, i, v .reads);
-            ahead = omega arith;
-          }
-
-  module _ (h : aggregateKindOf (aggregateIn s at) ≡ 3 → ⊥) (not : k ≡ 1 → ⊥) where
-    counting : CountView s at (aggregateIn s at) (aggregate-stands s at acc .end)
-    counting = count-here s at acc (counts (aggregateIn s at) h (λ e. not (o .kind ∙ e)))
-
-    pub count-binders : accepted (counted (each binder) s (at + 9)) ≡ true
-    count-binders = is-accepted (counting .declares)
-
-    pub count-body : (p : ℕ) → Skipped (counted (each binder) s (at + 9)) (at + 9) p → BodyHere s at p
-    unfolding conditionIn reachedBody ending
-    count-body p y =
-        let v = counting in
-        let i : p ≡ v .middle = ends-at (v .declares) (y .ends) in
-        record {
-          stands = rw i (is-accepted (v .reads));
-          value = rw (v .whole, i) (ap reached (sym (has-value _ (v .reads))));
-          ends = rw (aggregate-stands s at acc .read, i, v .reads);
-          ahead = y .ahead;
-        }
-
-pub ruleset opening = (needs, one-of, one-of-4, one-of-5, one-of-13, none-of, two-of, two-of-2, two-of-6, not-two, condition-index, kind-sigil, kind-itself, term-index, term-sigil, term-itself, aggregate-here, aggregate-index, aggregate-kind-here)
-
-pub ruleset bodies = (needs, sum-slot, sum-binders, sum-body, count-binders, count-body)
+pub ruleset opening = (needs, one-of, one-of-4, one-of-5, one-of-13, none-of, two-of, two-of-2, two-of-6, not-two, condition-index, kind-sigil, kind-itself, term-index, term-sigil, term-itself, aggregate-index, aggregate-kind-here)

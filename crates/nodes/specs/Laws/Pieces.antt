@@ -2,12 +2,11 @@
 use mathlib.Core.Path.{_≡_, refl, sym, ap, ap₂, _∙_}
 use mathlib.Core.Bool.{true, false}
 use mathlib.Core.List.{List, [], _∷_}
-use Prim.Native.Nat.{ℕ, zero, suc, _+_, _*_, _-_, _≤_, _<_}
+use Prim.Native.Nat.{ℕ, zero, suc, _+_, _-_, _≤_, _<_}
 use native.Mathlib.Numerals.{sub-one}
-use native.Mathlib.Nat.{zero-add}
 use native.Mathlib.Omega.{arith}
 use borrow.Author.Needs.{needs}
-use lib.ListN.{length, getD, take, drop}
+use lib.ListN.{length, getD}
 use Rattle.names.specs.declared.Read.{Read}
 use Rattle.names.specs.Fields.{got, Reader, u8, number, stringOf, each, counted, choose, levels}
 use Rattle.names.specs.Names.{plain, pathName, identifier, lastOf}
@@ -20,15 +19,17 @@ use Rattle.nodes.specs.declared.Ends.{Ends}
 use Rattle.nodes.specs.declared.SlotAt.the-variants.{Named, ParamRef, BinderRef}
 use Rattle.condition.specs.Condition.{Span, Slot, named, binderRef, Binder, Condition, Term, Terms, Arguments, Aggregate, predicate, tp, noArgument, argument, entity, contextField, scopeField, var, array, nil, cons, sum, slotKinds, slot, binder, span, operator, arguments, argumentList, elements, elementList, conditionAt, termAt}
 use Rattle.condition.specs.Condition as tree
-use Rattle.condition.specs.Walk.{declaredBy, declares}
-use Rattle.condition.specs.Places.{isCondition, conditionIn, isTerm, termIn, isAggregate, aggregateIn, isArguments, argumentsIn, isElements, elementsIn, isPath, pathIn, isSlot, slotIn, binderIn}
+use Rattle.condition.specs.Walk.{reached, reachedBody, declaredBy}
+use Rattle.condition.specs.Places.{isCondition, conditionIn, isTerm, termIn, isAggregate, aggregateIn, isArguments, argumentsIn, isElements, elementsIn, isPath, pathIn, isSlot, slotIn}
+use Rattle.nodes.specs.Offsets.{firstPart, termPart, aggregatePart}
+use Rattle.nodes.specs.Laws.Inside.{same-end, ended, place-other, place-compared, compared-inside, added-inside}
 use Rattle.nodes.specs.Kinds.{kindOf, spanOf, ownSpanOf, termKindOf, aggregateKindOf, aggregateSpanOf}
-use Rattle.nodes.specs.Open.{placeOf, Skipped, AggregateOpened}
-use Rattle.nodes.specs.Parts.{EndsHere, Spans, ComparisonHere, ArithHere, PredicateHere, ArgumentHere, TimepointHere, ExistsHere, ElementsHere, ElementHere, PathHere, SummandHere, bindersIn, BindersHere, slotOf, segmentsIn, SegmentsHere}
+use Rattle.nodes.specs.Open.{placeOf, Skipped, Opened, TermOpened, AggregateOpened, ComparedHere, BodyHere}
+use Rattle.nodes.specs.Parts.{EndsHere, Spans, ComparisonHere, ArithHere, PredicateHere, ArgumentHere, TimepointHere, ElementsHere, ElementHere, PathHere, SummandHere, bindersIn, BindersHere, slotOf, segmentsIn, SegmentsHere}
 use Rattle.condition.specs.Laws.Sizes.{forward-counted, forward-string, forward-path, one-term}
 use Rattle.condition.specs.Laws.Levels.{term-anywhere}
 use Rattle.nodes.specs.Laws.Views.{by-kind, head-view, span-view, operator-view, PredicateView, predicate-view, timepoint-view, aggregate-head-view, PartView, entity-view, context-view, scope-view, var-view, array-view}
-use Rattle.nodes.specs.Laws.Opens.{term-there, term-value, Stands, skipped, stood, ends-at, condition-stands, condition-room, raw-kind, comparison-here, exists-here, term-stands, term-index, raw-term, arith-here, aggregate-stands, aggregate-kind-here, sum-here, count-here, counts}
+use Rattle.nodes.specs.Laws.Opens.{term-there, term-value, Stands, skipped, stood, ends-at, condition-stands, condition-room, raw-kind, comparison-here, term-stands, term-index, raw-term, aggregate-stands, aggregate-kind-here, sum-here, count-here, counts}
 
 -- The place behind path names and behind a path.
 module _ (s : List ℕ) (at : ℕ) (x : Read) (n : ℕ) where
@@ -39,14 +40,6 @@ module _ (s : List ℕ) (at : ℕ) (x : Read) (n : ℕ) where
   skipped-path = skipped forward-path s at x n
 
 -- Spans.
-pub four-bytes : (s : List ℕ) (at a b c d r : ℕ) → at + 4 ≤ length s → a ≡ getD s at 0 → b ≡ getD s (at + 1) 0 → c ≡ getD s (at + 2) 0 → d ≡ getD s (at + 3) 0
-    → r ≡ ((a * 256 + b) * 256 + c) * 256 + d → r ≡ number 0 (take 4 (drop at s))
-unfolding number
-four-bytes s at a b c d r h i j k l e =
-    let p : at + 1 + 1 ≡ at + 2 = omega arith in
-    let q : at + 2 + 1 ≡ at + 3 = omega arith in
-    rw (here s at (omega arith), here s (at + 1) (omega arith), p, here s (at + 2) (omega arith), q, here s (at + 3) (omega arith), zero-add, ← i, ← j, ← k, ← l) e
-
 spans-of : {s : List ℕ} {at n : ℕ} {v : Span} {r : Ends} → span s at ≡ got v n → EndsHere s at r → Spans v r
 spans-of {s} {at} e h = let w = span-view s at e in record { start = h .start ∙ sym (w .start); end = h .end ∙ sym (w .end) }
 
@@ -80,21 +73,16 @@ module _ (s : List ℕ) (at : ℕ) (acc : isCondition s at ≡ true) where
     pub own-here : (r : Ends) → EndsHere s (at + 9) r → Spans (ownSpanOf (conditionIn s at)) r
     own-here r h = rw (acting .whole) (spans-of (acting .owns) h)
 
-  -- a timepoint, an Exists
-  pub timepoint-here : kindOf (conditionIn s at) ≡ 10 → TimepointHere s at (at + 9)
+  -- the slot of a timepoint
+  pub timepoint-inside : kindOf (conditionIn s at) ≡ 10 → (p : ℕ) → p ≡ firstPart s at → TimepointHere s at p
   unfolding slotIn
-  timepoint-here is =
+  timepoint-inside is p e =
       let v = timepoint-view s at (condition-stands s at acc .read) (raw-kind s at acc 10 (λ i. omega arith) is) in
-      record { stands = is-accepted (v .reads); value = timepoint-value (v .whole) (has-value _ (v .reads)) }
+      let i = place-other s at acc p e 10 (sym is) (λ q. omega arith) (λ q. omega arith) in
+      rw i (record { stands = is-accepted (v .reads); value = timepoint-value (v .whole) (has-value _ (v .reads)) })
 
-  pub binder-here : kindOf (conditionIn s at) ≡ 9 → ExistsHere s at (at + 9)
-  unfolding binderIn declares
-  binder-here is =
-      let v = exists-here s at acc is in
-      record { stands = is-accepted (v .declares); value = rw (has-value _ (v .declares), v .whole) }
-
-pub aggregate-room : (s : List ℕ) (at : ℕ) → isAggregate s at ≡ true → at + 1 + 8 ≤ length s
-aggregate-room s at acc = let o = aggregate-kind-here s at acc in omega arith
+pub aggregate-span-room : (s : List ℕ) (at : ℕ) → isAggregate s at ≡ true → at + 1 + 8 ≤ length s
+aggregate-span-room s at acc = let o = aggregate-kind-here s at acc in omega arith
 
 pub aggregate-span-here : (s : List ℕ) (at : ℕ) → isAggregate s at ≡ true → (r : Ends) → EndsHere s (at + 1) r → Spans (aggregateSpanOf (aggregateIn s at)) r
 aggregate-span-here s at acc r h = spans-of (aggregate-head-view s at (aggregate-stands s at acc .read) .spans) h
@@ -105,66 +93,77 @@ term-ahead s at e = let l = one-term levels false .on s at e in omega arith
 
 -- Comparisons and arithmetic.
 module _ (s : List ℕ) (at : ℕ) (acc : isCondition s at ≡ true) (is : kindOf (conditionIn s at) ≡ 8) where
-  pub comparison-left : isTerm s (at + 10) ≡ true
-  comparison-left = is-accepted (comparison-here s at acc is .reads)
-
   pub comparison-index : at + 9 < length s
-  comparison-index = let h = term-index s (at + 10) comparison-left in omega arith
+  comparison-index = let h = term-index s (at + 10) (is-accepted (comparison-here s at acc is .reads)) in omega arith
 
-  pub comparison-parts : (k m : ℕ) → k ≡ getD s (at + 9) 0 → Skipped (termAt levels false s (at + 10)) (at + 10) m → ComparisonHere s at (record { operator = k; left = at + 10; right = m })
-  comparison-parts k m e z =
-      let v = comparison-here s at acc is in
-      let i = ends-at (v .reads) (z .ends) in
-      let l = term-ahead s (at + 10) (v .reads) in
-      record {
-        op = v .test;
-        number = e ∙ sym (operator-view s (at + 9) (v .tests) .1);
-        left = comparison-left;
-        right = is-accepted (term-there s i (v .further));
-        ahead = omega arith;
-        further = omega arith;
-        value = rw (term-value s refl (v .reads), term-value s i (v .further), v .whole);
-      }
+  module _ (p : ℕ) (e : p ≡ firstPart s at) where
+    compared : ComparedHere s at p
+    compared = compared-inside s at acc p e 8 (sym is) refl
 
-module _ (s : List ℕ) (at : ℕ) (acc : isTerm s at ≡ true) where
-  pub arith-left : termKindOf (termIn s at) ≡ 12 → isTerm s (at + 1) ≡ true
-  arith-left is = is-accepted (arith-here s at acc is .reads)
+    pub comparison-left : isTerm s p ≡ true
+    comparison-left = compared .stands
 
-  pub arith-parts : termKindOf (termIn s at) ≡ 12 → (m : ℕ) → Skipped (termAt levels false s (at + 1)) (at + 1) m → ArithHere s at (record { left = at + 1; right = m })
-  arith-parts is m z =
-      let v = arith-here s at acc is in
-      let i = ends-at (v .reads) (z .ends) in
-      let l = term-ahead s (at + 1) (v .reads) in
-      record {
-        left = is-accepted (v .reads);
-        right = is-accepted (term-there s i (v .further));
-        ahead = omega arith;
-        further = omega arith;
-        value = v .whole ∙ ap₂ tree.arith (sym (term-value s refl (v .reads))) (sym (term-value s i (v .further)));
-      }
+    pub comparison-parts : (k m : ℕ) → k ≡ getD s (at + 9) 0 → Skipped (termAt levels false s p) p m → ComparisonHere s at (record { operator = k; left = p; right = m })
+    comparison-parts k m f z =
+        let v = comparison-here s at acc is in
+        let j : p ≡ at + 10 = place-compared s at acc p e is in
+        let i = ends-at (term-there s j (v .reads)) (z .ends) in
+        let l = term-ahead s p (term-there s j (v .reads)) in
+        record {
+          op = v .test;
+          number = f ∙ sym (operator-view s (at + 9) (v .tests) .1);
+          left = compared .stands;
+          right = is-accepted (term-there s i (v .further));
+          ahead = omega (arith, compared .ahead);
+          further = omega arith;
+          value = rw (term-value s j (v .reads), term-value s i (v .further), v .whole);
+        }
+
+module _ (s : List ℕ) (at : ℕ) (acc : isTerm s at ≡ true) (p : ℕ) (e : p ≡ termPart s at) where
+  module _ (is : termKindOf (termIn s at) ≡ 12) where
+    pub arith-left : isTerm s p ≡ true
+    arith-left = added-inside s at acc p e is .stands
+
+    pub arith-parts : (m : ℕ) → Skipped (termAt levels false s p) p m → ArithHere s at (record { left = p; right = m })
+    arith-parts m z =
+        let h = added-inside s at acc p e is in
+        let w = term-stands s p (h .stands) in
+        let i : m ≡ h .second = ends-at (w .read) (z .ends) ∙ sym (ends-at (w .read) (h .between)) in
+        let l = term-ahead s p (w .read) in
+        let q = ends-at (w .read) (z .ends) in
+        rw i (record { left = h .stands; right = h .behind; ahead = h .ahead; further = omega arith; value = h .value })
 
   -- names and paths
-  pub entity-here : termKindOf (termIn s at) ≡ 1 → termIn s at ≡ entity (wordAt s (at + 1))
-  entity-here is =
-      let v = entity-view s at (term-stands s at acc .read) (raw-term s at acc 1 (λ i. omega arith) is) in
-      v .whole ∙ ap entity (string-view pathName s (at + 1) (v .reads) .word)
+  module _ (k : ℕ) (o : TermOpened s at k) where
+    pub entity-inside : k ≡ 1 → termIn s at ≡ entity (wordAt s p)
+    unfolding termPart
+    entity-inside is =
+        let v = entity-view s at (term-stands s at acc .read) (raw-term s at acc 1 (λ i. omega arith) (sym (o .kind) ∙ is)) in
+        rw e (v .whole ∙ ap entity (string-view pathName s (at + 1) (v .reads) .word))
 
-  pub var-here : termKindOf (termIn s at) ≡ 8 → termIn s at ≡ var (wordAt s (at + 1))
-  var-here is =
-      let v = var-view s at (term-stands s at acc .read) (raw-term s at acc 8 (λ i. omega arith) is) in
-      v .whole ∙ ap var (string-view plain s (at + 1) (v .reads) .word)
+    pub var-inside : k ≡ 8 → termIn s at ≡ var (wordAt s p)
+    unfolding termPart
+    var-inside is =
+        let v = var-view s at (term-stands s at acc .read) (raw-term s at acc 8 (λ i. omega arith) (sym (o .kind) ∙ is)) in
+        rw e (v .whole ∙ ap var (string-view plain s (at + 1) (v .reads) .word))
 
-  pub context-here : termKindOf (termIn s at) ≡ 6 → PathHere contextField s at (at + 1)
-  unfolding pathIn
-  context-here is =
-      let v = context-view s at (term-stands s at acc .read) (raw-term s at acc 6 (λ i. omega arith) is) in
-      record { stands = is-accepted (v .reads); value = v .whole ∙ ap contextField (sym (has-value _ (v .reads))) }
+    pub context-inside : k ≡ 6 → PathHere contextField s at p
+    unfolding termPart pathIn
+    context-inside is =
+        let v = context-view s at (term-stands s at acc .read) (raw-term s at acc 6 (λ i. omega arith) (sym (o .kind) ∙ is)) in
+        rw e (record { stands = is-accepted (v .reads); value = v .whole ∙ ap contextField (sym (has-value _ (v .reads))) })
 
-  pub scope-here : termKindOf (termIn s at) ≡ 7 → PathHere scopeField s at (at + 1)
-  unfolding pathIn
-  scope-here is =
-      let v = scope-view s at (term-stands s at acc .read) (raw-term s at acc 7 (λ i. omega arith) is) in
-      record { stands = is-accepted (v .reads); value = v .whole ∙ ap scopeField (sym (has-value _ (v .reads))) }
+    pub scope-inside : k ≡ 7 → PathHere scopeField s at p
+    unfolding termPart pathIn
+    scope-inside is =
+        let v = scope-view s at (term-stands s at acc .read) (raw-term s at acc 7 (λ i. omega arith) (sym (o .kind) ∙ is)) in
+        rw e (record { stands = is-accepted (v .reads); value = v .whole ∙ ap scopeField (sym (has-value _ (v .reads))) })
+
+    pub context-path : k ≡ 6 → isPath s p ≡ true
+    context-path is = context-inside is .stands
+
+    pub scope-path : k ≡ 7 → isPath s p ≡ true
+    scope-path is = scope-inside is .stands
 
 -- Lists: a count and the things.
 pub counted-here : {A : Type 0} (f : Reader A) (s : List ℕ) (at : ℕ) → accepted (counted (each f) s at) ≡ true → Listed f s (valueOr [] (counted (each f) s at)) (getD s at 0) (at + 1)
@@ -340,14 +339,18 @@ module _ (s : List ℕ) (at : ℕ) (acc : isTerm s at ≡ true) (is : termKindOf
       let i : a .place ≡ at + 2 = omega arith in
       record { inside = u .0; read = rw (← u .1, ← i) (a .rest); whole = arrays .whole }
 
-  pub elements-index : at + 1 < length s
-  elements-index = elements-view .inside
+  module _ (p : ℕ) (e : p ≡ termPart s at) where
+    pub elements-index : p < length s
+    unfolding termPart
+    elements-index = rw e (elements-view .inside)
 
-  pub elements-parts : (k : ℕ) → k ≡ getD s (at + 1) 0 → ElementsHere s at (record { count = k; first = at + 2 })
-  unfolding elementsIn
-  elements-parts k e =
-      let v = elements-view in
-      record { stands = rw e (is-accepted (v .read)); ahead = omega arith; value = v .whole ∙ ap array (rw e (sym (has-value _ (v .read)))) }
+    pub elements-parts : (k : ℕ) → k ≡ getD s p 0 → ElementsHere s at (record { count = k; first = p + 1 })
+    unfolding termPart elementsIn
+    elements-parts k f =
+        let v = elements-view in
+        let i : p + 1 ≡ at + 2 = omega arith in
+        let g : k ≡ getD s (at + 1) 0 = f ∙ ap (λ j. getD s j 0) e in
+        rw i (record { stands = rw g (is-accepted (v .read)); ahead = omega arith; value = v .whole ∙ ap array (rw g (sym (has-value _ (v .read)))) })
 
 record FirstElement (s : List ℕ) (n at : ℕ) (l : Terms) (end : ℕ) : Type 0 where
   term : Term
@@ -401,27 +404,58 @@ unfolding elementsIn elements valueOr
 elements-over s zero at h = refl
 elements-over s (suc n) at h = absurd (omega arith)
 
--- The summand and the binders of an aggregate.
+-- The summand, the binders and the body of an aggregate.
 module _ (s : List ℕ) (at : ℕ) (acc : isAggregate s at ≡ true) where
-  pub summand-here : aggregateKindOf (aggregateIn s at) ≡ 1 → SummandHere s at (at + 9)
-  unfolding slotIn
-  summand-here is =
+  pub summand-inside : aggregateKindOf (aggregateIn s at) ≡ 1 → (p : ℕ) → p ≡ aggregatePart s at → SummandHere s at p
+  unfolding aggregatePart slotIn
+  summand-inside is p e =
       let v = sum-here s at acc is in
-      record { declared = v .declared; body = v .body; stands = is-accepted (v .adds); value = sum-value (v .whole) (has-value _ (v .adds)) }
+      rw e (record { declared = v .declared; body = v .body; stands = is-accepted (v .adds); value = sum-value (v .whole) (has-value _ (v .adds)) })
 
-  module _ (k : ℕ) (o : AggregateOpened s at k) where
-    pub sum-declares : k ≡ 1 → (p : ℕ) → Skipped (slot s (at + 9)) (at + 9) p → BindersHere s at p
-    unfolding bindersIn declaredBy
-    sum-declares is p z =
+  pub summand-slot : aggregateKindOf (aggregateIn s at) ≡ 1 → (p : ℕ) → p ≡ aggregatePart s at → isSlot s p ≡ true
+  summand-slot is p e = summand-inside is p e .stands
+
+  module _ (k : ℕ) (o : AggregateOpened s at k) (p : ℕ) (e : p ≡ aggregatePart s at) where
+    pub sum-slot : k ≡ 1 → isSlot s p ≡ true
+    sum-slot is = summand-inside (sym (o .kind) ∙ is) p e .stands
+
+    pub sum-declares : k ≡ 1 → (q : ℕ) → Skipped (slot s p) p q → BindersHere s at q
+    unfolding aggregatePart bindersIn declaredBy reachedBody conditionIn
+    sum-declares is q z =
         let v = sum-here s at acc (sym (o .kind) ∙ is) in
-        let e = ap (counted (each binder) s) (ends-at (v .adds) (z .ends)) ∙ v .declares in
-        record { stands = is-accepted e; value = ap declaredBy (v .whole) ∙ sym (has-value _ e) }
+        let i : q ≡ v .list = ends-at (ap (slot s) e ∙ v .adds) (z .ends) in
+        let d = ap (counted (each binder) s) i ∙ v .declares in
+        record {
+          body = v .middle;
+          stands = is-accepted d;
+          ahead = omega (arith, z .ahead);
+          value = ap declaredBy (v .whole) ∙ sym (has-value _ d);
+          between = ended d;
+          behind = is-accepted (v .reads);
+          reaches = ap reachedBody (v .whole) ∙ ap reached (sym (has-value _ (v .reads)));
+          ends = same-end (aggregate-stands s at acc .read) (v .reads);
+        }
 
-    pub count-declares : (aggregateKindOf (aggregateIn s at) ≡ 3 → ⊥) → (k ≡ 1 → ⊥) → BindersHere s at (at + 9)
-    unfolding bindersIn declaredBy
+    pub count-declares : (aggregateKindOf (aggregateIn s at) ≡ 3 → ⊥) → (k ≡ 1 → ⊥) → BindersHere s at p
+    unfolding aggregatePart bindersIn declaredBy reachedBody conditionIn
     count-declares h not =
-        let v = count-here s at acc (counts (aggregateIn s at) h (λ e. not (o .kind ∙ e))) in
-        record { stands = is-accepted (v .declares); value = ap declaredBy (v .whole) ∙ sym (has-value _ (v .declares)) }
+        let v = count-here s at acc (counts (aggregateIn s at) h (λ i. not (o .kind ∙ i))) in
+        rw e (record {
+          body = v .middle;
+          stands = is-accepted (v .declares);
+          ahead = omega arith;
+          value = ap declaredBy (v .whole) ∙ sym (has-value _ (v .declares));
+          between = ended (v .declares);
+          behind = is-accepted (v .reads);
+          reaches = ap reachedBody (v .whole) ∙ ap reached (sym (has-value _ (v .reads)));
+          ends = same-end (aggregate-stands s at acc .read) (v .reads);
+        })
+
+pub body-here : (s : List ℕ) (at p : ℕ) → BindersHere s at p → (q : ℕ) → Skipped (counted (each binder) s p) p q → BodyHere s at q
+body-here s at p h q z =
+    let w = stood [] (counted (each binder) s p) (h .stands) in
+    let i : q ≡ h .body = ends-at (w .read) (z .ends) ∙ sym (ends-at (w .read) (h .between)) in
+    record { stands = rw i (h .behind); value = rw i (h .reaches); ends = rw i (h .ends); ahead = omega (arith, h .ahead, z .ahead) }
 
 -- Slots.
 module _ (s : List ℕ) (at : ℕ) (acc : isSlot s at ≡ true) where
@@ -503,7 +537,7 @@ module _ (s : List ℕ) (start : ℕ) where
         let e = row-empty (stringOf identifier) s (n - 1) (o .p) (omega arith) (o .rest) in
         sym (string-view identifier s at (o .here) .word) ∙ sym (ap lastOf (o .all ∙ ap (λ l. o .own ∷ l) e)) ∙ left .same
 
-pub ruleset pieces = (needs, four-bytes, span-room, span-here, own-room, own-here, timepoint-here, binder-here, aggregate-room, aggregate-span-here, comparison-left, comparison-index, comparison-parts, arith-left, arith-parts, entity-here, var-here, context-here, scope-here, path-index, path-listed, segments-index, segments-listed, elements-index, elements-parts, element-stands, element-parts, summand-here, sum-declares, count-declares, slot-index, slot-name, slot-param, slot-binder)
+pub ruleset pieces = (needs, span-room, span-here, own-room, own-here, aggregate-span-room, aggregate-span-here, comparison-left, comparison-index, comparison-parts, arith-left, arith-parts, path-index, path-listed, segments-index, segments-listed, elements-index, elements-parts, element-stands, element-parts, sum-slot, sum-declares, count-declares, body-here, slot-index, slot-name, slot-param, slot-binder)
 
 pub ruleset predicates-parts = (needs, names-stand, names-index, action-inside, arguments-index, predicate-parts)
 

@@ -15,6 +15,7 @@ use Rattle.names.specs.Laws.Readers.{split, u8-view, bytes-view, got-value, got
 use Rattle.condition.specs.Condition.{Span, Slot, Condition, Term, Arguments, Aggregate, Operator, Binder, One, Two, one, two, predicate, comparison, exists, tp, opaque, negation, formerly, previous, refine, and, or, since, le, lt, ge, gt, eq, notEq, integer, decimal, string, bool, entity, literal, contextField, scopeField, var, wildcard, array, aggregate, sigil, sum, count, call, span, slot, operators, operator, binder, timepointOf, argumentList, elementList, unary, binary, predicateOf, comparisonOf, existsOf, conditionKinds, sumOf, countOf, aggregateKinds, aggregateOf, arithOf, termKinds, conditionAt, termAt}
 use Rattle.condition.specs.Condition as tree
 use Rattle.nodes.specs.Kinds.{kindOf, spanOf, termKindOf, aggregateKindOf, aggregateSpanOf, operatorNumber, oneNumber, twoNumber, twoKind, oneKind}
+use Rattle.condition.specs.Laws.Tables.{_&_}
 use Rattle.condition.specs.Laws.Levels.{condition-wider, term-wider}
 
 -- what is known of a table's choice, by what each of its keys says
@@ -284,19 +285,61 @@ module _ (s : List ℕ) (at : ℕ) {x : Condition} {n : ℕ} where
       let ones : (j : One) → conditionNumber (oneNumber j) ≡ oneNumber j → unary (conditionAt levels) (termAt levels) j s (at + 1) ≡ got x n → Head s at x (oneNumber j) = λ j i e. let v = unary-view s at j e in head (oneNumber j) (v .spans) (v .whole) i in
       let twos : (j : Two) → conditionNumber (twoNumber j) ≡ twoNumber j → binary (conditionAt levels) (termAt levels) j s (at + 1) ≡ got x n → Head s at x (twoNumber j) = λ j i e. let v = binary-view s at j e in head (twoNumber j) (v .spans) (v .whole) i in
       by-kind s (at + 1) 13 (conditionKinds (conditionAt levels) (termAt levels)) refl (Head s at x)
-      ((((((((((((((tt, no-value), twos and refl), twos or refl), ones negation refl), ones formerly refl), ones previous refl), twos since refl), λ e. let v = acting-view s at e in head 7 (v .spans) (v .whole) refl), λ e. let v = testing-view s at e in head 8 (v .spans) (v .whole) refl), λ e. let v = binding-view s at e in head 9 (v .spans) (v .whole) refl), λ e. let v = pointing-view s at e in head 10 (v .spans) (v .whole) refl), λ e. let v = bare-view s at e in head 11 (v .spans) (v .whole) refl), λ e. let v = bare-view s at e in head 12 (v .spans) (v .whole) refl), ones refine refl)
+      (tt
+      & no-value
+      & twos and refl
+      & twos or refl
+      & ones negation refl
+      & ones formerly refl
+      & ones previous refl
+      & twos since refl
+      & (λ e. let v = acting-view s at e in head 7 (v .spans) (v .whole) refl)
+      & (λ e. let v = testing-view s at e in head 8 (v .spans) (v .whole) refl)
+      & (λ e. let v = binding-view s at e in head 9 (v .spans) (v .whole) refl)
+      & (λ e. let v = pointing-view s at e in head 10 (v .spans) (v .whole) refl)
+      & (λ e. let v = bare-view s at e in head 11 (v .spans) (v .whole) refl)
+      & (λ e. let v = bare-view s at e in head 12 (v .spans) (v .whole) refl)
+      & ones refine refl)
 
   pub ones : (k : ℕ) → choose k (conditionKinds (conditionAt levels) (termAt levels)) s (at + 1) ≡ got x n → oneKind k ≡ true → OneView s at x n
   unfolding choose conditionKinds Each keysUpTo
   ones =
       by-kind s (at + 1) 13 (conditionKinds (conditionAt levels) (termAt levels)) refl (λ k. oneKind k ≡ true → OneView s at x n)
-      ((((((((((((((tt, λ _ h. absurd (false≢true h)), λ _ h. absurd (false≢true h)), λ _ h. absurd (false≢true h)), λ e h. unary-view s at negation e), λ e h. unary-view s at formerly e), λ e h. unary-view s at previous e), λ _ h. absurd (false≢true h)), λ _ h. absurd (false≢true h)), λ _ h. absurd (false≢true h)), λ _ h. absurd (false≢true h)), λ _ h. absurd (false≢true h)), λ _ h. absurd (false≢true h)), λ _ h. absurd (false≢true h)), λ e h. unary-view s at refine e)
+      (tt
+      & (λ _ h. absurd (false≢true h))
+      & (λ _ h. absurd (false≢true h))
+      & (λ _ h. absurd (false≢true h))
+      & (λ e h. unary-view s at negation e)
+      & (λ e h. unary-view s at formerly e)
+      & (λ e h. unary-view s at previous e)
+      & (λ _ h. absurd (false≢true h))
+      & (λ _ h. absurd (false≢true h))
+      & (λ _ h. absurd (false≢true h))
+      & (λ _ h. absurd (false≢true h))
+      & (λ _ h. absurd (false≢true h))
+      & (λ _ h. absurd (false≢true h))
+      & (λ _ h. absurd (false≢true h))
+      & (λ e h. unary-view s at refine e))
 
   pub twos : (k : ℕ) → choose k (conditionKinds (conditionAt levels) (termAt levels)) s (at + 1) ≡ got x n → twoKind k ≡ true → TwoView s at x n
   unfolding choose conditionKinds Each keysUpTo
   twos =
       by-kind s (at + 1) 13 (conditionKinds (conditionAt levels) (termAt levels)) refl (λ k. twoKind k ≡ true → TwoView s at x n)
-      ((((((((((((((tt, λ _ h. absurd (false≢true h)), λ e h. binary-view s at and e), λ e h. binary-view s at or e), λ _ h. absurd (false≢true h)), λ _ h. absurd (false≢true h)), λ _ h. absurd (false≢true h)), λ e h. binary-view s at since e), λ _ h. absurd (false≢true h)), λ _ h. absurd (false≢true h)), λ _ h. absurd (false≢true h)), λ _ h. absurd (false≢true h)), λ _ h. absurd (false≢true h)), λ _ h. absurd (false≢true h)), λ _ h. absurd (false≢true h))
+      (tt
+      & (λ _ h. absurd (false≢true h))
+      & (λ e h. binary-view s at and e)
+      & (λ e h. binary-view s at or e)
+      & (λ _ h. absurd (false≢true h))
+      & (λ _ h. absurd (false≢true h))
+      & (λ _ h. absurd (false≢true h))
+      & (λ e h. binary-view s at since e)
+      & (λ _ h. absurd (false≢true h))
+      & (λ _ h. absurd (false≢true h))
+      & (λ _ h. absurd (false≢true h))
+      & (λ _ h. absurd (false≢true h))
+      & (λ _ h. absurd (false≢true h))
+      & (λ _ h. absurd (false≢true h))
+      & (λ _ h. absurd (false≢true h)))
 
 -- One view for each shape, by the kind byte.
 module _ (s : List ℕ) (at : ℕ) {x : Condition} {n : ℕ} (e : conditionAt levels s at ≡ got x n) where
@@ -379,34 +422,23 @@ module _ (s : List ℕ) (at : ℕ) {t : Term} {n : ℕ} where
   numbers =
       let own : (u : Term) → got u (at + 1) ≡ got t n → termKindOf u ≡ termKindOf t = λ u e. ap termKindOf (got-value e) in
       let is : (u : Term) → t ≡ u → termKindOf u ≡ termKindOf t = λ u e. ap termKindOf (sym e) in
-      by-kind s (at + 1) 14 (termKinds (conditionAt levels) (termAt levels) false) refl (λ k. termNumber k ≡ termKindOf t) (
-        (
-          (
-            (
-              (
-                (
-                  (
-                    (
-                      (
-                        ((((((tt, no-value), λ e. is _ (part-view (stringOf pathName) entity s at e .whole)), own (literal integer)), own (literal decimal)), own (literal string)), own (literal bool)),
-                        λ e. is _ (part-view pathOf contextField s at e .whole),
-                      ),
-                      λ e. is _ (part-view pathOf scopeField s at e .whole),
-                    ),
-                    λ e. is _ (part-view (stringOf plain) var s at e .whole),
-                  ),
-                  own wildcard,
-                ),
-                λ e. is _ (part-view (elementList (conditionAt levels) (termAt levels)) array s at e .whole),
-              ),
-              λ e. is _ (part-view (aggregateOf (conditionAt levels) (termAt levels)) aggregate s at e .whole),
-            ),
-            λ e. is _ (adding-view e .whole),
-          ),
-          own sigil,
-        ),
-        own sigil,
-      )
+      by-kind s (at + 1) 14 (termKinds (conditionAt levels) (termAt levels) false) refl (λ k. termNumber k ≡ termKindOf t)
+      (tt
+      & no-value
+      & (λ e. is _ (part-view (stringOf pathName) entity s at e .whole))
+      & own (literal integer)
+      & own (literal decimal)
+      & own (literal string)
+      & own (literal bool)
+      & (λ e. is _ (part-view pathOf contextField s at e .whole))
+      & (λ e. is _ (part-view pathOf scopeField s at e .whole))
+      & (λ e. is _ (part-view (stringOf plain) var s at e .whole))
+      & own wildcard
+      & (λ e. is _ (part-view (elementList (conditionAt levels) (termAt levels)) array s at e .whole))
+      & (λ e. is _ (part-view (aggregateOf (conditionAt levels) (termAt levels)) aggregate s at e .whole))
+      & (λ e. is _ (adding-view e .whole))
+      & own sigil
+      & own sigil)
 
 -- One view for each shape, by the kind byte.
 module _ (s : List ℕ) (at : ℕ) {t : Term} {n : ℕ} (e : termAt levels false s at ≡ got t n) where

@@ -1,4 +1,4 @@
--- `walk::places::next_aggregate` meets its contract. What is left of the terms has the same aggregates. Assumes nothing.
+-- `nodes::aggregates::next_aggregate` meets its contract. What is left of the terms has the same aggregates. Assumes nothing.
 use Prim.Native.Nat.{_+_, _-_}
 use lib.ListN.{length}
 use Rattle.nodes.specs.Parts.{aggregatesIn}

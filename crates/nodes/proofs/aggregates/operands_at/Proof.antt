@@ -1,7 +1,5 @@
--- `walk::places::operands_at` meets its contract. Assumes nothing.
-use native.Mathlib.Omega.{arith}
+-- `nodes::aggregates::operands_at` meets its contract. Assumes nothing.
 use borrow.Author.Needs.{needs}
-use Rattle.nodes.specs.Laws.Pieces.{comparison-index}
 use Rattle.nodes.proofs.TermsLeft.{operands-here}
 use Rattle.nodes.proofs.aggregates.operands_at.Statement.{statement}
 use Rattle.nodes.proofs.aggregates.operands_at.Tie as tie
@@ -9,4 +7,4 @@ use Rattle.nodes.proofs.aggregates.operands_at.Tie as tie
 ruleset steps = (needs, operands-here)
 
 pub operands-at-spec : {M : Type 1} → statement M
-operands-at-spec = tie.close (tie.spec (λ c. omega (arith, comparison-index _ _ (c .pre .0) (c .pre .1))) (λ c. search steps))
+operands-at-spec = tie.close (tie.spec (λ c κs. search steps) (λ c. search steps))

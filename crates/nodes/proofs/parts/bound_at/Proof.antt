@@ -1,4 +1,4 @@
--- `walk::places::bound_at` meets its contract. Assumes nothing.
+-- `nodes::parts::bound_at` meets its contract. Assumes nothing.
 use Rattle.nodes.specs.Laws.Binders.{at-binder}
 use Rattle.nodes.proofs.parts.bound_at.Statement.{statement}
 use Rattle.nodes.proofs.parts.bound_at.Tie as tie

@@ -8,10 +8,10 @@ use Rattle.sums.proofs.Visiting.{visits}
 use Rattle.sums.proofs.terms.in_term.Reads as in-term
 use Rattle.sums.proofs.terms.in_term.Kinds as in-term-kinds
 use Rattle.sums.proofs.terms.+in_term.Lts-in_term as in-term-lts
-use Rattle.nodes.proofs.aggregate_at.Reads as aggregate-at-reads
 use Rattle.nodes.proofs.aggregate_kind_at.Reads as aggregate-kind-at-reads
 use Rattle.nodes.proofs.arith_at.Reads as arith-at-reads
 use Rattle.nodes.proofs.term_kind_at.Reads as term-kind-at-reads
+use Rattle.nodes.proofs.term_part.Reads as term-part-reads
 use Rattle.sums.proofs.summand.in_sum.Reads as in-sum-reads
 use Rattle.sums.proofs.terms.+in_term.{statement}
 use Rattle.sums.proofs.terms.+in_term.Tie.{close}
@@ -27,7 +27,7 @@ abbrev in-term-below : ℕ → In 3 in-term-kinds.ps
 in-term-below t = and 3 in-term-kinds.ps (falls 3 in-term-kinds.ps _<_ μ-in-term t) in-term.Pre
 
 abbrev in-term-given : ℕ → in-term-lts.Claims
-in-term-given t = (term-kind-at-reads.Asked, term-kind-at-reads.Learnt, arith-at-reads.Asked, arith-at-reads.Learnt, in-term-below t, in-term.Post, aggregate-at-reads.Asked, aggregate-at-reads.Learnt, aggregate-kind-at-reads.Asked, aggregate-kind-at-reads.Learnt, in-sum-reads.Asked, in-sum-reads.Learnt)
+in-term-given t = (term-kind-at-reads.Asked, term-kind-at-reads.Learnt, arith-at-reads.Asked, arith-at-reads.Learnt, in-term-below t, in-term.Post, term-part-reads.Asked, term-part-reads.Learnt, aggregate-kind-at-reads.Asked, aggregate-kind-at-reads.Learnt, in-sum-reads.Asked, in-sum-reads.Learnt)
 
 in-term-met : {M : Type 1} (t : ℕ) → in-term-lts.Closed (in-term-given t) (in-term-at t) in-term.Post M
 in-term-met t =

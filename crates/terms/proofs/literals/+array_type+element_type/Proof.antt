@@ -11,6 +11,7 @@ use Rattle.terms.proofs.literals.element_type.Kinds as element-type-kin
 use Rattle.terms.proofs.literals.+array_type+element_type.Lts-element_type as element-type-lts
 use Rattle.nodes.proofs.past_term.Reads as past-term-reads
 use Rattle.nodes.proofs.term_kind_at.Reads as term-kind-at-reads
+use Rattle.nodes.proofs.term_part.Reads as term-part-reads
 use Rattle.names.proofs.byte_at.Reads as byte-at-reads
 use Rattle.terms.proofs.literals.array_of.Reads as array-of-reads
 use Rattle.terms.proofs.literals.leaf_type.Reads as leaf-type-reads
@@ -63,15 +64,15 @@ array-type-met t =
 
 -- element-type
 abbrev element-type-given : ℕ → element-type-lts.Claims
-element-type-given t = (term-kind-at-reads.Asked, term-kind-at-reads.Learnt, array-type-below t, array-type.Post, leaf-type-reads.Asked, leaf-type-reads.Learnt, past-term-reads.Asked, past-term-reads.Learnt)
+element-type-given t = (term-kind-at-reads.Asked, term-kind-at-reads.Learnt, term-part-reads.Asked, term-part-reads.Learnt, array-type-below t, array-type.Post, leaf-type-reads.Asked, leaf-type-reads.Learnt, past-term-reads.Asked, past-term-reads.Learnt)
 
 element-type-met : {M : Type 1} (t : ℕ) → element-type-lts.Closed (element-type-given t) (element-type-at t) element-type.Post M
 element-type-met t =
     element-type-lts.spec (element-type-given t) (element-type-at t) element-type.Post
     (λ c κs. search of-elements)
-    (λ c. search of-elements)
-    (λ c. search of-elements)
     (λ c κs. search of-elements)
+    (λ c. search of-elements)
+    (λ c κs. (search of-elements, (search of-elements, (search of-elements, search of-elements))))
     (λ c. search of-elements)
     (λ c κs. search of-elements)
     (λ c κs. search of-elements)

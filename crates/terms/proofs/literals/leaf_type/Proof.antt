@@ -8,7 +8,7 @@ leaf-type-spec =
     tie.close
     (tie.spec
     (λ c κs. search leaves)
-    (λ c. search leaves)
+    (λ c κs. search leaves)
     (λ c κs. search leaves)
     (λ c. search leaves)
     (λ c κs. search leaves)

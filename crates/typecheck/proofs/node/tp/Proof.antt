@@ -6,8 +6,8 @@ use Rattle.typecheck.proofs.node.tp.Tie as tie
 span-at-requires : tie.Need-span-at-requires
 span-at-requires c κs = search tps
 
-timepoint-at-requires : tie.Need-timepoint-at-requires
-timepoint-at-requires c κs = search tps
+first-part-requires : tie.Need-first-part-requires
+first-part-requires c κs = search tps
 
 timepoint-breaches-requires : tie.Need-timepoint-breaches-requires
 timepoint-breaches-requires c κs = search tps
@@ -23,7 +23,7 @@ tp-spec =
     tie.close
     (tie.spec
     span-at-requires
-    timepoint-at-requires
+    first-part-requires
     timepoint-breaches-requires
     same-length
     returns)

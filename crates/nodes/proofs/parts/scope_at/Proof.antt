@@ -1,9 +1,0 @@
--- `nodes::parts::scope_at` meets its contract. Assumes nothing.
-use native.Mathlib.Omega.{arith}
-use Rattle.nodes.specs.Laws.Opens.{term-index}
-use Rattle.nodes.specs.Laws.Pieces.{pieces}
-use Rattle.nodes.proofs.parts.scope_at.Statement.{statement}
-use Rattle.nodes.proofs.parts.scope_at.Tie as tie
-
-pub scope-at-spec : {M : Type 1} → statement M
-scope-at-spec = tie.close (tie.spec (λ c. omega (arith, term-index _ _ (c .pre .0))) (λ c. search pieces))

@@ -1,9 +1,0 @@
--- `nodes::parts::timepoint_at` meets its contract. Assumes nothing.
-use native.Mathlib.Omega.{arith}
-use Rattle.nodes.specs.Laws.Opens.{condition-room}
-use Rattle.nodes.specs.Laws.Pieces.{pieces}
-use Rattle.nodes.proofs.parts.timepoint_at.Statement.{statement}
-use Rattle.nodes.proofs.parts.timepoint_at.Tie as tie
-
-pub timepoint-at-spec : {M : Type 1} → statement M
-timepoint-at-spec = tie.close (tie.spec (λ c. omega (arith, condition-room _ _ (c .pre .0))) (λ c. search pieces))

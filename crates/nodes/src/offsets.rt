@@ -1,0 +1,35 @@
+// Where the first part of a node stands. What stands there, by the kind of the node, is said by the laws of `specs/Laws/Inside`.
+ghost use mathlib.Core.Path.{_≡_};
+ghost use mathlib.Core.Bool.{true};
+ghost use Prim.Native.Nat.{_+_, _≤_, _<_};
+ghost use Rattle.condition.specs.Places.{isCondition, isTerm, isAggregate};
+ghost use Rattle.nodes.specs.Offsets.{firstPart, termPart, aggregatePart};
+
+// In a condition: a condition, a binder, a slot, a comparison's left operand.
+pub fn first_part(s: &[u8], at: usize) -> usize
+    requires { ⌜ isCondition (now s) at ≡ true ⌝ }
+    ensures { λ p. ⌜ p ≡ firstPart (now (s .entry)) at ⌝ }
+    ensures { λ p. ⌜ at + 9 ≤ p ⌝ }
+{
+    if s[at] == 8 {
+        return at + 10;
+    }
+    at + 9
+}
+
+// In a term: a name, a path, the count of an array's elements, an aggregate, an arithmetic's left operand.
+pub fn term_part(s: &[u8], at: usize) -> usize
+    requires { ⌜ isTerm (now s) at ≡ true ⌝ }
+    ensures { λ p. ⌜ p ≡ termPart (now (s .entry)) at ⌝ }
+    ensures { λ p. ⌜ at < p ⌝ }
+{
+    at + 1
+}
+
+// In an aggregate: a Sum's slot, the count of a Count's binders.
+pub fn aggregate_part(s: &[u8], at: usize) -> usize
+    requires { ⌜ isAggregate (now s) at ≡ true ⌝ }
+    ensures { λ p. ⌜ p ≡ aggregatePart (now (s .entry)) at ⌝ }
+{
+    at + 9
+}
