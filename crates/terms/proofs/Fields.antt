@@ -168,8 +168,8 @@ module _ (s : List ℕ) (a at : ℕ) (there : Standing (isType s) (typeIn s) (ac
 pub ruleset fields = (needs, fields-stand, field-stands, field-none, field-missing, field-found, input-none, input-missing, input-found)
 
 -- A declared action stands in the schema.
-pub action-stands : (s : List ℕ) (facts : Facts) (p : ℕ) → facts .action ≡ Found.At p → foundStands (isAction s) (facts .action) ≡ true → isAction s p ≡ true
-action-stands s facts p e h = rw e at h
+pub action-stands : (s : List ℕ) (action : Found) (p : ℕ) → action ≡ Found.At p → foundStands (isAction s) action ≡ true → isAction s p ≡ true
+action-stands s action p e h = rw e at h
 
 -- A name that no binder declares, under a declared action and under none.
 module _ (s : List ℕ) (facts : Facts) (name : List ℕ) where

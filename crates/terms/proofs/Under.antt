@@ -56,23 +56,22 @@ pub facts-mean : (s c n : List ℕ) (found : Found) (common : Common) (f : Facts
 facts-mean s c n found common f k = λ i. record { schema = schemaIn s; scope = k .scope i; action = foundIn (actionIn s) (k .action i); binders = binders (recordIn c) }
 
 -- Under a declared action, and under none.
-module _ (s c : List ℕ) (at : ℕ) (facts : Facts) where
-  pub context-undeclared : facts .action ≡ Found.Absent → TypeOf s c (contextType (foundIn (actionIn s) (facts .action)) (pathIn c at)) Nothing
+module _ (s c : List ℕ) (at : ℕ) where
+  pub context-undeclared : (action : Found) → action ≡ Found.Absent → TypeOf s c (contextType (foundIn (actionIn s) action) (pathIn c at)) Nothing
   unfolding contextType
-  context-undeclared e = nothing-typed s c (rw e)
+  context-undeclared action e = nothing-typed s c (rw e)
 
-  pub scope-undeclared : (n : List ℕ) → facts .action ≡ Found.Absent → TypeOf s c (scopeFieldType (factsIn s c n facts) (pathIn c at)) Nothing
+  pub scope-undeclared : (facts : Facts) (n : List ℕ) → facts .action ≡ Found.Absent → TypeOf s c (scopeFieldType (factsIn s c n facts) (pathIn c at)) Nothing
   unfolding scopeFieldType
-  scope-undeclared n e = nothing-typed s c (rw e)
+  scope-undeclared facts n e = nothing-typed s c (rw e)
 
-  module _ (p : ℕ) (e : facts .action ≡ Found.At p) where
-    module _ (row : Row) (l : SegmentsOf c at row) (r : Typed) where
-      pub context-declared : typedOf s c r ≡ contextType (some (actionIn s p)) (resolution.segmentsIn c row) → smallType (typedOf s c r) → TypeOf s c (contextType (foundIn (actionIn s) (facts .action)) (pathIn c at)) r
-      context-declared h small = record { value = rw (e, ← l .value) h; small = small }
+  module _ (p : ℕ) (row : Row) (l : SegmentsOf c at row) (r : Typed) where
+    pub context-declared : (action : Found) → action ≡ Found.At p → typedOf s c r ≡ contextType (some (actionIn s p)) (resolution.segmentsIn c row) → smallType (typedOf s c r) → TypeOf s c (contextType (foundIn (actionIn s) action) (pathIn c at)) r
+    context-declared action e h small = record { value = rw (e, ← l .value) h; small = small }
 
-      pub scope-declared : (n : List ℕ) → TypeOf s c (rootType (factsIn s c n facts) (actionIn s p) (resolution.segmentsIn c row)) r → TypeOf s c (scopeFieldType (factsIn s c n facts) (pathIn c at)) r
-      unfolding scopeFieldType
-      scope-declared n h = record { value = h .value ∙ ap (rootType (factsIn s c n facts) (actionIn s p)) (l .value) ∙ rw e; small = h .small }
+    pub scope-declared : (facts : Facts) → facts .action ≡ Found.At p → (n : List ℕ) → TypeOf s c (rootType (factsIn s c n facts) (actionIn s p) (resolution.segmentsIn c row)) r → TypeOf s c (scopeFieldType (factsIn s c n facts) (pathIn c at)) r
+    unfolding scopeFieldType
+    scope-declared facts e n h = record { value = h .value ∙ ap (rootType (factsIn s c n facts) (actionIn s p)) (l .value) ∙ rw e; small = h .small }
 
 pub ruleset paths = (needs, context-undeclared, scope-undeclared, action-stands, context-declared, scope-declared)
 

@@ -11,6 +11,7 @@ use names::Row;
 use resolution::Typed;
 pub use target::facts_of;
 use targets::Narrowed;
+pub use term::context_field_type;
 pub use term::term_type;
 use types::Rich;
 

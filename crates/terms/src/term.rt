@@ -28,13 +28,12 @@ fn segments(condition: &[u8], at: usize) -> Row
     }
 }
 
-// The type of a path into the context of the target's action.
-fn context_field_type(schema: &[u8], condition: &[u8], facts: Facts, at: usize) -> Typed
-    requires { ⌜ foundStands (isAction (now schema)) (facts .action) ≡ true ⌝ }
+// The type of a path into an action's context; an undeclared action has none.
+pub fn context_field_type(schema: &[u8], condition: &[u8], action: Found, at: usize) -> Typed
+    requires { ⌜ foundStands (isAction (now schema)) action ≡ true ⌝ }
     requires { ⌜ isPath (now condition) at ≡ true ⌝ }
-    ensures { λ r. ⌜ TypeOf (now (schema .entry)) (now (condition .entry)) (contextType (foundIn (actionIn (now (schema .entry))) (facts .action)) (pathIn (now (condition .entry)) at)) r ⌝ }
+    ensures { λ r. ⌜ TypeOf (now (schema .entry)) (now (condition .entry)) (contextType (foundIn (actionIn (now (schema .entry))) action) (pathIn (now (condition .entry)) at)) r ⌝ }
 {
-    let action = facts.action;
     let Found::At(p) = action else {
         return Typed::Nothing;
     };
@@ -88,7 +87,8 @@ pub fn term_type<'a>(
     let kind = nodes::term_kind_at(condition, at);
     let part = nodes::term_part(condition, at);
     if kind == 6 {
-        return context_field_type(schema, condition, facts, part);
+        let action = facts.action;
+        return context_field_type(schema, condition, action, part);
     }
     if kind == 7 {
         return scope_field_type(schema, condition, targets, facts, part);

@@ -7,7 +7,7 @@ use crate::Test;
 use crate::tags::tag_bytes;
 ghost use mathlib.Core.Path.{_≡_};
 ghost use mathlib.Core.Option.{some};
-ghost use Rattle.types.specs.Types.{rank, entity, sameType, accepts, compatible, isNumeric};
+ghost use Rattle.types.specs.Types.{rank, scalar, entity, timepoint, sameType, accepts, compatible, isNumeric};
 ghost use Rattle.types.specs.Meaning.{scalarOf, tagOf, baseOf, richOf};
 ghost use Rattle.types.specs.Rules.{anyTags, loose, tagsBy, fitsBy, plainFits, untaggedFits, anyArrayFits, mixedArrayFits, unknownFits};
 
@@ -193,4 +193,14 @@ pub fn is_numeric<'a>(schema: &'a [u8], condition: &'a [u8], t: Rich) -> bool
         base: Base::Plain(Scalar::Long),
     };
     equal(schema, condition, t, long)
+}
+
+pub fn is_timepoint<'a>(schema: &'a [u8], condition: &'a [u8], t: Rich) -> bool
+    ensures { λ r. ⌜ r ≡ sameType (richOf (now (schema .entry)) (now (condition .entry)) t) (scalar timepoint) ⌝ }
+{
+    let timepoint = Rich {
+        layers: 0,
+        base: Base::Plain(Scalar::Timepoint),
+    };
+    equal(schema, condition, t, timepoint)
 }

@@ -7,6 +7,7 @@ pub use fitting::accepts;
 pub use fitting::compatible;
 pub use fitting::equal;
 pub use fitting::is_numeric;
+pub use fitting::is_timepoint;
 pub use tags::tag_bytes;
 pub use texts::display;
 pub use texts::render;
