@@ -3,3 +3,4 @@ pub mod OneType
 pub mod AllTypes
 pub mod Texts
 pub mod Rendered
+pub mod Namespaces

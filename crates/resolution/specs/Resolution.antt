@@ -4,12 +4,12 @@ use mathlib.Core.Bool.{Bool, true, false, cond, _&&_, _||_}
 use mathlib.Core.List.{List, [], _∷_}
 use mathlib.Core.Option.{Option, none, some}
 use Rattle.names.specs.Lists.{maybe, first, anyOf, every, select}
-use Rattle.names.specs.Names.{same, below, simpleName}
+use Rattle.names.specs.Names.{same, below, simpleName, joined}
 use Rattle.names.specs.Text.{text}
 use Rattle.types.specs.Types as types
 use Rattle.types.specs.Types.{Ty, scalar, render, sameType}
 use Rattle.schema.specs.Schema.{Schema, Action, EntityType, Declared, Attributes}
-use Rattle.schema.specs.Find.{findEntity, findAttribute, fieldsOf, richType}
+use Rattle.schema.specs.Find.{findAction, findEntity, findAttribute, fieldsOf, richType}
 use Rattle.targets.specs.Targets.{Narrowing, Scope, any, isType, uid}
 
 -- how an attribute path ends on one type (the `Result` of `resolve_one`)
@@ -181,3 +181,13 @@ unfoldable pub scopePath : Schema → Option Narrowing → List (List ℕ) → L
 scopePath s n candidates [] = unknown
 scopePath s n candidates (segment ∷ rest) =
     maybe unknown (λ es. verdict (onTypes segment rest es)) (declaredAll s (admitted s n candidates))
+
+-- `predicate_namespace`: a predicate's path without a last `Action`
+unfoldable pub withoutAction : List (List ℕ) → List (List ℕ)
+withoutAction [] = []
+withoutAction (w ∷ []) = cond (same (simpleName w) (text "Action")) [] (w ∷ [])
+withoutAction (w ∷ (v ∷ rest)) = w ∷ withoutAction (v ∷ rest)
+
+-- the action that a predicate names
+unfoldable pub predicateAction : Schema → List (List ℕ) → List ℕ → Option Action
+predicateAction s ns name = findAction s (joined (withoutAction ns)) name

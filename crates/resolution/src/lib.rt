@@ -4,6 +4,7 @@ mod along;
 mod entity;
 mod listing;
 mod ordering;
+mod predicates;
 mod scope;
 
 pub use all::resolve_scope_path;
@@ -16,6 +17,7 @@ pub use entity::resolve_one;
 pub use listing::next_failing;
 use names::Row;
 pub use ordering::next_rendering;
+pub use predicates::predicate_action;
 pub use scope::admits;
 pub use scope::admits_any_env;
 pub use scope::next_admitted;
