@@ -7,7 +7,7 @@ use program::print_number;
 // The record that the bytes have the mark of, if there is one.
 fn kind_named(table: &[u8], bytes: &[u8], kind: Kind) {
     if offence::has_mark(kind, bytes) {
-        layout::say(table, b'R', names::wide(offence::record_of(kind)));
+        layout::say(table, b'X', names::wide(offence::record_of(kind)));
         print(b", ");
     }
 }
@@ -62,6 +62,6 @@ pub fn show(table: &[u8], bytes: &[u8], kind: Kind, number: u8) {
     print(b"\nrefused ");
     print_number(names::wide(number));
     print(b": ");
-    layout::say(table, b'X', names::wide(number));
+    layout::say(table, b'Y', names::wide(number));
     shown_place(table, bytes, kind, number);
 }
