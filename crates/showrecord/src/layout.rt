@@ -1,5 +1,6 @@
 // The layout of the four records and the words for what their bytes say; the walk over an accepted record by it.
 use program::print;
+use program::print_between;
 use program::print_number;
 ghost use mathlib.Core.Path.{_≡_};
 ghost use lib.ListN.{length};
@@ -182,12 +183,6 @@ fn span(s: &[u8], at: usize) -> usize {
     forward(at, 8)
 }
 
-fn count(n: usize) {
-    print(b" (");
-    print_number(n);
-    print(b")");
-}
-
 // What a mark that names no rule stands for; the place behind it.
 fn value(s: &[u8], mark: u8, at: usize, depth: usize, turn: usize) -> usize {
     if mark == b'@' {
@@ -232,12 +227,12 @@ fn refer<'a>(table: &'a [u8], s: &'a [u8], here: usize, at: usize, depth: usize)
     let letter = byte(table, forward(here, 1));
     let b = names::byte_at(s, at);
     if mark == b'#' {
-        count(b);
+        print_between(b" (", b, b")");
         return named(here, forward(at, 1), depth, choice(table, letter, 0), b);
     }
     if mark == b'%' {
         let n = names::u16_at(s, at);
-        count(n);
+        print_between(b" (", n, b")");
         return named(here, forward(at, 2), depth, choice(table, letter, 0), n);
     }
     if mark == b'*' {
@@ -345,9 +340,7 @@ fn last(at: usize, long: usize) {
 pub fn show<'a>(table: &'a [u8], s: &'a [u8], record: u8) {
     line(0, 0);
     say(table, b'X', names::wide(record));
-    print(b", version 1, ");
-    print_number(s.len());
-    print(b" bytes");
+    print_between(b", version 1, ", s.len(), b" bytes");
     let start = choice(table, std::num::wrapping_add_u8(b'@', record), 0);
     last(items(table, s, start, 5, 0, 0, DEEPEST), s.len());
 }
