@@ -88,6 +88,13 @@ pub fn print_number(n: usize) {
     io::print_decimal(STDOUT_FILENO, n as u64);
 }
 
+// A number between two words.
+pub fn print_between(before: &[u8], n: usize, after: &[u8]) {
+    print(before);
+    print_number(n);
+    print(after);
+}
+
 // The 32-bit number at a place; nothing where there are not so many bytes.
 pub fn print_u32(s: &[u8], at: usize) {
     if s.len() <= at {
@@ -106,9 +113,7 @@ pub fn print_byte(b: usize) {
 
 // The line of a refusal: its number and the record.
 pub fn print_refusal(number: u8, which: u8) {
-    print(b"refused ");
-    print_number(number as usize);
-    print(b" ");
+    print_between(b"refused ", number as usize, b" ");
     print_number(which as usize);
     print(b"\n");
 }

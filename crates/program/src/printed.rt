@@ -1,6 +1,6 @@
 // The reports of a run, printed.
 use crate::print;
-use crate::print_number;
+use crate::print_between;
 use crate::print_refusal;
 use crate::print_u32;
 ghost use mathlib.Core.Path.{_≡_};
@@ -21,9 +21,7 @@ pub fn print_run(number: u8, which: u8, count: usize, out: &[u8]) {
         print_refusal(number, which);
         return;
     }
-    print(b"reports ");
-    print_number(count);
-    print(b"\n");
+    print_between(b"reports ", count, b"\n");
     print_reports(out, count);
 }
 

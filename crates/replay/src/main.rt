@@ -7,6 +7,7 @@ use dogwood::Answer;
 use operands::Operand;
 use program::Loaded;
 use program::print;
+use program::print_between;
 use program::print_number;
 ghost use mathlib.Core.Path.{_≡_};
 ghost use lib.ListN.{length};
@@ -269,16 +270,13 @@ fn all(list: &[u8]) -> Tally {
 // `NAME: 12 cases, 0 differ`, and where some differ which is the first.
 fn told(file: &[u8], tally: Tally) {
     print(file);
-    print(b": ");
-    print_number(tally.cases);
-    print(b" cases, ");
-    print_number(tally.differ);
-    print(b" differ");
-    if tally.differ > 0 {
-        print(b", first case ");
-        print_number(tally.first);
+    print_between(b": ", tally.cases, b" cases, ");
+    if tally.differ == 0 {
+        print(b"0 differ\n");
+        return;
     }
-    print(b"\n");
+    print_number(tally.differ);
+    print_between(b" differ, the first is case ", tally.first, b"\n");
 }
 
 // Runs the cases of a file, and prints how they went.

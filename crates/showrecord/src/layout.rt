@@ -1,48 +1,49 @@
 // The layout of the four records and the words for what their bytes say; the walk over an accepted record by it.
 use program::print;
+use program::print_between;
 use program::print_number;
 ghost use mathlib.Core.Path.{_≡_};
 ghost use lib.ListN.{length};
 
-// A rule stands on a line: its letter, `=`, and its items. Bars part the choices of a rule, which stand by the format's numbers.
-// An item is a word, which is printed, or a mark:
+// A rule stands on a line: its letter, `=`, and its items. The lines stand by their letters, from A on. Bars part the choices of a
+// rule, which stand by the format's numbers. An item is a word of letters and blanks, which is printed, or a mark:
 //
 //     @   a new line: the place, then two blanks for each depth         +   what follows is one deeper
 //     `   a string, in backquotes                                       ~   a span
-//     $   a byte, as a number                                           .   a byte that is not shown here
+//     /   a byte, as a number                                           :   which turn of a count this is, from 0 on
 //     #X  a count, and so often the rule X                              %X  the same of a count in two bytes
 //     ?X  a byte, and its choice of the rule X                          &X  the rule X, once
-//     /X  where the byte is 0 that byte and the first choice of X, else the second
-//     *X  the choice of X of the byte behind the span that follows, as a word
-//     ^   which turn of a count this is, from 0 on                      [   the mark and the version
+//     (X  where the byte is 0 that byte and the first choice of X, else the second
+//     *X  a span and the byte behind it, whose choice of X is printed first, as a word
 //
-// 1 to 4 are the records. R has their names, X says why one is refused and, behind a semicolon, what ends where that shows.
-pub const TABLE: [u8; 1878] = *b"
-1=[+@entity types%E@actions%F
-2=[+@?C
-3=[+@principal narrowing ?M@resource narrowing ?M@targets#H
-4=[+@scope?L@path#I@position of the target $
-A=+@attribute `+@?T
-B=+@binder?S+@annotation/J
-C=-|and~+@?C@?C|or~+@?C@?C|not~+@?C|formerly~+@?C|previous~+@?C|since~+@?C@?C|predicate~+@own~@namespace#N@action `@arguments#G|comparison*O~.+@?V@?V|exists~&B+@?C|tp~+@slot?S|call~|SigilRef~|refine~+@?C
-E=+@entity type `+@ancestors#N@attributes#A
-F=+@action of type `+@id `@principals#N@resources#N@context ?T
-G=+@argument `+@field path#I@?V
-H=+@target ^/K+@id `
-I= `
-J= timepoint|#I
-K= without namespace| namespace `
-L= principal| resource
-M=none|any|is type `|uid of type `|uid with membership of type `
-N=+@`
+// A to D are what stands behind the version of the four records. X has their names, Y says why a record is refused and, behind
+// a semicolon, what ends where that shows; each choice of a rule that is said as a word has a bar behind it.
+pub const TABLE: [u8; 1872] = *b"
+A=+@entity types%E@actions%H
+B=+@?J
+C=+@principal narrowing ?T@resource narrowing ?T@targets#U
+D=+@scope?W@path#L@position of the target /
+E=+@entity type `+@ancestors#I@attributes#F
+F=+@attribute `+@?G
+G=Long|String|Bool|extension `|set+@?G|set without element|record#F|entity `|several entities|any entity|Never
+H=+@action of type `+@id `@principals#I@resources#I@context ?G
+I=+@`
+J=-|and~+@?J@?J|or~+@?J@?J|not~+@?J|formerly~+@?J|previous~+@?J|since~+@?J@?J|predicate~+@own~@namespace#I@action `@arguments#K|comparison*O+@?Q@?Q|exists~&N+@?J|tp~+@slot?M|call~|SigilRef~|refine~+@?J
+K=+@argument `+@field path#L@?Q
+L= `
+M= `| ParamRef| BinderRef
+N=+@binder?M+@annotation(P
 O= <=| <| >=| >| ==| !=|
-R=-|schema record|condition record|targets record|path record|
-S= `| ParamRef| BinderRef
-T=Long|String|Bool|extension `|set+@?T|set without element|record#A|entity `|several entities|any entity|Never
-U=+@?V
-V=-|entity `|integer|decimal|string|boolean|context field#I|scope field#I|variable `|wildcard|array#U|aggregate?W|arithmetic+@?V@?V|ParamRef|BinderRef
-W=-| sum~+@summand?S@binders#B@?C| count~+@binders#B@?C| call~
-X=-|the record has more than 32,768 bytes|the bytes end before a field does; they end|the first three bytes are no record's mark (DWS, DWC, DWT, DWP); the field that shows it ends|the version is not 1; the field that shows it ends|a kind, type, operator or other choice byte is not defined; the field that shows it ends|a string is not of its class: the path name, the identifier or the plain text that must stand there; the field that shows it ends|conditions, terms or types are nested deeper than 32 levels; the field that shows it ends|the names of a list do not ascend; the field that shows it ends|an aggregate stands below an array; the field that shows it ends|bytes stand behind the end of the record; the record ends|
+P= timepoint|#L
+Q=-|entity `|integer|decimal|string|boolean|context field#L|scope field#L|variable `|wildcard|array#R|aggregate?S|arithmetic+@?Q@?Q|ParamRef|BinderRef
+R=+@?Q
+S=-| sum~+@summand?M@binders#N@?J| count~+@binders#N@?J| call~
+T=none|any|is type `|uid of type `|uid with membership of type `
+U=+@target :(V+@id `
+V= without namespace| namespace `
+W= principal| resource
+X=-|schema record|condition record|targets record|path record|
+Y=-|the record has more than 32,768 bytes|the bytes end before a field does; they end|the first three bytes are no record's mark (DWS, DWC, DWT, DWP); the field that shows it ends|the version is not 1; the field that shows it ends|a kind, type, operator or other choice byte is not defined; the field that shows it ends|a string is not of its class: the path name, the identifier or the plain text that must stand there; the field that shows it ends|conditions, terms or types are nested deeper than 32 levels; the field that shows it ends|the names of a list do not ascend; the field that shows it ends|an aggregate stands below an array; the field that shows it ends|bytes stand behind the end of the record; the record ends|
 ";
 
 // No accepted record is as deep: it has 32 levels, and each adds at most three rules.
@@ -72,16 +73,10 @@ fn byte(table: &[u8], at: usize) -> u8 {
 }
 
 fn is_mark(b: u8) -> bool {
-    if b < 32 {
-        return true;
+    if b < 65 {
+        return b != b' ';
     }
-    if 34 < b && b < 48 {
-        return true;
-    }
-    if 62 < b && b < 65 {
-        return true;
-    }
-    if 90 < b && b < 97 {
+    if b == b'`' {
         return true;
     }
     122 < b
@@ -99,46 +94,36 @@ fn word_end(table: &[u8], start: usize) -> usize {
     at
 }
 
-// How many bars are left behind a byte.
-fn bars_left(left: usize, b: u8) -> usize {
-    if b == b'|' && 0 < left {
+// How many separators are left behind a byte.
+fn left_behind(b: u8, separator: u8, left: usize) -> usize {
+    if b == separator && 0 < left {
         return left - 1;
     }
     left
 }
 
-// Where the choice stands that so many bars part from a place.
-fn choice(table: &[u8], start: usize, bars: usize) -> usize {
+// The place behind so many separators.
+fn behind(table: &[u8], start: usize, separator: u8, count: usize) -> usize {
     let mut at = start;
-    let mut left = bars;
+    let mut left = count;
     while at < table.len() && 0 < left {
-        left = bars_left(left, table[at]);
+        left = left_behind(table[at], separator, left);
         at += 1;
     }
     at
 }
 
-// Whether the line behind the byte at a place is the rule of a letter.
-fn begins(table: &[u8], at: usize, letter: u8) -> bool {
-    byte(table, at) == b'\n' && byte(table, forward(at, 1)) == letter
-}
-
-// Where the items of the rule of a letter stand.
-fn rule(table: &[u8], letter: u8) -> usize {
-    let mut at = 0;
-    while at < table.len() {
-        if begins(table, at, letter) {
-            return forward(at, 3);
-        }
-        at += 1;
-    }
-    at
+// Where a choice of the rule of a letter stands.
+fn choice(table: &[u8], letter: u8, number: usize) -> usize {
+    let line = names::wide(std::num::wrapping_sub_u8(letter, b'@'));
+    let rule = forward(behind(table, 0, b'\n', line), 2);
+    behind(table, rule, b'|', number)
 }
 
 // A choice of a rule, as a word.
 pub fn say(table: &[u8], letter: u8, number: usize) {
-    let start = choice(table, rule(table, letter), number);
-    let next = choice(table, start, 1);
+    let start = choice(table, letter, number);
+    let next = behind(table, start, b'|', 1);
     let long = std::num::wrapping_sub_usize(next, forward(start, 1));
     print(names::part_of(table, start, long));
 }
@@ -198,20 +183,6 @@ fn span(s: &[u8], at: usize) -> usize {
     forward(at, 8)
 }
 
-// What stands behind the name of a record; the place behind the version.
-fn version(s: &[u8]) -> usize {
-    print(b", version 1, ");
-    print_number(s.len());
-    print(b" bytes");
-    5
-}
-
-fn count(n: usize) {
-    print(b" (");
-    print_number(n);
-    print(b")");
-}
-
 // What a mark that names no rule stands for; the place behind it.
 fn value(s: &[u8], mark: u8, at: usize, depth: usize, turn: usize) -> usize {
     if mark == b'@' {
@@ -224,16 +195,11 @@ fn value(s: &[u8], mark: u8, at: usize, depth: usize, turn: usize) -> usize {
     if mark == b'~' {
         return span(s, at);
     }
-    if mark == b'[' {
-        return version(s);
-    }
-    if mark == b'^' {
+    if mark == b':' {
         print_number(turn);
         return at;
     }
-    if mark == b'$' {
-        print_number(names::byte_at(s, at));
-    }
+    print_number(names::byte_at(s, at));
     forward(at, 1)
 }
 
@@ -249,47 +215,40 @@ fn named(here: usize, at: usize, depth: usize, rule: usize, count: usize) -> Ite
 }
 
 fn names_rule(mark: u8) -> bool {
-    if mark == b'/' {
-        return true;
-    }
     if mark == b'?' {
         return true;
     }
-    if mark == b'*' {
-        return true;
-    }
-    mark == b'#' || mark == b'%' || mark == b'&'
+    mark < b'+'
 }
 
-// What a mark that names a rule shows of itself, and the rule.
+// What a mark that names a rule shows of itself, and the choice of the rule.
 fn refer<'a>(table: &'a [u8], s: &'a [u8], here: usize, at: usize, depth: usize) -> Item {
     let mark = byte(table, here);
     let letter = byte(table, forward(here, 1));
-    let start = rule(table, letter);
     let b = names::byte_at(s, at);
     if mark == b'#' {
-        count(b);
-        return named(here, forward(at, 1), depth, start, b);
+        print_between(b" (", b, b")");
+        return named(here, forward(at, 1), depth, choice(table, letter, 0), b);
     }
     if mark == b'%' {
         let n = names::u16_at(s, at);
-        count(n);
-        return named(here, forward(at, 2), depth, start, n);
+        print_between(b" (", n, b")");
+        return named(here, forward(at, 2), depth, choice(table, letter, 0), n);
     }
     if mark == b'*' {
         say(table, letter, names::byte_at(s, forward(at, 8)));
-        return named(here, at, depth, start, 0);
+        return named(here, forward(span(s, at), 1), depth, 0, 0);
     }
     if mark == b'?' {
-        return named(here, forward(at, 1), depth, choice(table, start, b), 1);
+        return named(here, forward(at, 1), depth, choice(table, letter, b), 1);
     }
     if mark == b'&' {
-        return named(here, at, depth, start, 1);
+        return named(here, at, depth, choice(table, letter, 0), 1);
     }
     if b == 0 {
-        return named(here, forward(at, 1), depth, start, 1);
+        return named(here, forward(at, 1), depth, choice(table, letter, 0), 1);
     }
-    named(here, at, depth, choice(table, start, 1), 1)
+    named(here, at, depth, choice(table, letter, 1), 1)
 }
 
 // An item that names none.
@@ -313,18 +272,19 @@ fn open<'a>(
     turn: usize,
 ) -> Item {
     let mark = byte(table, here);
+    if !is_mark(mark) {
+        let end = word_end(table, here);
+        let long = std::num::wrapping_sub_usize(end, here);
+        print(names::part_of(table, here, long));
+        return plain(end, at, depth);
+    }
     if names_rule(mark) {
         return refer(table, s, here, at, depth);
     }
     if mark == b'+' {
         return plain(forward(here, 1), at, forward(depth, 1));
     }
-    if is_mark(mark) {
-        return plain(forward(here, 1), value(s, mark, at, depth, turn), depth);
-    }
-    let end = word_end(table, here);
-    print(names::part_of(table, here, std::num::wrapping_sub_usize(end, here)));
-    plain(end, at, depth)
+    plain(forward(here, 1), value(s, mark, at, depth, turn), depth)
 }
 
 fn ends(mark: u8) -> bool {
@@ -376,10 +336,11 @@ fn last(at: usize, long: usize) {
     print(b"\n");
 }
 
-// The lines of an accepted record.
+// The lines of an accepted record, whose mark and version have five bytes.
 pub fn show<'a>(table: &'a [u8], s: &'a [u8], record: u8) {
     line(0, 0);
-    say(table, b'R', names::wide(record));
-    let start = rule(table, std::num::wrapping_add_u8(b'0', record));
-    last(items(table, s, start, 0, 0, 0, DEEPEST), s.len());
+    say(table, b'X', names::wide(record));
+    print_between(b", version 1, ", s.len(), b" bytes");
+    let start = choice(table, std::num::wrapping_add_u8(b'@', record), 0);
+    last(items(table, s, start, 5, 0, 0, DEEPEST), s.len());
 }

@@ -2,12 +2,12 @@
 use crate::layout;
 use offence::Kind;
 use program::print;
-use program::print_number;
+use program::print_between;
 
 // The record that the bytes have the mark of, if there is one.
 fn kind_named(table: &[u8], bytes: &[u8], kind: Kind) {
     if offence::has_mark(kind, bytes) {
-        layout::say(table, b'R', names::wide(offence::record_of(kind)));
+        layout::say(table, b'X', names::wide(offence::record_of(kind)));
         print(b", ");
     }
 }
@@ -38,9 +38,7 @@ fn shown_bytes(table: &[u8], bytes: &[u8], kind: Kind, place: usize) {
     let from = first_shown(place);
     print(b"  ");
     kind_named(table, bytes, kind);
-    print(b"from byte ");
-    print_number(from);
-    print(b":");
+    print_between(b"from byte ", from, b":");
     hexadecimal(bytes, from, place);
     print(b"\n");
 }
@@ -52,16 +50,12 @@ fn shown_place(table: &[u8], bytes: &[u8], kind: Kind, number: u8) {
         return;
     }
     let place = offence::place_of(kind, bytes);
-    print(b" before byte ");
-    print_number(place);
-    print(b"\n");
+    print_between(b" before byte ", place, b"\n");
     shown_bytes(table, bytes, kind, place);
 }
 
 pub fn show(table: &[u8], bytes: &[u8], kind: Kind, number: u8) {
-    print(b"\nrefused ");
-    print_number(names::wide(number));
-    print(b": ");
-    layout::say(table, b'X', names::wide(number));
+    print_between(b"\nrefused ", names::wide(number), b": ");
+    layout::say(table, b'Y', names::wide(number));
     shown_place(table, bytes, kind, number);
 }
