@@ -201,7 +201,10 @@ pub fn many_principals(name: &str, entities: usize, targets: usize) -> Workload 
     let compared = |_| comparison((0, 9), 1, scope_field(&["principal", "x"]), integer());
     let of = |count: usize| condition_record(joined((0..count).map(compared).collect()));
     let all = (0..targets).map(|_| target("", "000")).collect();
-    crowd(name, schema(types, vec![view]), of(most(LONGEST, of)), all, SPACE)
+    let own = crowd(name, schema(types, vec![view]), of(most(LONGEST, of)), all, SPACE);
+    let x = path(0, &["x"], 0);
+    let [s, c, t, _] = own.trees;
+    Workload { path: x.bytes(), trees: [s, c, t, x], ..own }
 }
 
 /// As many predicates as fit, of the last of as many actions as fit: what is worst for finding an action by name.
