@@ -99,6 +99,15 @@ pub fn crowded() -> Vec<Workload> {
     ]
 }
 
+/// Requests without a report that are worst for finding names: what the search for slow requests is about.
+pub fn searching() -> Vec<Workload> {
+    vec![
+        many_principals("255 principals of 2,000 entity types, 1 target", 2_000, 1),
+        many_actions("an action behind 1,700 others, 255 targets", 255),
+        behind_a_large_type("an attribute behind a large type, 255 targets", 255),
+    ]
+}
+
 /// Growing numbers of reports, from 1,360 on, for the plot.
 pub fn report_counts() -> Vec<(usize, Workload)> {
     let counted = |targets: usize| (1_360 * targets, differing("reports", 1_360, targets, 64 << 20));
@@ -180,6 +189,52 @@ fn three_each(name: &str, comparisons: usize, targets: usize, space: usize) -> W
     let condition = condition_record(joined((0..comparisons).map(compared).collect()));
     let all = (0..targets).map(|i| target("", &format!("{i:03}"))).collect();
     crowd(name, contexts(targets, context), condition, all, space)
+}
+
+/// As many comparisons as fit, each of a path on the principal, which may be of 255 of so many entity types: what is worst
+/// for finding types by name. The path resolves on all of them, and nothing is reported.
+pub fn many_principals(name: &str, entities: usize, targets: usize) -> Workload {
+    let names: Vec<String> = (0..entities).map(|i| format!("T{i:04}")).collect();
+    let types = names.iter().map(|n| entity_type(n, &NONE, attributes(vec![("x", ty(0, vec![]))]))).collect();
+    let last = &names[entities.saturating_sub(255)..];
+    let view = action("Action", "000", last, &[], record_type(vec![]));
+    let compared = |_| comparison((0, 9), 1, scope_field(&["principal", "x"]), integer());
+    let of = |count: usize| condition_record(joined((0..count).map(compared).collect()));
+    let all = (0..targets).map(|_| target("", "000")).collect();
+    let own = crowd(name, schema(types, vec![view]), of(most(LONGEST, of)), all, SPACE);
+    let x = path(0, &["x"], 0);
+    let [s, c, t, _] = own.trees;
+    Workload { path: x.bytes(), trees: [s, c, t, x], ..own }
+}
+
+/// As many predicates as fit, of the last of as many actions as fit: what is worst for finding an action by name.
+pub fn many_actions(name: &str, targets: usize) -> Workload {
+    let actions = |count: usize| {
+        let one =
+            |i: usize| action("Action", &format!("{i:04}"), &NONE, &NONE, record_type(vec![("a", ty(0, vec![]))]));
+        schema(vec![], (0..count).map(one).collect())
+    };
+    let count = most(LONGEST, actions);
+    let last = format!("{:04}", count - 1);
+    let seen = |_| predicate((0, 9), (0, 9), &NONE, &last, vec![argument("a", &["a"], integer())]);
+    let of = |count: usize| condition_record(joined((0..count).map(seen).collect()));
+    let all = (0..targets).map(|_| target("", &last)).collect();
+    crowd(name, actions(count), of(most(LONGEST, of)), all, SPACE)
+}
+
+/// As many comparisons as fit of an attribute that stands behind one whose type fills the record: what is worst for finding
+/// an attribute by name.
+pub fn behind_a_large_type(name: &str, targets: usize) -> Workload {
+    let fields: Vec<String> = (0..200).map(|i| format!("f{i:03}")).collect();
+    let wide = || record_type(fields.iter().map(|f| (f.as_str(), ty(0, vec![]))).collect());
+    let many: Vec<String> = (0..24).map(|i| format!("g{i:02}")).collect();
+    let large = record_type(many.iter().map(|g| (g.as_str(), wide())).collect());
+    let context = record_type(vec![("a", large), ("z", ty(0, vec![]))]);
+    let compared = |_| comparison((0, 9), 1, context_field(&["z"]), context_field(&["z"]));
+    let of = |count: usize| condition_record(joined((0..count).map(compared).collect()));
+    let all = (0..targets).map(|_| target("", "000")).collect();
+    let schema = schema(vec![], vec![action("Action", "000", &NONE, &NONE, context)]);
+    crowd(name, schema, of(most(LONGEST, of)), all, SPACE)
 }
 
 fn crowd(name: &str, schema: Piece, condition: Piece, all: Vec<Piece>, space: usize) -> Workload {

@@ -45,7 +45,7 @@ fn table() -> String {
     let mut out = format!("{}\n\n", machine());
     out += "| input | operation | Rust alone | Rust with reading | ours | Rust with reading / ours |\n";
     out += "|---|---|---:|---:|---:|---:|\n";
-    for w in workloads::all().into_iter().chain(workloads::crowded()) {
+    for w in workloads::all().into_iter().chain(workloads::crowded()).chain(workloads::searching()) {
         for (input, operation, times) in rows_of(&w) {
             out += &row(&input, operation, &times);
         }

@@ -40,7 +40,8 @@ fn seed_from_clock() -> u64 {
 /// The cases of the stored lists and the benchmark's, for the operations that the library has.
 fn compare_stored(operations: &[Operation]) -> usize {
     let crowded = [workloads::differing("reports", 200, 20, 1 << 20), workloads::alike("one start", 3, 1 << 20)];
-    let large = workloads::all().into_iter().chain(crowded).flat_map(|w| w.cases());
+    let names = [workloads::many_principals("principals", 255, 1), workloads::many_actions("actions", 2)];
+    let large = workloads::all().into_iter().chain(crowded).chain(names).flat_map(|w| w.cases());
     let all = lists::all().into_iter().flat_map(|list| list.cases).chain(large);
     let mut compared = 0;
     for case in all.filter(|case| operations.contains(&case.operation)) {

@@ -63,10 +63,16 @@ fn searched(operation: Operation, count: usize, seed: u64) -> Search {
     search
 }
 
-/// Requests of the benchmark, as trees, and some that are reported very often, to begin with.
+/// Requests of the benchmark, as trees, and some with very many reports or names, to begin with.
 fn known(operation: Operation) -> Vec<Draft> {
-    let crowded = [workloads::differing("reports", 60, 20, 1 << 20), workloads::alike("one start", 4, 64 << 10)];
-    let all = workloads::all().into_iter().filter(|w| !w.name.starts_with("array")).chain(crowded);
+    let more = [
+        workloads::differing("reports", 60, 20, 1 << 20),
+        workloads::alike("one start", 4, 64 << 10),
+        workloads::many_principals("principals", 255, 1),
+        workloads::many_actions("actions", 1),
+        workloads::behind_a_large_type("large type", 1),
+    ];
+    let all = workloads::all().into_iter().filter(|w| !w.name.starts_with("array")).chain(more);
     all.map(|w| {
         let [s, c, t, p] = w.trees;
         let records = match operation {
