@@ -23,7 +23,8 @@ use Rattle.reports.specs.Once.{both, both-in, both-nodup}
 use Rattle.reports.specs.Sets.{in-left, in-right, in-append, length-same}
 use Rattle.reports.specs.Pairs.{_∈_, NoDup, Same, Pair, pairOf, pairs, space}
 use Rattle.terms.specs.Terms.{factsOf}
-use Rattle.typecheck.specs.Check.{nodeBreaches, breachesUnder, checked, check}
+use Rattle.rules.specs.Rules.{nodeBreaches}
+use Rattle.typecheck.specs.Check.{breachesUnder, checked, check}
 use Rattle.claims.specs.Written.{written}
 use Rattle.claims.specs.Breaches.{Accepted, isChecked, BreachUnder, BreachOf, PairOf, Different, SpaceForAll, Run, reportedPairs, Shared, Exact, under, Alone, Taken, RunOf, Counts, Joined, Alike, Claim}
 use Rattle.claims.proofs.Written.{no-other, front-accepted, behind-accepted}

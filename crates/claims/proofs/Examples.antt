@@ -21,7 +21,8 @@ use Rattle.condition.specs.Condition as condition
 use Rattle.condition.specs.Condition.{Span, Condition, Term, Annotation, Binder, Operator, path, comparison, entity, literal, contextField, scopeField, var, wildcard, array, nil, cons, aggregate, sigil}
 use Rattle.condition.specs.Walk.{reached, reachedIn, operandAggregates, operandBinders, declares, binders, namedHere, lastNamed}
 use Rattle.terms.specs.Terms.{Facts, factsOf, wordType, annotationType, inputType, varType, sideType, rootType, scopeFieldType, allLike, arrayOf, elementTypes, termType}
-use Rattle.typecheck.specs.Check.{numericBreaches, likeBreaches, operandsBy, ordering, argumentBreach, argumentBreaches, leafBreaches, arithmeticBreaches, nodeBreaches, breachesUnder}
+use Rattle.rules.specs.Rules.{numericBreaches, likeBreaches, operandsBy, ordering, argumentBreach, argumentBreaches, leafBreaches, arithmeticBreaches, nodeBreaches}
+use Rattle.typecheck.specs.Check.{breachesUnder}
 use Rattle.reports.specs.Reports.{Breach}
 use Rattle.claims.specs.Breaches.{isChecked}
 use Rattle.claims.specs.Rows.{Hold, end, _and_}
@@ -48,7 +49,7 @@ module _ (x : Checked) where
 
 -- a term with a type that is no Long is no arithmetic and no aggregate
 record Plain (f : Facts) (at : Span) (t : Term) : Type 0 where
-  pub atoms : arithmeticBreaches f at t ≡ []
+  pub atoms : arithmeticBreaches f t at ≡ []
   pub inner : reachedIn t ≡ []
 
 plain : (f : Facts) (at : Span) (t : Term) (ty : Ty) → termType (some f) t ≡ some ty → isNumeric ty ≡ false → Plain f at t
@@ -69,12 +70,12 @@ module _ (x : Checked) (op : Operator) (l r : Term) (tl tr : Ty) where
   abbrev c : Condition
   c = comparison (x .at) op l r
 
-  by-types : typeIn x c l ≡ some tl → typeIn x c r ≡ some tr → Plain (factsIn x c) (x .at) l → Plain (factsIn x c) (x .at) r → reports x c ≡ length (operandsBy (ordering op) (x .at) tl tr)
+  by-types : typeIn x c l ≡ some tl → typeIn x c r ≡ some tr → Plain (factsIn x c) (x .at) l → Plain (factsIn x c) (x .at) r → reports x c ≡ length (operandsBy (ordering op) tl tr (x .at))
   unfolding reached gather nodeBreaches
   by-types el er pl pr =
       computed x c ∙ rw (pl .inner, pr .inner, pl .atoms, pr .atoms, el, er, append-nil)
 
-  no-long : typeIn x c l ≡ some tl → typeIn x c r ≡ some tr → isNumeric tl ≡ false → isNumeric tr ≡ false → reports x c ≡ length (operandsBy (ordering op) (x .at) tl tr)
+  no-long : typeIn x c l ≡ some tl → typeIn x c r ≡ some tr → isNumeric tl ≡ false → isNumeric tr ≡ false → reports x c ≡ length (operandsBy (ordering op) tl tr (x .at))
   no-long el er nl nr = by-types el er (plain (factsIn x c) (x .at) l tl el nl) (plain (factsIn x c) (x .at) r tr er nr)
 
 -- ---- arrays in every number of layers

@@ -13,7 +13,8 @@ use Rattle.types.specs.Types.{display, fits}
 use Rattle.reports.specs.Reports.{once, encoded, fitting, reported}
 use Rattle.reports.specs.Messages.{parts, filled, from}
 use Rattle.names.specs.Text.{text}
-use Rattle.typecheck.specs.Check.{check, checked, breachesUnder, nodeBreaches, arithmeticBreaches, numericBreaches}
+use Rattle.rules.specs.Rules.{nodeBreaches, arithmeticBreaches, numericBreaches}
+use Rattle.typecheck.specs.Check.{check, checked, breachesUnder}
 use Rattle.claims.specs.WholeRun.{Runs}
 
 pub whole-run : Runs

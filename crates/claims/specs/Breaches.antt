@@ -20,7 +20,8 @@ use Rattle.reports.specs.declared.Answer.{Answer}
 use Rattle.reports.specs.Decode.{reports}
 use Rattle.reports.specs.Pairs.{_∈_, NoDup, Same, Pair, pairOf, pairs, space}
 use Rattle.terms.specs.Terms.{factsOf}
-use Rattle.typecheck.specs.Check.{nodeBreaches, check}
+use Rattle.rules.specs.Rules.{nodeBreaches}
+use Rattle.typecheck.specs.Check.{check}
 use Rattle.claims.specs.Written.{written}
 
 -- three records that are accepted, and what they hold

@@ -20,7 +20,8 @@ use Rattle.condition.specs.Condition as condition
 use Rattle.condition.specs.Condition.{Span, Condition, Term, Binder, Operator, named, path, lt, eq, two, predicate, comparison, exists, argument, noArgument, literal, scopeField, var, wildcard, array, nil, cons}
 use Rattle.condition.specs.Walk.{reached, binders, lastNamed}
 use Rattle.terms.specs.Terms.{Facts, factsOf, termType}
-use Rattle.typecheck.specs.Check.{predicateAction, nodeBreaches, breachesUnder}
+use Rattle.rules.specs.Rules.{predicateAction, nodeBreaches}
+use Rattle.typecheck.specs.Check.{breachesUnder}
 use Rattle.claims.specs.Breaches.{isChecked}
 use Rattle.claims.specs.Rows.{Row, ofAll, ofEach}
 

@@ -5,7 +5,7 @@ use Prim.Native.Nat.{ℕ}
 use Rattle.reports.specs.declared.Answer.{Answer}
 use Rattle.reports.specs.declared.State.{State}
 use Rattle.reports.specs.Reports.{Breach, once, Outcome, refusal, reported}
-use Rattle.reports.specs.Sink.{sink, start, pushAll, appendAll, outcome}
+use Rattle.reports.specs.Sink.{sink, none, Pushed, Appended, outcome}
 use Rattle.reports.specs.Sink.Laws.{pushAll-reported, appendAll-reported}
 
 -- what the code answers and leaves in the buffer, as an outcome
@@ -20,9 +20,10 @@ pub record Answers (st : State) (r : Answer) : Type 0 where
 pub record Refuses (number which : ℕ) (r : Answer) : Type 0 where
   pub is : (s : List ℕ) → outcomeOf r s ≡ refusal number which s
 
--- what an entry point says: breaches pushed from no report, and the answer made of the state
-pub pushed : (old : List ℕ) {new : List ℕ} {st : State} {r : Answer} (bs : List Breach) → sink new st ≡ pushAll (start old) bs → Answers st r → outcomeOf r new ≡ reported (once [] bs) old
-pushed old {new} bs e a = a .is new ∙ ap outcome e ∙ pushAll-reported old bs
+-- what an entry point says: breaches put in from no report, and the answer made of the state
+module _ (old : List ℕ) {new : List ℕ} {st : State} {r : Answer} (bs : List Breach) where
+  pub pushed : Pushed old none bs new st → Answers st r → outcomeOf r new ≡ reported (once [] bs) old
+  pushed p a = a .is new ∙ ap outcome (p .is) ∙ pushAll-reported old bs
 
-pub appended : (old : List ℕ) {new : List ℕ} {st : State} {r : Answer} (bs : List Breach) → sink new st ≡ appendAll (start old) bs → Answers st r → outcomeOf r new ≡ reported bs old
-appended old {new} bs e a = a .is new ∙ ap outcome e ∙ appendAll-reported old bs
+  pub appended : Appended old none bs new st → Answers st r → outcomeOf r new ≡ reported bs old
+  appended p a = a .is new ∙ ap outcome (p .is) ∙ appendAll-reported old bs

@@ -1,6 +1,5 @@
 -- A buffer with its state, one breach put into it, and how the bytes stand for a log.
--- Every function that may report says: `requires` Sound (sink (now buf) state), and `ensures` that the sink after it is the sink before it with
--- the function's breaches put in one by one (`pushAll`, which drops repeats, or `appendAll`).
+-- Every function that may report says: `requires` Sound (sink (now buf) state), and `ensures` Pushed, or Appended, of its breaches.
 use mathlib.Core.Path.{_≡_}
 use mathlib.Core.Bool.{Bool, true, false, cond, not, _&&_}
 use mathlib.Core.List.{List, _++_}
@@ -73,10 +72,26 @@ pub record Sound (s : Sink) : Type 0 where
   pub is : s ≡ written (s .bytes) (logOf s)
   pub within : s .state .used ≤ length (s .bytes)
 
+-- ---- what a function that may report does: from the bytes and the state before it to those after it, its breaches are put in one by one
+
+pub record Recorded (f : Sink → Breach → Sink) (before : List ℕ) (st : State) (bs : List Breach) (after : List ℕ) (st′ : State) : Type 0 where
+  pub sound : Sound (sink after st′)
+  pub is : sink after st′ ≡ fold f (sink before st) bs
+
+-- without repeats, and with them
+abbrev pub Pushed : List ℕ → State → List Breach → List ℕ → State → Type 0
+Pushed = Recorded push
+
+abbrev pub Appended : List ℕ → State → List Breach → List ℕ → State → Type 0
+Appended = Recorded append
+
 -- ---- a run: from no report, over a buffer that holds anything
 
+abbrev pub none : State
+none = record { used = 0; count = 0; full = false }
+
 abbrev pub start : List ℕ → Sink
-start old = sink old (record { used = 0; count = 0; full = false })
+start old = sink old none
 
 -- what a caller gets: 0, or 11 where a report did not fit, how many reports, and the bytes
 

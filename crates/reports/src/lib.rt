@@ -12,10 +12,9 @@ pub use buffer::push_scratch;
 pub use buffer::put_header;
 pub use buffer::refused;
 pub use buffer::stopped;
-pub use pieces::put_last;
-pub use pieces::put_part;
 pub use pieces::put_piece;
 pub use pieces::text_size;
+pub use pieces::word_count;
 
 // What the buffer holds: the bytes used, the reports in them, and whether one did not fit.
 pub struct State {

@@ -1,13 +1,13 @@
-// The fixed texts of the messages, and a message composed of them.
+// The fixed texts of the messages.
 use crate::Message;
 use names::put;
 ghost use mathlib.Core.Path.{_≡_};
-ghost use mathlib.Core.List.{[], _++_};
+ghost use mathlib.Core.List.{[]};
 ghost use Prim.Native.Nat.{_+_, _<_, _≤_};
 ghost use lib.ListN.{length, getD};
 ghost use Rattle.names.specs.Writer.{Stored};
-ghost use Rattle.reports.specs.Messages.{part, from, textSize, words};
-ghost use Rattle.reports.specs.Messages.Laws.{Left, firstOf, pieces};
+ghost use Rattle.reports.specs.Messages.{part, textSize, words};
+ghost use Rattle.reports.specs.Messages.Laws.{firstOf, pieces};
 
 // The texts between the words that a message quotes, message by message, one behind the other, and where each begins and the last one ends.
 const PIECES: [u8; 899] =
@@ -80,6 +80,23 @@ pub fn text_size(which: Message) -> usize
     }
 }
 
+// How many words a message quotes, one between each two texts.
+pub fn word_count(which: Message) -> usize
+    ensures { λ r. ⌜ r ≡ words which ⌝ }
+{
+    match which {
+        Message::WrongArgument => 4,
+        Message::WrongTimepoint => 4,
+        Message::NotNumeric => 2,
+        Message::UnlikeTypes => 2,
+        Message::WildcardInside => 0,
+        Message::NotLong => 1,
+        Message::CannotSum => 3,
+        Message::CannotSumTimepoint => 2,
+        Message::CannotSumDecimal => 2,
+    }
+}
+
 // The text at a place of the table.
 fn put_text(out: &mut [u8], at: usize, n: usize) -> usize
     requires { ⌜ (n < 29) × (at + length (getD pieces n []) ≤ length (now out)) ⌝ }
@@ -97,21 +114,4 @@ pub fn put_piece(out: &mut [u8], at: usize, which: Message, i: usize) -> usize
     ensures { λ r. ⌜ Stored (now (out .entry)) at (part which i) (now (out .exit)) r ⌝ }
 {
     put_text(out, at, first_piece(which) + i)
-}
-
-// A text of a message, and the word behind it.
-pub fn put_part(out: &mut [u8], at: usize, which: Message, i: usize, word: &[u8]) -> usize
-    requires { ⌜ (i < words which) × (at + length (part which i) + length (now word) ≤ length (now out)) ⌝ }
-    ensures { λ r. ⌜ Stored (now (out .entry)) at (part which i ++ now (word .entry)) (now (out .exit)) r ⌝ }
-{
-    let next = put_piece(out, at, which, i);
-    put(out, next, word)
-}
-
-// The last text of a message.
-pub fn put_last(out: &mut [u8], at: usize, which: Message, i: usize) -> usize
-    requires { ⌜ Left which i [] (now out) at ⌝ }
-    ensures { λ r. ⌜ Stored (now (out .entry)) at (from which i []) (now (out .exit)) r ⌝ }
-{
-    put_piece(out, at, which, i)
 }

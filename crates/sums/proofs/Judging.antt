@@ -1,34 +1,41 @@
 -- The report of one Sum: the cases of the code, as it learns them. Assumes nothing.
-use mathlib.Core.Path.{_≡_, sym, ap, _∙_}
+use mathlib.Core.Path.{_≡_, refl, sym, ap, _∙_}
 use mathlib.Core.Bool.{Bool, true, false, _||_}
 use mathlib.Core.List.{List, [], _∷_}
+use mathlib.Core.Option.{some}
 use Prim.Native.Nat.{ℕ, _+_, _≤_, _<_}
 use native.Mathlib.Omega.{arith}
 use borrow.Author.Needs.{needs}
-use lib.ListN.{length, getD, take, drop}
-use lib.Seq.{take-all}
-use Rattle.names.specs.Lists.{maybe}
-use Rattle.names.specs.Names.{same, joined, lastOf}
+use lib.ListN.{length}
+use lib.Dec.{lit<}
+use Rattle.names.specs.Names.{same, lastOf}
 use Rattle.names.specs.Read.{wordAt}
 use Rattle.names.specs.Text.{text}
-use Rattle.names.specs.Laws.Walks.{take-at-most}
+use Rattle.names.specs.Writer.{Stored}
 use Rattle.nodes.specs.declared.Bound.{Bound}
 use Rattle.nodes.specs.declared.Bound.the-variants.{Segments, Timepoint, Nothing}
 use Rattle.nodes.specs.declared.SlotAt.{SlotAt}
 use Rattle.nodes.specs.declared.SlotAt.the-variants.{Named, ParamRef, BinderRef}
 use Rattle.nodes.specs.declared.Ends.{Ends}
-use Rattle.condition.specs.Condition.{Span, Slot, sum, path}
+use Rattle.condition.specs.Condition.{Slot, sum, path}
 use Rattle.nodes.specs.Kinds.{aggregateSpanOf}
 use Rattle.condition.specs.Places.{recordIn, aggregateIn, slotIn}
 use Rattle.nodes.specs.Laws.Pieces.{summand-inside, summand-slot}
 use Rattle.nodes.specs.Parts.{segmentsIn, SegmentsHere, boundIn, BoundStands, Says, slotOf, SummandHere, Spans}
 use Rattle.condition.specs.Walk.{binders, lastNamed}
 use Rattle.reports.specs.declared.Message.the-variants.{CannotSum, CannotSumTimepoint, CannotSumDecimal}
-use Rattle.reports.specs.Messages.{message}
-use Rattle.reports.specs.Sink.{Sink, appendAll}
-use Rattle.reports.specs.Sink.Laws.{append-none}
-use Rattle.sums.specs.Named.{Name}
-use Rattle.sums.specs.Sums.{report, summandBreach, aggregateBreaches}
+use Rattle.reports.specs.declared.State.{State}
+use Rattle.reports.specs.Decode.{header}
+use Rattle.reports.specs.Sink.{sink, more, stopped, roomFor, Sound, Appended}
+use Rattle.reports.specs.Sink.Laws.{header-room, message-room, count-room, append-stored, append-stopped, recorded-none, appended-one}
+use Rattle.messages.specs.declared.Word.the-variants as Word
+use Rattle.messages.specs.declared.Word.the-variants.{Name, Joined}
+use Rattle.messages.specs.declared.Sentence.{Sentence}
+use Rattle.messages.specs.declared.Said.{Said}
+use Rattle.messages.specs.declared.Said.the-variants as Said
+use Rattle.messages.specs.Words.{textOf, quoted, Stands, say, saidBreaches, SaidStands, Tells, spanIn}
+use Rattle.messages.specs.Laws.Lengths.{Bytes, text-within}
+use Rattle.sums.specs.Sums.{summandBreach, aggregateBreaches}
 
 -- `decimal` and `Decimal`
 module _ (w : List ℕ) (b : Bool) (is : b ≡ same w (100 ∷ 101 ∷ 99 ∷ 105 ∷ 109 ∷ 97 ∷ 108 ∷ [])) where
@@ -43,22 +50,22 @@ module _ (w : List ℕ) (b : Bool) (is : b ≡ same w (100 ∷ 101 ∷ 99 ∷ 10
 pub ruleset decimals = (needs, small-decimal, large-decimal)
 
 -- A path: w is its last segment.
-module _ (s : List ℕ) (at p : ℕ) (there : wordAt s p ≡ lastOf (segmentsIn s at)) (w : List ℕ) (is : w ≡ wordAt s p) (b : Bool) (long : b ≡ same w (76 ∷ 111 ∷ 110 ∷ 103 ∷ [])) (span : Span) (name : List ℕ) (a : Sink) where
+module _ (s : List ℕ) (at p : ℕ) (there : wordAt s p ≡ lastOf (segmentsIn s at)) (w : List ℕ) (is : w ≡ wordAt s p) (b : Bool) (long : b ≡ same w (76 ∷ 111 ∷ 110 ∷ 103 ∷ [])) (name : ℕ) where
   last : lastOf (segmentsIn s at) ≡ w
   last = sym (is ∙ there)
 
-  pub path-long : b ≡ true → a ≡ appendAll a (summandBreach span name (path (segmentsIn s at)))
+  pub path-long : b ≡ true → Tells s s (summandBreach (wordAt s name) (some (path (segmentsIn s at)))) Said.Nothing
   unfolding summandBreach text
-  path-long e = rw (last, ← long, e) (append-none a)
+  path-long e = record { is = λ span. rw (last, ← long, e); stands = tt }
 
-  module _ (e : b ≡ false) (d : Bool) (decimal : d ≡ (same w (text "decimal") || same w (text "Decimal"))) (r : Sink) where
-    pub path-decimal : d ≡ true → r ≡ appendAll a (report span (message CannotSumDecimal (name ∷ name ∷ []))) → r ≡ appendAll a (summandBreach span name (path (segmentsIn s at)))
-    unfolding summandBreach text
-    path-decimal i j = rw (last, ← long, e, ← decimal, i) j
+  module _ (e : b ≡ false) (d : Bool) (decimal : d ≡ (same w (text "decimal") || same w (text "Decimal"))) where
+    pub path-decimal : d ≡ true → (r : Said) → r ≡ say CannotSumDecimal (Name name) (Name name) Word.Nothing Word.Nothing → Tells s s (summandBreach (wordAt s name) (some (path (segmentsIn s at)))) r
+    unfolding summandBreach text quoted
+    path-decimal i r j = rw j (record { is = λ span. rw (last, ← long, e, ← decimal, i); stands = record { first = tt; second = tt; third = tt; fourth = tt; below = lit< tt } })
 
-    pub path-other : d ≡ false → r ≡ appendAll a (report span (message CannotSum (name ∷ name ∷ joined (segmentsIn s at) ∷ []))) → r ≡ appendAll a (summandBreach span name (path (segmentsIn s at)))
-    unfolding summandBreach text
-    path-other i j = rw (last, ← long, e, ← decimal, i) j
+    pub path-other : d ≡ false → SegmentsHere s at → length s ≤ 32768 → (r : Said) → r ≡ say CannotSum (Name name) (Name name) (Joined at) Word.Nothing → Tells s s (summandBreach (wordAt s name) (some (path (segmentsIn s at)))) r
+    unfolding summandBreach text quoted
+    path-other i h k r j = rw j (record { is = λ span. rw (last, ← long, e, ← decimal, i); stands = record { first = tt; second = tt; third = (h, k); fourth = tt; below = lit< tt } })
 
 pub ruleset paths = (needs, path-long, path-decimal, path-other)
 
@@ -67,42 +74,63 @@ module _ (s : List ℕ) (x : Bound) where
   pub segments-there : BoundStands s x → (p : ℕ) → x ≡ Segments p → SegmentsHere s p
   segments-there h p e = rw e at h
 
-  module _ (span : Span) (name : List ℕ) (a : Sink) where
-    pub bound-path : (p : ℕ) → x ≡ Segments p → (r : Sink) → r ≡ appendAll a (summandBreach span name (path (segmentsIn s p))) → r ≡ appendAll a (maybe [] (summandBreach span name) (boundIn s x))
+  module _ (name : ℕ) where
+    pub bound-path : (p : ℕ) → x ≡ Segments p → (r : Said) → Tells s s (summandBreach (wordAt s name) (some (path (segmentsIn s p)))) r → Tells s s (summandBreach (wordAt s name) (boundIn s x)) r
     bound-path p e r j = rw e j
 
-    pub bound-timepoint : x ≡ Timepoint → (r : Sink) → r ≡ appendAll a (report span (message CannotSumTimepoint (name ∷ name ∷ []))) → r ≡ appendAll a (maybe [] (summandBreach span name) (boundIn s x))
-    unfolding summandBreach
-    bound-timepoint e r j = rw e j
+    pub bound-timepoint : x ≡ Timepoint → (r : Said) → r ≡ say CannotSumTimepoint (Name name) (Name name) Word.Nothing Word.Nothing → Tells s s (summandBreach (wordAt s name) (boundIn s x)) r
+    unfolding summandBreach quoted
+    bound-timepoint e r j = rw (e, j) (record { is = λ span. refl; stands = record { first = tt; second = tt; third = tt; fourth = tt; below = lit< tt } })
 
-    pub bound-nothing : x ≡ Nothing → a ≡ appendAll a (maybe [] (summandBreach span name) (boundIn s x))
-    bound-nothing e = rw e (append-none a)
+    pub bound-nothing : x ≡ Nothing → Tells s s (summandBreach (wordAt s name) (boundIn s x)) Said.Nothing
+    unfolding summandBreach
+    bound-nothing e = rw e (record { is = λ span. refl; stands = tt })
 
 pub ruleset bounds = (needs, segments-there, bound-path, bound-timepoint, bound-nothing)
 
-pub name-there : (s : List ℕ) (at n : ℕ) (w r : List ℕ) → n ≡ getD s at 0 → n < 256 → w ≡ wordAt s at → r ≡ take n (drop 0 w) → Name s at r
-name-there s at n w r e h is j =
-    let long : length w ≤ n = rw (is, ← e) (take-at-most n (drop (at + 1) s)) in
-    let whole : r ≡ w = j ∙ take-all n w long in
-    record { is = whole ∙ is; short = rw whole (omega arith) }
+-- What is said, put in: nothing; a message, measured, behind its header; or no room for it.
+module _ (s : List ℕ) (x : Said) (old : List ℕ) (st : State) (span : Ends) where
+  pub said-nothing : x ≡ Said.Nothing → Sound (sink old st) → Appended old st (saidBreaches s s x (spanIn span)) old st
+  said-nothing e p = rw e (recorded-none old st p)
+
+  module _ (m : Sentence) (e : x ≡ Said.Message m) (stands : SaidStands s s x) where
+    pub message-stands : Stands s s m
+    message-stands = rw e at stands
+
+    module _ (long : ℕ) (is : long ≡ length (textOf s s m)) where
+      pub long-below : Bytes s → long < 65536
+      long-below bytes = omega (arith, text-within s s bytes m message-stands, message-stands .below)
+
+      module _ (t : Bool) (room : t ≡ roomFor (sink old st) long) where
+        module _ (y : t ≡ true) (s′ : List ℕ) (at : ℕ) (h : Stored old (st .used) (header (span .start) (span .end) long) s′ at) where
+          pub text-room : at + length (textOf s s m) ≤ length s′
+          text-room = omega (arith, message-room old st long room y (span .start) (span .end) h)
+
+          pub message-appended : {s″ : List ℕ} {next : ℕ} → Stored s′ at (textOf s s m) s″ next → {r : State} → r ≡ more st next → Sound (sink old st) → Appended old st (saidBreaches s s x (spanIn span)) s″ r
+          message-appended w q p = rw e (appended-one p _ (append-stored old st _ long room is y h w q))
+
+        pub message-stopped : t ≡ false → {r : State} → r ≡ stopped st → Sound (sink old st) → Appended old st (saidBreaches s s x (spanIn span)) old r
+        message-stopped n q p = rw e (appended-one p _ (append-stopped old st _ long room is n q))
+
+pub ruleset appending = (needs, header-room, count-room, said-nothing, message-stands, long-below, text-room, message-appended, message-stopped)
 
 -- The summand's slot.
-module _ (s : List ℕ) (at p : ℕ) (h : SummandHere s at p) (x : SlotAt) (i : slotIn s p ≡ slotOf s x) (a : Sink) where
-  pub slot-param : x ≡ ParamRef → a ≡ appendAll a (aggregateBreaches (recordIn s) (aggregateIn s at))
+module _ (s : List ℕ) (at p : ℕ) (h : SummandHere s at p) (x : SlotAt) (i : slotIn s p ≡ slotOf s x) (old : List ℕ) (st : State) where
+  pub slot-param : x ≡ ParamRef → Sound (sink old st) → Appended old st (aggregateBreaches (recordIn s) (aggregateIn s at)) old st
   unfolding aggregateBreaches
-  slot-param e = rw (h .value, i, e) (append-none a)
+  slot-param e k = rw (h .value, i, e) (recorded-none old st k)
 
-  pub slot-binder : x ≡ BinderRef → a ≡ appendAll a (aggregateBreaches (recordIn s) (aggregateIn s at))
+  pub slot-binder : x ≡ BinderRef → Sound (sink old st) → Appended old st (aggregateBreaches (recordIn s) (aggregateIn s at)) old st
   unfolding aggregateBreaches
-  slot-binder e = rw (h .value, i, e) (append-none a)
+  slot-binder e k = rw (h .value, i, e) (recorded-none old st k)
 
-  pub slot-named : (q : ℕ) → x ≡ Named q → (w : List ℕ) → Name s q w → (b : Bound) → Says s (lastNamed w (binders (recordIn s))) b → (ends : Ends) → Spans (aggregateSpanOf (aggregateIn s at)) ends
-      → (r : Sink) → r ≡ appendAll a (maybe [] (summandBreach (record { start = ends .start; end = ends .end }) w) (boundIn s b)) → r ≡ appendAll a (aggregateBreaches (recordIn s) (aggregateIn s at))
-  unfolding aggregateBreaches
-  slot-named q e w is b says ends spans r j =
-      let span : _≡_ {A = Span} (record { start = ends .start; end = ends .end }) (aggregateSpanOf (aggregateIn s at)) = λ k. record { start = spans .start k; end = spans .end k } in
-      let v : aggregateBreaches (recordIn s) (aggregateIn s at) ≡ maybe [] (summandBreach (aggregateSpanOf (aggregateIn s at)) (wordAt s q)) (lastNamed (wordAt s q) (binders (recordIn s))) =
-      ap (aggregateBreaches (recordIn s)) (h .value) ∙ ap (λ (l : Slot). aggregateBreaches (recordIn s) (sum (aggregateSpanOf (aggregateIn s at)) l (h .declared) (h .body))) (i ∙ ap (slotOf s) e) in
-      rw (v, ← is .is, ← says .value, ← span) j
+  module _ (q : ℕ) (e : x ≡ Named q) (w : List ℕ) (is : w ≡ wordAt s q) (b : Bound) (says : Says s (lastNamed w (binders (recordIn s))) b) (ends : Ends) (spans : Spans (aggregateSpanOf (aggregateIn s at)) ends) where
+    pub slot-named : (said : Said) → Tells s s (summandBreach (wordAt s q) (boundIn s b)) said → (new : List ℕ) (r : State) → Appended old st (saidBreaches s s said (spanIn ends)) new r → Appended old st (aggregateBreaches (recordIn s) (aggregateIn s at)) new r
+    unfolding aggregateBreaches
+    slot-named said tells new r j =
+        let span : spanIn ends ≡ aggregateSpanOf (aggregateIn s at) = λ k. record { start = spans .start k; end = spans .end k } in
+        let v : aggregateBreaches (recordIn s) (aggregateIn s at) ≡ summandBreach (wordAt s q) (lastNamed (wordAt s q) (binders (recordIn s))) (aggregateSpanOf (aggregateIn s at)) =
+        ap (aggregateBreaches (recordIn s)) (h .value) ∙ ap (λ (l : Slot). aggregateBreaches (recordIn s) (sum (aggregateSpanOf (aggregateIn s at)) l (h .declared) (h .body))) (i ∙ ap (slotOf s) e) in
+        rw (v, ← is, ← says .value, is, ← span, ← tells .is (spanIn ends)) j
 
-pub ruleset slots = (needs, name-there, summand-inside, summand-slot, slot-param, slot-binder, slot-named)
+pub ruleset slots = (needs, summand-inside, summand-slot, slot-param, slot-binder, slot-named)

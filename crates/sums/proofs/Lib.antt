@@ -1,4 +1,3 @@
-pub mod Composing
 pub mod Judging
 pub mod Visiting
 pub mod Running

@@ -28,8 +28,10 @@ use Rattle.nodes.specs.Laws.Views.{by-kind, no-value, array-view}
 use Rattle.nodes.specs.Laws.Opens.{term-stands, raw-term}
 use Rattle.nodes.specs.Laws.Pieces.{arguments-over}
 use Rattle.reports.specs.Reports.{Breach}
-use Rattle.reports.specs.Sink.{Sink, Sound, append, appendAll}
-use Rattle.reports.specs.Sink.Laws.{append-none, append-then, append-after, Reporting, reporting-begins, reporting-over, append-next}
+use Rattle.reports.specs.declared.State.{State}
+use Rattle.reports.specs.Kept.{fold}
+use Rattle.reports.specs.Sink.{Sink, sink, Sound, append, appendAll, Appended}
+use Rattle.reports.specs.Sink.Laws.{recorded-none, recorded-more, recorded-then, Reporting, reporting-begins, reporting-next, reporting-over}
 use Rattle.sums.specs.Sums.{aggregateBreaches, termBreaches, termsBreaches, argumentsBreaches, conditionBreaches, breaches}
 
 -- ---- an array holds no aggregate, however deep
@@ -126,31 +128,28 @@ module _ (root : Condition) where
   condition-free (tp span s) a b = refl
   condition-free (opaque span) a b = refl
 
-no-report : (a : Sink) (bs : List Breach) → bs ≡ [] → a ≡ appendAll a bs
-no-report a bs e = rw e (append-none a)
+no-report : (old : List ℕ) (st : State) → Sound (sink old st) → (bs : List Breach) → bs ≡ [] → Appended old st bs old st
+no-report old st p bs e = rw e (recorded-none old st p)
 
 -- ---- a term
 
-module _ (s : List ℕ) (at : ℕ) (a : Sink) where
-  module _ (p : Operands) (h : ArithHere s at p) (b : Sink) (first : b ≡ appendAll a (termBreaches (recordIn s) (termIn s (p .left)))) where
-    pub left-sound : Sound a → Sound b
-    left-sound k = append-after _ k first
-
-    pub arith-visited : (r : Sink) → r ≡ appendAll b (termBreaches (recordIn s) (termIn s (p .right))) → r ≡ appendAll a (termBreaches (recordIn s) (termIn s at))
-    unfolding termBreaches
-    arith-visited r second = rw (h .value) (append-then a _ _ first second)
+module _ (s : List ℕ) (at : ℕ) {old : List ℕ} {st : State} where
+  pub arith-visited : (p : Operands) → ArithHere s at p → {mid new : List ℕ} {st′ r : State} → Appended old st (termBreaches (recordIn s) (termIn s (p .left))) mid st′
+      → Appended mid st′ (termBreaches (recordIn s) (termIn s (p .right))) new r → Appended old st (termBreaches (recordIn s) (termIn s at)) new r
+  unfolding termBreaches
+  arith-visited p h first second = rw (h .value) (recorded-then first second)
 
   module _ (p : ℕ) (h : AggregateHere s at p) where
-    pub sum-visited : (r : Sink) → r ≡ appendAll a (aggregateBreaches (recordIn s) (aggregateIn s p)) → r ≡ appendAll a (termBreaches (recordIn s) (termIn s at))
+    pub sum-visited : {new : List ℕ} {r : State} → Appended old st (aggregateBreaches (recordIn s) (aggregateIn s p)) new r → Appended old st (termBreaches (recordIn s) (termIn s at)) new r
     unfolding termBreaches
-    sum-visited r e = rw (h .value) e
+    sum-visited e = rw (h .value) e
 
-    pub other-visited : (k : ℕ) → AggregateOpened s p k → (k ≡ 1 → ⊥) → a ≡ appendAll a (termBreaches (recordIn s) (termIn s at))
+    pub other-visited : (k : ℕ) → AggregateOpened s p k → (k ≡ 1 → ⊥) → Sound (sink old st) → Appended old st (termBreaches (recordIn s) (termIn s at)) old st
     unfolding termBreaches
-    other-visited k o i = rw (h .value) (no-report a _ (other-free (recordIn s) (aggregateIn s p) (λ e. i (o .kind ∙ e))))
+    other-visited k o i q = rw (h .value) (no-report old st q _ (other-free (recordIn s) (aggregateIn s p) (λ e. i (o .kind ∙ e))))
 
-  pub leaf-visited : isTerm s at ≡ true → (k : ℕ) → TermOpened s at k → (k ≡ 12 → ⊥) → (k ≡ 11 → ⊥) → a ≡ appendAll a (termBreaches (recordIn s) (termIn s at))
-  leaf-visited acc k o h i = no-report a _ (go (eqb (termKindOf (termIn s at)) 10) refl)
+  pub leaf-visited : isTerm s at ≡ true → (k : ℕ) → TermOpened s at k → (k ≡ 12 → ⊥) → (k ≡ 11 → ⊥) → Sound (sink old st) → Appended old st (termBreaches (recordIn s) (termIn s at)) old st
+  leaf-visited acc k o h i p = no-report old st p _ (go (eqb (termKindOf (termIn s at)) 10) refl)
     where
       go : (b : Bool) → eqb (termKindOf (termIn s at)) 10 ≡ b → termBreaches (recordIn s) (termIn s at) ≡ []
       go true e = array-free (recordIn s) s at acc (eqb-true _ _ e)
@@ -159,7 +158,7 @@ module _ (s : List ℕ) (at : ℕ) (a : Sink) where
 pub is-sum : (s : List ℕ) (p k : ℕ) → AggregateOpened s p k → k ≡ 1 → aggregateKindOf (aggregateIn s p) ≡ 1
 is-sum s p k o e = sym (o .kind) ∙ e
 
-pub ruleset visits = (needs, is-sum, aggregate-first, aggregate-inside, left-sound, arith-visited, sum-visited, other-visited, leaf-visited)
+pub ruleset visits = (needs, is-sum, aggregate-first, aggregate-inside, arith-visited, sum-visited, other-visited, leaf-visited)
 
 -- ---- arguments: what is left of them, reported, makes the whole
 
@@ -172,43 +171,38 @@ module _ (s : List ℕ) where
   pub arguments-begin : (n at : ℕ) (a : Sink) → isArguments s n at ≡ true → Sound a → ArgumentsLeft s (appendAll a (argumentsBreaches (recordIn s) (argumentsIn s n at))) a n at
   arguments-begin n at a h k = record { stands = h; sound = k; same = refl }
 
-  module _ (whole now : Sink) (n at : ℕ) (l : ArgumentsLeft s whole now n at) where
-    pub arguments-done : n ≤ 0 → now ≡ whole
-    unfolding argumentsBreaches
-    arguments-done h = append-none now ∙ ap (λ (x : Arguments). appendAll now (argumentsBreaches (recordIn s) x)) (sym (arguments-over s n at h)) ∙ l .same
+  module _ (n at : ℕ) where
+    pub arguments-done : {old now : List ℕ} {st₀ st : State} {bs : List Breach} → ArgumentsLeft s (appendAll (sink old st₀) bs) (sink now st) n at → n ≤ 0 → Appended old st₀ bs now st
+    unfolding argumentsBreaches fold
+    arguments-done l h = record { sound = l .sound; is = rw (arguments-over s n at h) at (l .same) }
 
-    pub arguments-turn : (p : ArgumentAt) → ArgumentHere s n at p → (next : Sink) → next ≡ appendAll now (termBreaches (recordIn s) (termIn s (p .term))) → ArgumentsLeft s whole next (n - 1) (p .next)
+    pub arguments-turn : {whole : Sink} {now next : List ℕ} {st r : State} → ArgumentsLeft s whole (sink now st) n at → (p : ArgumentAt) → ArgumentHere s n at p
+        → Appended now st (termBreaches (recordIn s) (termIn s (p .term))) next r → ArgumentsLeft s whole (sink next r) (n - 1) (p .next)
     unfolding argumentsBreaches
-    arguments-turn p h next e = record {
-      stands = h .rest;
-      sound = append-after _ (l .sound) e;
-      same = append-then now _ _ e refl ∙ ap (λ (x : Arguments). appendAll now (argumentsBreaches (recordIn s) x)) (sym (h .value)) ∙ l .same;
-    }
+    arguments-turn l p h e = record { stands = h .rest; sound = e .sound; same = recorded-more e _ ∙ (rw (h .value) at (l .same)) }
 
 pub ruleset arguing = (needs, arguments-begin, arguments-done, arguments-turn)
 
 -- ---- a reached condition
 
-module _ (s : List ℕ) (at : ℕ) (a : Sink) where
-  module _ (p : ComparisonAt) (h : ComparisonHere s at p) (b : Sink) (first : b ≡ appendAll a (termBreaches (recordIn s) (termIn s (p .left)))) where
-    pub operand-sound : Sound a → Sound b
-    operand-sound k = append-after _ k first
-
-    pub comparison-visited : (r : Sink) → r ≡ appendAll b (termBreaches (recordIn s) (termIn s (p .right))) → r ≡ appendAll a (conditionBreaches (recordIn s) (conditionIn s at))
-    unfolding conditionBreaches
-    comparison-visited r second = append-then a _ _ first second ∙ ap (λ (x : Condition). appendAll a (conditionBreaches (recordIn s) x)) (sym (h .value))
-
-  pub predicate-visited : (p : PredicateAt) → PredicateHere s at p → (r : Sink) → r ≡ appendAll a (argumentsBreaches (recordIn s) (argumentsIn s (p .count) (p .first))) → r ≡ appendAll a (conditionBreaches (recordIn s) (conditionIn s at))
+module _ (s : List ℕ) (at : ℕ) {old : List ℕ} {st : State} where
+  pub comparison-visited : (p : ComparisonAt) → ComparisonHere s at p → {mid new : List ℕ} {st′ r : State} → Appended old st (termBreaches (recordIn s) (termIn s (p .left))) mid st′
+      → Appended mid st′ (termBreaches (recordIn s) (termIn s (p .right))) new r → Appended old st (conditionBreaches (recordIn s) (conditionIn s at)) new r
   unfolding conditionBreaches
-  predicate-visited p h r e = e ∙ ap (λ (x : Condition). appendAll a (conditionBreaches (recordIn s) x)) (sym (h .value))
+  comparison-visited p h first second = let e : conditionBreaches (recordIn s) (conditionIn s at) ≡ _ = ap (conditionBreaches (recordIn s)) (h .value) in rw e (recorded-then first second)
 
-  pub others-visited : (k : ℕ) → Opened s at k → (k ≡ 8 → ⊥) → (k ≡ 7 → ⊥) → a ≡ appendAll a (conditionBreaches (recordIn s) (conditionIn s at))
-  others-visited k o h i = no-report a _ (condition-free (recordIn s) (conditionIn s at) (λ q. h (o .kind ∙ q)) (λ q. i (o .kind ∙ q)))
+  pub predicate-visited : (p : PredicateAt) → PredicateHere s at p → {new : List ℕ} {r : State} → Appended old st (argumentsBreaches (recordIn s) (argumentsIn s (p .count) (p .first))) new r
+      → Appended old st (conditionBreaches (recordIn s) (conditionIn s at)) new r
+  unfolding conditionBreaches
+  predicate-visited p h k = let e : conditionBreaches (recordIn s) (conditionIn s at) ≡ _ = ap (conditionBreaches (recordIn s)) (h .value) in rw e k
+
+  pub others-visited : (k : ℕ) → Opened s at k → (k ≡ 8 → ⊥) → (k ≡ 7 → ⊥) → Sound (sink old st) → Appended old st (conditionBreaches (recordIn s) (conditionIn s at)) old st
+  others-visited k o h i p = no-report old st p _ (condition-free (recordIn s) (conditionIn s at) (λ q. h (o .kind ∙ q)) (λ q. i (o .kind ∙ q)))
 
 pub is-comparison : (s : List ℕ) (at k : ℕ) → Opened s at k → k ≡ 8 → kindOf (conditionIn s at) ≡ 8
 is-comparison s at k o e = sym (o .kind) ∙ e
 
-pub ruleset nodes = (needs, is-comparison, operand-sound, comparison-visited, predicate-visited, others-visited)
+pub ruleset nodes = (needs, is-comparison, comparison-visited, predicate-visited, others-visited)
 
 -- ---- all of them
 
@@ -218,19 +212,15 @@ PlacesLeft s whole now i = Reporting append (conditionBreaches (recordIn s)) who
 module _ (s : List ℕ) where
   pub places-begin : (a : Sink) → Sound a → PlacesLeft s (appendAll a (breaches (recordIn s))) a 0
   unfolding breaches
-  places-begin a k = reporting-begins (conditionBreaches (recordIn s)) append a (nodesOf s) k
+  places-begin a k = reporting-begins append (conditionBreaches (recordIn s)) a (nodesOf s) k
 
-  module _ (whole now : Sink) (i : ℕ) (l : PlacesLeft s whole now i) where
-    pub places-sound : Sound now
-    places-sound = l .sound
+  pub places-done : {old now : List ℕ} {st₀ st : State} {bs : List Breach} (i : ℕ) → PlacesLeft s (appendAll (sink old st₀) bs) (sink now st) i → (places : List ℕ) → Index s places → length places ≤ i → Appended old st₀ bs now st
+  places-done i l places h k =
+      let over : length (nodesOf s) ≤ i = omega (arith, h .size) in
+      let e : drop i (nodesOf s) ≡ [] = drop-of-length-le (nodesOf s) over in
+      reporting-over append (conditionBreaches (recordIn s)) (rw e at l)
 
-    pub places-done : (places : List ℕ) → Index s places → length places ≤ i → now ≡ whole
-    places-done places h k =
-        let over : length (nodesOf s) ≤ i = omega (arith, h .size) in
-        let e : drop i (nodesOf s) ≡ [] = drop-of-length-le (nodesOf s) over in
-        reporting-over (conditionBreaches (recordIn s)) (rw e at l)
+  pub places-turn : {whole : Sink} {now next : List ℕ} {st r : State} (i : ℕ) → PlacesLeft s whole (sink now st) i → (at : ℕ) → Reached s i at → Appended now st (conditionBreaches (recordIn s) (conditionIn s at)) next r → PlacesLeft s whole (sink next r) (i + 1)
+  places-turn i l at h e = reporting-next append (conditionBreaches (recordIn s)) (rw (h .rest) at l) e
 
-    pub places-turn : (at : ℕ) → Reached s i at → (next : Sink) → next ≡ appendAll now (conditionBreaches (recordIn s) (conditionIn s at)) → PlacesLeft s whole next (i + 1)
-    places-turn at h next e = append-next (conditionBreaches (recordIn s)) (rw (h .rest) at l) e
-
-pub ruleset placing = (needs, places-begin, places-sound, places-done, places-turn)
+pub ruleset placing = (needs, places-begin, places-done, places-turn)

@@ -2,35 +2,38 @@
 use Prim.Native.Nat.{ℕ}
 use mathlib.Core.Bool.{cond, _||_}
 use mathlib.Core.List.{List, [], _∷_, _++_}
-use Rattle.names.specs.Lists.{maybe, gather}
+use mathlib.Core.Option.{Option, none, some}
+use Rattle.names.specs.Lists.{gather}
 use Rattle.names.specs.Fields.{either, whole}
 use Rattle.names.specs.Names.{same, joined, lastOf}
 use Rattle.names.specs.Text.{text}
-use Rattle.condition.specs.Condition.{Condition, Term, Terms, Aggregate, Arguments, Span, named, paramRef, binderRef, Annotation, timepoint, path, one, two, predicate, comparison, exists, tp, opaque, noArgument, argument, entity, literal, contextField, scopeField, var, wildcard, array, aggregate, arith, sigil, nil, cons, sum, count, call, conditionRecord}
+use Rattle.condition.specs.Condition.{Condition, Term, Terms, Aggregate, Arguments, named, paramRef, binderRef, Annotation, timepoint, path, one, two, predicate, comparison, exists, tp, opaque, noArgument, argument, entity, literal, contextField, scopeField, var, wildcard, array, aggregate, arith, sigil, nil, cons, sum, count, call, conditionRecord}
 use Rattle.condition.specs.Walk.{binders, reached, lastNamed}
 use Rattle.reports.specs.Messages.{message}
 use Rattle.reports.specs.declared.Message.the-variants.{CannotSum, CannotSumTimepoint, CannotSumDecimal}
+use Rattle.messages.specs.Words.{Rule}
 use Rattle.reports.specs.Reports as reports
 use Rattle.reports.specs.Reports.{Breach, Outcome, refusal}
 
 -- one report; it has the shape of a breach
-abbrev pub report : Span → List ℕ → List Breach
-report at m = record { start = at .start; end = at .end; message = m } ∷ []
+abbrev pub report : List ℕ → Rule
+report m at = record { start = at .start; end = at .end; message = m } ∷ []
 
--- `sum_summand_type_error`: the report of a summand, by what its name is declared as; Long has none
-unfoldable pub summandBreach : Span → List ℕ → Annotation → List Breach
-summandBreach at name timepoint = report at (message CannotSumTimepoint (name ∷ name ∷ []))
-summandBreach at name (path segments) =
+-- `sum_summand_type_error`: the report of a summand, by what its name is declared as; Long has none, nor has a name that nothing declares
+unfoldable pub summandBreach : List ℕ → Option Annotation → Rule
+summandBreach name none at = []
+summandBreach name (some timepoint) at = report (message CannotSumTimepoint (name ∷ name ∷ [])) at
+summandBreach name (some (path segments)) at =
     let w : List ℕ = lastOf segments in
     cond (same w (text "Long")) []
     (cond (same w (text "decimal") || same w (text "Decimal"))
-    (report at (message CannotSumDecimal (name ∷ name ∷ [])))
-    (report at (message CannotSum (name ∷ name ∷ joined segments ∷ []))))
+    (report (message CannotSumDecimal (name ∷ name ∷ [])) at)
+    (report (message CannotSum (name ∷ name ∷ joined segments ∷ [])) at))
 
 -- `check_sum_summands` of a whole condition, the root; what its binders declare, the last of a name in walk order, is `collect_declared_binder_types`
 module _ (root : Condition) where
   unfoldable pub aggregateBreaches : Aggregate → List Breach
-  aggregateBreaches (sum at (named name) bs body) = maybe [] (summandBreach at name) (lastNamed name (binders root))
+  aggregateBreaches (sum at (named name) bs body) = summandBreach name (lastNamed name (binders root)) at
   aggregateBreaches (sum at paramRef bs body) = []
   aggregateBreaches (sum at binderRef bs body) = []
   aggregateBreaches (count at bs body) = []

@@ -12,7 +12,7 @@ ghost use Rattle.walk.specs.Index.{Index};
 ghost use Rattle.condition.specs.Walk.{binders};
 ghost use Rattle.walk.specs.Environment.{Environment};
 ghost use Rattle.reports.specs.Reports.{reported};
-ghost use Rattle.reports.specs.Sink.{sink, Sound, start, appendAll};
+ghost use Rattle.reports.specs.Sink.{sink, Sound, none, Appended};
 ghost use Rattle.reports.specs.Answers.{outcomeOf};
 ghost use Rattle.sums.specs.Sums.{breaches, sums};
 
@@ -22,7 +22,7 @@ fn in_places(s: &[u8], places: &[u16], env: &[u16], buf: &mut [u8], state: State
     requires { ⌜ Environment (now s) (binders (recordIn (now s))) (now env) ⌝ }
     requires { ⌜ length (now s) ≤ 32768 ⌝ }
     requires { ⌜ Sound (sink (now buf) state) ⌝ }
-    ensures { λ r. ⌜ sink (now (buf .exit)) r ≡ appendAll (sink (now (buf .entry)) state) (breaches (recordIn (now (s .entry)))) ⌝ }
+    ensures { λ r. ⌜ Appended (now (buf .entry)) state (breaches (recordIn (now (s .entry)))) (now (buf .exit)) r ⌝ }
 {
     let mut now = state;
     let mut i = 0;
@@ -38,7 +38,7 @@ fn in_places(s: &[u8], places: &[u16], env: &[u16], buf: &mut [u8], state: State
 fn over_places(s: &[u8], places: &[u16], buf: &mut [u8]) -> State
     requires { ⌜ Index (now s) (now places) ⌝ }
     requires { ⌜ isRecord (now s) ≡ true ⌝ }
-    ensures { λ r. ⌜ sink (now (buf .exit)) r ≡ appendAll (start (now (buf .entry))) (breaches (recordIn (now (s .entry)))) ⌝ }
+    ensures { λ r. ⌜ Appended (now (buf .entry)) none (breaches (recordIn (now (s .entry)))) (now (buf .exit)) r ⌝ }
 {
     let mut env = [0u16; 10921];
     let k = walk::environment(s, places, &mut env);
@@ -55,7 +55,7 @@ fn in_table(s: &[u8], table: &[u16], n: usize, buf: &mut [u8]) -> State
     requires { ⌜ n ≤ length (now table) ⌝ }
     requires { ⌜ Index (now s) (take n (now table)) ⌝ }
     requires { ⌜ isRecord (now s) ≡ true ⌝ }
-    ensures { λ r. ⌜ sink (now (buf .exit)) r ≡ appendAll (start (now (buf .entry))) (breaches (recordIn (now (s .entry)))) ⌝ }
+    ensures { λ r. ⌜ Appended (now (buf .entry)) none (breaches (recordIn (now (s .entry)))) (now (buf .exit)) r ⌝ }
 {
     over_places(s, &table[..n], buf)
 }

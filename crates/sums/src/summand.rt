@@ -1,26 +1,28 @@
 // The report of one Sum, by the annotation of the last binder of its summand's name (`sum_summand_type_error`).
-use crate::compose::append_named;
-use crate::compose::append_path;
+use messages::Said;
+use messages::Word;
+use messages::say;
 use nodes::Bound;
+use nodes::Ends;
 use nodes::SlotAt;
 use reports::Message;
 use reports::State;
 ghost use mathlib.Core.Path.{_≡_};
 ghost use mathlib.Core.Bool.{true, _||_};
-ghost use mathlib.Core.List.{[]};
+ghost use mathlib.Core.Option.{some};
 ghost use Prim.Native.Nat.{_≤_};
 ghost use lib.ListN.{length};
-ghost use Rattle.names.specs.Lists.{maybe};
 ghost use Rattle.names.specs.Names.{same};
+ghost use Rattle.names.specs.Read.{wordAt};
 ghost use Rattle.names.specs.Text.{text};
 ghost use Rattle.condition.specs.Condition.{path};
+ghost use Rattle.walk.specs.Environment.{Environment};
 ghost use Rattle.nodes.specs.Kinds.{aggregateKindOf};
 ghost use Rattle.condition.specs.Places.{recordIn, isAggregate, aggregateIn};
 ghost use Rattle.nodes.specs.Parts.{segmentsIn, SegmentsHere, boundIn, BoundStands};
 ghost use Rattle.condition.specs.Walk.{binders};
-ghost use Rattle.walk.specs.Environment.{Environment};
-ghost use Rattle.reports.specs.Sink.{sink, Sound, appendAll};
-ghost use Rattle.sums.specs.Named.{Name};
+ghost use Rattle.messages.specs.Words.{saidBreaches, SaidStands, Tells, spanIn};
+ghost use Rattle.reports.specs.Sink.{sink, Sound, Appended};
 ghost use Rattle.sums.specs.Sums.{summandBreach, aggregateBreaches};
 
 fn is_decimal(word: &[u8]) -> bool
@@ -32,65 +34,55 @@ fn is_decimal(word: &[u8]) -> bool
     names::same(word, b"Decimal")
 }
 
-// A summand that is declared by a path: its last segment says the type.
-fn by_path(
-    s: &[u8],
-    segments: usize,
-    name: &[u8],
-    start: u32,
-    end: u32,
-    buf: &mut [u8],
-    state: State,
-) -> State
+// A summand that is declared by a path: its last segment says the type. Its name stands at `name`.
+fn by_path(s: &[u8], segments: usize, name: usize) -> Said
     requires { ⌜ SegmentsHere (now s) segments ⌝ }
     requires { ⌜ length (now s) ≤ 32768 ⌝ }
-    requires { ⌜ length (now name) ≤ 255 ⌝ }
-    requires { ⌜ Sound (sink (now buf) state) ⌝ }
-    ensures { λ r. ⌜ sink (now (buf .exit)) r ≡ appendAll (sink (now (buf .entry)) state) (summandBreach (record { start = start; end = end }) (now (name .entry)) (path (segmentsIn (now (s .entry)) segments))) ⌝ }
+    ensures { λ r. ⌜ Tells (now (s .entry)) (now (s .entry)) (summandBreach (wordAt (now (s .entry)) name) (some (path (segmentsIn (now (s .entry)) segments)))) r ⌝ }
 {
+    let word = Word::Name(name);
+    let none = Word::Nothing;
     let last = names::word(s, nodes::last_segment(s, segments));
     if names::same(last, b"Long") {
-        return state;
+        return Said::Nothing;
     }
     if is_decimal(last) {
-        return append_named(buf, state, start, end, Message::CannotSumDecimal, name);
+        return say(Message::CannotSumDecimal, word, word, none, none);
     }
-    append_path(buf, state, start, end, name, s, segments)
+    say(Message::CannotSum, word, word, Word::Joined(segments), none)
 }
 
 // A summand, by what its name is bound to; a name that nothing binds is passed.
-fn by_bound(
-    s: &[u8],
-    bound: Bound,
-    name: &[u8],
-    start: u32,
-    end: u32,
-    buf: &mut [u8],
-    state: State,
-) -> State
+fn by_bound(s: &[u8], bound: Bound, name: usize) -> Said
     requires { ⌜ BoundStands (now s) bound ⌝ }
     requires { ⌜ length (now s) ≤ 32768 ⌝ }
-    requires { ⌜ length (now name) ≤ 255 ⌝ }
-    requires { ⌜ Sound (sink (now buf) state) ⌝ }
-    ensures { λ r. ⌜ sink (now (buf .exit)) r ≡ appendAll (sink (now (buf .entry)) state) (maybe [] (summandBreach (record { start = start; end = end }) (now (name .entry))) (boundIn (now (s .entry)) bound)) ⌝ }
+    ensures { λ r. ⌜ Tells (now (s .entry)) (now (s .entry)) (summandBreach (wordAt (now (s .entry)) name) (boundIn (now (s .entry)) bound)) r ⌝ }
 {
+    let word = Word::Name(name);
+    let none = Word::Nothing;
     match bound {
-        Bound::Segments(p) => {
-            return by_path(s, p, name, start, end, buf, state);
-        }
-        Bound::Timepoint => {
-            return append_named(buf, state, start, end, Message::CannotSumTimepoint, name);
-        }
-        Bound::Nothing => state,
+        Bound::Segments(p) => by_path(s, p, name),
+        Bound::Timepoint => say(Message::CannotSumTimepoint, word, word, none, none),
+        Bound::Nothing => Said::Nothing,
     }
 }
 
-// The name at a place, of 255 bytes at most.
-fn named<'a>(s: &'a [u8], at: usize) -> &'a [u8]
-    ensures { λ r. ⌜ Name (now (s .entry)) at (now r) ⌝ }
+// What is said, at a span: it is measured first, then written straight to the buffer.
+fn append(buf: &mut [u8], state: State, s: &[u8], span: Ends, said: Said) -> State
+    requires { ⌜ Sound (sink (now buf) state) ⌝ }
+    requires { ⌜ SaidStands (now s) (now s) said ⌝ }
+    ensures { λ r. ⌜ Appended (now (buf .entry)) state (saidBreaches (now (s .entry)) (now (s .entry)) said (spanIn span)) (now (buf .exit)) r ⌝ }
 {
-    let most = names::byte_at(s, at);
-    names::part_of(names::word(s, at), 0, most)
+    let Said::Message(message) = said else {
+        return state;
+    };
+    let long = messages::message_size(s, s, message);
+    if reports::has_room(buf, state, long) {
+        let at = reports::put_header(buf, state, span.start, span.end, long);
+        let next = messages::put_message(buf, at, s, s, message);
+        return reports::one_more(state, next);
+    }
+    reports::stopped(state)
 }
 
 // The Sum whose own kind byte stands at `at`; a summand that is a macro's parameter or binder is passed.
@@ -100,15 +92,14 @@ pub fn in_sum(s: &[u8], env: &[u16], at: usize, buf: &mut [u8], state: State) ->
     requires { ⌜ Environment (now s) (binders (recordIn (now s))) (now env) ⌝ }
     requires { ⌜ length (now s) ≤ 32768 ⌝ }
     requires { ⌜ Sound (sink (now buf) state) ⌝ }
-    ensures { λ r. ⌜ sink (now (buf .exit)) r ≡ appendAll (sink (now (buf .entry)) state) (aggregateBreaches (recordIn (now (s .entry))) (aggregateIn (now (s .entry)) at)) ⌝ }
+    ensures { λ r. ⌜ Appended (now (buf .entry)) state (aggregateBreaches (recordIn (now (s .entry))) (aggregateIn (now (s .entry)) at)) (now (buf .exit)) r ⌝ }
 {
     let slot = nodes::slot_at(s, nodes::aggregate_part(s, at));
     match slot {
-        SlotAt::Named(p) => {
-            let name = named(s, p);
-            let bound = walk::bound_in(s, env, name);
+        SlotAt::Named(name) => {
+            let bound = walk::bound_in(s, env, names::word(s, name));
             let span = nodes::aggregate_span_at(s, at);
-            return by_bound(s, bound, name, span.start, span.end, buf, state);
+            return append(buf, state, s, span, by_bound(s, bound, name));
         }
         SlotAt::ParamRef => state,
         SlotAt::BinderRef => state,

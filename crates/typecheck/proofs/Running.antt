@@ -6,7 +6,7 @@ use mathlib.Core.Option.{Option, none, some}
 use Prim.Native.Nat.{ℕ, _+_, _-_, _≤_, _<_}
 use native.Mathlib.Omega.{arith}
 use borrow.Author.Needs.{needs}
-use lib.ListN.{length, drop, length-drop}
+use lib.ListN.{length, drop, drop-of-length-le}
 use lib.Seq.{length-take-le}
 use Rattle.names.specs.Lists.{maybe, gather}
 use Rattle.names.specs.Fields.{whole}
@@ -32,49 +32,57 @@ use Rattle.resolution.specs.Resolution.{admitsAnyEnv}
 use Rattle.reports.specs.Reports.{Breach}
 use Rattle.reports.specs.declared.State.{State}
 use Rattle.reports.specs.declared.Answer.{Answer}
-use Rattle.reports.specs.Sink.{Sink, sink, start, Sound, push, pushAll}
-use Rattle.reports.specs.Sink.Laws.{Reporting, reporting-begins, reporting-over, push-next, push-none, sound-start}
+use Rattle.reports.specs.Sink as sinks
+use Rattle.reports.specs.Sink.{Sink, sink, Sound, push, pushAll, Pushed}
+use Rattle.reports.specs.Sink.Laws.{Reporting, reporting-begins, reporting-next, reporting-over, recorded-none, sound-start}
 use Rattle.reports.specs.Answers.{outcomeOf, Answers, Refuses, pushed}
 use Rattle.terms.specs.declared.Common.{Common}
 use Rattle.terms.specs.declared.Facts.{Facts}
 use Rattle.terms.specs.Terms.{factsOf}
 use Rattle.terms.specs.Facts.{factsIn, Known, FactsOf}
 use Rattle.terms.proofs.Under.{facts-mean}
-use Rattle.typecheck.specs.Check.{nodeBreaches, breachesUnder, checked, check}
-use Rattle.typecheck.specs.Ready.{Ready}
+use Rattle.rules.specs.Rules.{nodeBreaches}
+use Rattle.typecheck.specs.Check.{breachesUnder, checked, check}
+use Rattle.typecheck.specs.Ready.{Ready, underBreaches, UnderKnown, UnderHere}
+use Rattle.typecheck.specs.declared.Under.{Under}
+use Rattle.typecheck.specs.declared.Under.the-variants.{Skipped, Checked}
 
 -- ---- the reached nodes
 
-none-left : {A : Type 0} (xs : List A) → length xs ≤ 0 → xs ≡ []
-none-left [] h = refl
-none-left (x ∷ xs) h = absurd (omega arith)
+-- the invariant of the loop over the nodes: those that are left, put in, make the whole
+abbrev pub NodesLeft : (Condition → List Breach) → List ℕ → Sink → Sink → ℕ → Type 0
+NodesLeft f c whole now i = Reporting push f whole now (drop i (nodesOf c))
 
 module _ (f : Condition → List Breach) (c : List ℕ) where
-  pub nodes-begin : (s : Sink) → Sound s → Reporting push f (pushAll s (gather f (nodesOf c))) s (drop 0 (nodesOf c))
-  nodes-begin s p = reporting-begins f push s (nodesOf c) p
+  pub nodes-begin : (a : Sink) → Sound a → NodesLeft f c (pushAll a (gather f (nodesOf c))) a 0
+  nodes-begin a p = reporting-begins push f a (nodesOf c) p
 
-  module _ (all now : Sink) (i : ℕ) (r : Reporting push f all now (drop i (nodesOf c))) where
-    pub nodes-turn : (at : ℕ) → Reached c i at → {next : Sink} → next ≡ pushAll now (f (conditionIn c at)) → Reporting push f all next (drop (i + 1) (nodesOf c))
-    nodes-turn at h e = push-next f (rw (h .rest) at r) e
+  module _ (i : ℕ) where
+    pub nodes-turn : {whole : Sink} {now next : List ℕ} {st r : State} → NodesLeft f c whole (sink now st) i → (at : ℕ) → Reached c i at → Pushed now st (f (conditionIn c at)) next r → NodesLeft f c whole (sink next r) (i + 1)
+    nodes-turn l at h e = reporting-next push f (rw (h .rest) at l) e
 
-    pub nodes-over : (places : List ℕ) → Index c places → length places ≤ i → now ≡ all
-    nodes-over places x h =
-        let e : drop i (nodesOf c) ≡ [] = none-left (drop i (nodesOf c)) (rw length-drop (omega (arith, x .size))) in
-        reporting-over f (rw e at r)
+    pub nodes-over : {old now : List ℕ} {st₀ st : State} {bs : List Breach} → NodesLeft f c (pushAll (sink old st₀) bs) (sink now st) i → (places : List ℕ) → Index c places → length places ≤ i → Pushed old st₀ bs now st
+    nodes-over l places x h =
+        let over : drop i (nodesOf c) ≡ [] = drop-of-length-le (nodesOf c) {i = i} (omega (arith, x .size)) in
+        reporting-over push f (rw over at l)
 
 pub ruleset each-node = (needs, nodes-begin, nodes-turn, nodes-over)
 
+-- where the target is checked
+module _ (s c n : List ℕ) (x : Under) where
+  pub target-passed : x ≡ Skipped → (old : List ℕ) (st : State) → Sound (sink old st) → Pushed old st (underBreaches s c n x) old st
+  target-passed e old st p = rw e (recorded-none old st p)
+
+  module _ (f : Facts) (e : x ≡ Checked f) where
+    pub facts-known : (env : List ℕ) → UnderKnown s c env x → Known s c env f
+    facts-known env h = rw e at h
+
+    pub target-told : {old now : List ℕ} {st₀ st : State} → Pushed old st₀ (underBreaches s c n (Checked f)) now st → Pushed old st₀ (underBreaches s c n x) now st
+    target-told p = rw e p
+
+pub ruleset where-checked = (needs, target-passed, facts-known, target-told)
+
 -- ---- under a target
-
-module _ (s c n places env : List ℕ) (found : Found) (common : Common) (f : Facts) (k : FactsOf n found common f) where
-  pub facts-known : Ready s c n places env common → foundStands (isAction s) found ≡ true → Known s c env f
-  facts-known r h = record { schema = r .schema; condition = r .condition; named = r .named; action = rw (k .action) h; actions = rw (k .shared) (r .actions) }
-
-  pub under-facts : (now : Sink) {next : Sink} → next ≡ pushAll now (gather (nodeBreaches (factsIn s c n f)) (nodesOf c))
-      → next ≡ pushAll now (gather (nodeBreaches (factsOf (schemaIn s) (recordIn c) (targetsIn n .scope) (foundIn (actionIn s) found))) (nodesOf c))
-  under-facts now g = rw (facts-mean s c n found common f k) at g
-
-pub ruleset by-action = (needs, facts-known, under-facts)
 
 module _ (s n : List ℕ) (found : Found) (p : ℕ) (e : found ≡ Found.At p) where
   pub action-stands : foundStands (isAction s) found ≡ true → isAction s p ≡ true
@@ -92,22 +100,27 @@ module _ (s : Schema) (c : Condition) (scope : Scope) (t : Target) where
   under-checked none e h = rw (← e)
   under-checked (some a) e h = rw (← e, h)
 
-  under-skipped : (o : Option Action) → o ≡ findAction s (t .namespace) (t .id) → maybe true (admitsAnyEnv s scope) o ≡ false → [] ≡ breachesUnder s c scope t
+  under-skips : (o : Option Action) → o ≡ findAction s (t .namespace) (t .id) → maybe true (admitsAnyEnv s scope) o ≡ false → [] ≡ breachesUnder s c scope t
   unfolding breachesUnder
-  under-skipped none e h = absurd (true≢false h)
-  under-skipped (some a) e h = rw (← e, h)
+  under-skips none e h = absurd (true≢false h)
+  under-skips (some a) e h = rw (← e, h)
 
-module _ (s c n : List ℕ) (at : ℕ) (w : List ℕ) (is-w : w ≡ targetIn n at .namespace) (v : List ℕ) (is-v : v ≡ targetIn n at .id) (x : Found) (finds : FindsAction s (findAction (schemaIn s) w v) x)
-    (b : Bool) (is-b : b ≡ maybe true (admitsAnyEnv (schemaIn s) (targetsIn n .scope)) (foundIn (actionIn s) x)) (now : Sink) where
+module _ (s n : List ℕ) (at : ℕ) (w : List ℕ) (is-w : w ≡ targetIn n at .namespace) (v : List ℕ) (is-v : v ≡ targetIn n at .id) (x : Found) (finds : FindsAction s (findAction (schemaIn s) w v) x)
+    (b : Bool) (is-b : b ≡ maybe true (admitsAnyEnv (schemaIn s) (targetsIn n .scope)) (foundIn (actionIn s) x)) (common : Common) where
   looked-up : foundIn (actionIn s) x ≡ findAction (schemaIn s) (targetIn n at .namespace) (targetIn n at .id)
   looked-up = rw (← is-w, ← is-v) (finds .value)
 
-  pub target-checked : b ≡ true → {next : Sink} → next ≡ pushAll now (gather (nodeBreaches (factsOf (schemaIn s) (recordIn c) (targetsIn n .scope) (foundIn (actionIn s) x))) (nodesOf c))
-      → next ≡ pushAll now (breachesUnder (schemaIn s) (recordIn c) (targetsIn n .scope) (targetIn n at))
-  target-checked h g = g ∙ ap (pushAll now) (under-checked (schemaIn s) (recordIn c) (targetsIn n .scope) (targetIn n at) (foundIn (actionIn s) x) looked-up (sym is-b ∙ h))
+  pub target-checked : b ≡ true → (f : Facts) → FactsOf n x common f → UnderHere s n common at (Checked f)
+  target-checked h f k = record {
+    known = λ c places env r. record { schema = r .schema; condition = r .condition; named = r .named; action = rw (k .action) (finds .stands); actions = rw (k .shared) (r .actions) };
+    value = λ c. rw (facts-mean s c n x common f k) (under-checked (schemaIn s) (recordIn c) (targetsIn n .scope) (targetIn n at) (foundIn (actionIn s) x) looked-up (sym is-b ∙ h));
+  }
 
-  pub target-skipped : b ≡ false → now ≡ pushAll now (breachesUnder (schemaIn s) (recordIn c) (targetsIn n .scope) (targetIn n at))
-  target-skipped h = push-none now ∙ ap (pushAll now) (under-skipped (schemaIn s) (recordIn c) (targetsIn n .scope) (targetIn n at) (foundIn (actionIn s) x) looked-up (sym is-b ∙ h))
+  pub target-skipped : b ≡ false → UnderHere s n common at Skipped
+  target-skipped h = record {
+    known = λ c places env r. tt;
+    value = λ c. under-skips (schemaIn s) (recordIn c) (targetsIn n .scope) (targetIn n at) (foundIn (actionIn s) x) looked-up (sym is-b ∙ h);
+  }
 
 pub ruleset one-target = (needs, target-checked, target-skipped)
 
@@ -119,27 +132,34 @@ pub record TargetsLeft (f : Target → List Breach) (n : List ℕ) (all now : Si
   pub reporting : Reporting push f all now left
 
 module _ (f : Target → List Breach) (n : List ℕ) where
-  pub targets-begin : (s : Sink) (list : List Target) (rest at : ℕ) → rest ≡ length list → Listed target n list (length list) at → Sound s → TargetsLeft f n (pushAll s (gather f list)) s rest at
-  targets-begin s list rest at e l p = record { left = list; there = rw e l; reporting = reporting-begins f push s list p }
+  pub targets-begin : (a : Sink) (list : List Target) (rest at : ℕ) → rest ≡ length list → Listed target n list (length list) at → Sound a → TargetsLeft f n (pushAll a (gather f list)) a rest at
+  targets-begin a list rest at e l p = record { left = list; there = rw e l; reporting = reporting-begins push f a list p }
 
-  module _ (all now : Sink) (rest at : ℕ) (l : TargetsLeft f n all now rest at) where
-    pub targets-over : rest ≤ 0 → now ≡ all
-    targets-over h = reporting-over f (rw (listed-over target n (l .left) rest at h (l .there)) at (l .reporting))
+  module _ (rest at : ℕ) where
+    pub targets-over : {old now : List ℕ} {st₀ st : State} {bs : List Breach} → TargetsLeft f n (pushAll (sink old st₀) bs) (sink now st) rest at → rest ≤ 0 → Pushed old st₀ bs now st
+    targets-over l h = reporting-over push f (rw (listed-over target n (l .left) rest at h (l .there)) at (l .reporting))
 
-    module _ (h : 0 < rest) where
-      pub targets-stand : isTarget n at ≡ true
-      targets-stand = listed-first target n (record { namespace = []; id = [] }) (l .left) rest at h (l .there) .stands
+    pub targets-stand : {all now : Sink} → TargetsLeft f n all now rest at → 0 < rest → isTarget n at ≡ true
+    targets-stand l h = listed-first target n (record { namespace = []; id = [] }) (l .left) rest at h (l .there) .stands
 
-      pub targets-turn : {next : Sink} → next ≡ pushAll now (f (targetIn n at)) → (m : ℕ) → Read.Next m ≡ ending (target n at) → TargetsLeft f n all next (rest - 1) m
-      targets-turn e m g =
-          let d = listed-first target n (record { namespace = []; id = [] }) (l .left) rest at h (l .there) in
-          record { left = d .others; there = d .on m g; reporting = push-next f (rw (d .value) at (l .reporting)) e }
+    targets-turn : {all : Sink} {now next : List ℕ} {st r : State} → TargetsLeft f n all (sink now st) rest at → 0 < rest → Pushed now st (f (targetIn n at)) next r → (m : ℕ) → Read.Next m ≡ ending (target n at) → TargetsLeft f n all (sink next r) (rest - 1) m
+    targets-turn l h e m g =
+        let d = listed-first target n (record { namespace = []; id = [] }) (l .left) rest at h (l .there) in
+        record { left = d .others; there = d .on m g; reporting = reporting-next push f (rw (d .value) at (l .reporting)) e }
 
-pub ruleset each-target = (needs, targets-begin, targets-over, targets-stand, targets-turn)
+module _ (s c n places env : List ℕ) (common : Common) (at : ℕ) (x : Under) (h : UnderHere s n common at x) where
+  pub target-known : Ready s c n places env common → UnderKnown s c env x
+  target-known r = h .known c places env r
+
+  pub target-turn : (rest : ℕ) {all : Sink} {now next : List ℕ} {st r : State} → TargetsLeft (breachesUnder (schemaIn s) (recordIn c) (targetsIn n .scope)) n all (sink now st) rest at → 0 < rest → Pushed now st (underBreaches s c n x) next r
+      → (m : ℕ) → Read.Next m ≡ ending (target n at) → TargetsLeft (breachesUnder (schemaIn s) (recordIn c) (targetsIn n .scope)) n all (sink next r) (rest - 1) m
+  target-turn rest l p e m g = targets-turn (breachesUnder (schemaIn s) (recordIn c) (targetsIn n .scope)) n rest at l p (rw (h .value c) at e) m g
+
+pub ruleset each-target = (needs, targets-begin, targets-over, targets-stand, target-known, target-turn)
 
 -- ---- the records
 
-pub all-checked : (s : Schema) (c : Condition) (ts : Targets) (b : List ℕ) {t : List ℕ} {st : State} → sink t st ≡ pushAll (start b) (gather (breachesUnder s c (ts .scope)) (ts .list)) → {r : Answer} → Answers st r → outcomeOf r t ≡ checked s c ts b
+pub all-checked : (s : Schema) (c : Condition) (ts : Targets) (b : List ℕ) {t : List ℕ} {st : State} → Pushed b sinks.none (gather (breachesUnder s c (ts .scope)) (ts .list)) t st → {r : Answer} → Answers st r → outcomeOf r t ≡ checked s c ts b
 unfolding checked
 all-checked s c ts b e a = pushed b (gather (breachesUnder s c (ts .scope)) (ts .list)) e a
 

@@ -1,4 +1,2 @@
-pub mod Messages
 pub mod Check
-pub mod Parts
 pub mod Ready

@@ -3,14 +3,21 @@
 use Prim.Native.Nat.{ℕ}
 use mathlib.Core.Path.{_≡_}
 use mathlib.Core.Bool.{true}
-use mathlib.Core.List.{List}
-use Rattle.schema.specs.Places.{isSchema, ActionsOf}
+use mathlib.Core.List.{List, []}
+use Rattle.names.specs.Lists.{gather}
+use Rattle.schema.specs.Places.{isSchema, schemaIn, ActionsOf}
 use Rattle.condition.specs.Places.{isRecord, recordIn}
 use Rattle.condition.specs.Walk.{binders}
-use Rattle.walk.specs.Index.{Index}
+use Rattle.walk.specs.Index.{Index, nodesOf}
 use Rattle.walk.specs.Environment.{Environment}
-use Rattle.targets.specs.Places.{areTargets}
+use Rattle.targets.specs.Places.{areTargets, targetsIn, targetIn}
 use Rattle.terms.specs.declared.Common.{Common}
+use Rattle.terms.specs.Facts.{factsIn, Known}
+use Rattle.reports.specs.Reports.{Breach}
+use Rattle.rules.specs.Rules.{nodeBreaches}
+use Rattle.typecheck.specs.Check.{breachesUnder}
+use Rattle.typecheck.specs.declared.Under.{Under}
+use Rattle.typecheck.specs.declared.Under.the-variants.{Skipped, Checked}
 
 pub record Ready (s c n places env : List ℕ) (common : Common) : Type 0 where
   pub schema : isSchema s ≡ true
@@ -19,3 +26,17 @@ pub record Ready (s c n places env : List ℕ) (common : Common) : Type 0 where
   pub index : Index c places
   pub named : Environment c (binders (recordIn c)) env
   pub actions : ActionsOf s (common .actions)
+
+-- the breaches under a target, and what is known where it is checked
+abbrev pub underBreaches : List ℕ → List ℕ → List ℕ → Under → List Breach
+underBreaches s c n Skipped = []
+underBreaches s c n (Checked f) = gather (nodeBreaches (factsIn s c n f)) (nodesOf c)
+
+abbrev pub UnderKnown : List ℕ → List ℕ → List ℕ → Under → Type 0
+UnderKnown s c env Skipped = Unit {0}
+UnderKnown s c env (Checked f) = Known s c env f
+
+-- the target at a place
+pub record UnderHere (s n : List ℕ) (common : Common) (at : ℕ) (r : Under) : Type 0 where
+  pub known : (c places env : List ℕ) → Ready s c n places env common → UnderKnown s c env r
+  pub value : (c : List ℕ) → underBreaches s c n r ≡ breachesUnder (schemaIn s) (recordIn c) (targetsIn n .scope) (targetIn n at)

@@ -1,5 +1,5 @@
 // The run: the records read in their order, the condition indexed once, then each target and each reached node under it.
-use crate::node::node;
+use crate::Under;
 use names::Found;
 use names::Read;
 use reports::Answer;
@@ -11,19 +11,18 @@ use terms::Facts;
 ghost use mathlib.Core.Path.{_≡_};
 ghost use mathlib.Core.Bool.{true};
 ghost use Rattle.names.specs.Lists.{gather, maybe};
-ghost use Rattle.schema.specs.Places.{isSchema, schemaIn, isAction, actionIn, foundIn, foundStands};
-ghost use Rattle.targets.specs.Places.{areTargets, targetsIn, isTarget, targetIn};
+ghost use Rattle.schema.specs.Places.{isSchema, schemaIn, isAction, actionIn, foundIn, foundStands, ActionsOf};
+ghost use Rattle.targets.specs.Places.{areTargets, targetsIn, isTarget};
 ghost use Rattle.condition.specs.Places.{isRecord, recordIn};
-ghost use Rattle.walk.specs.Index.{Index, nodesOf};
+ghost use Rattle.walk.specs.Index.{Index};
 ghost use Rattle.resolution.specs.Resolution.{admitsAnyEnv};
-ghost use Rattle.reports.specs.Sink.{sink, Sound, pushAll};
+ghost use Rattle.reports.specs.Sink.{sink, Sound, Pushed};
 ghost use Rattle.reports.specs.Answers.{outcomeOf};
-ghost use Rattle.terms.specs.Terms.{factsOf};
-ghost use Rattle.terms.specs.Facts.{factsIn, Known};
-ghost use Rattle.typecheck.specs.Check.{nodeBreaches, breachesUnder, checked, check};
-ghost use Rattle.typecheck.specs.Ready.{Ready};
+ghost use Rattle.terms.specs.Facts.{Known};
+ghost use Rattle.typecheck.specs.Check.{breachesUnder, checked, check};
+ghost use Rattle.typecheck.specs.Ready.{Ready, underBreaches, UnderKnown, UnderHere};
 
-// The reached nodes under the facts of one target.
+// The reached nodes under the facts of a target.
 fn nodes<'a>(
     buf: &mut [u8],
     state: State,
@@ -37,20 +36,20 @@ fn nodes<'a>(
     requires { ⌜ Sound (sink (now buf) state) ⌝ }
     requires { ⌜ Index (now condition) (now places) ⌝ }
     requires { ⌜ Known (now schema) (now condition) (now env) facts ⌝ }
-    ensures { λ after. ⌜ sink (now (buf .exit)) after ≡ pushAll (sink (now (buf .entry)) state) (gather (nodeBreaches (factsIn (now (schema .entry)) (now (condition .entry)) (now (targets .entry)) facts)) (nodesOf (now (condition .entry)))) ⌝ }
+    ensures { λ after. ⌜ Pushed (now (buf .entry)) state (underBreaches (now (schema .entry)) (now (condition .entry)) (now (targets .entry)) (Under.Checked facts)) (now (buf .exit)) after ⌝ }
 {
     let mut now = state;
     let mut i = 0;
     while i < places.len() {
         let at = walk::reached_at(condition, places, i);
-        now = node(buf, now, schema, condition, targets, env, facts, at);
+        now = rules::node(buf, now, schema, condition, targets, env, facts, at);
         i += 1;
     }
     now
 }
 
-// The reached nodes under a target whose action was looked up.
-fn under_action<'a>(
+// The reached nodes under a target, where it is checked.
+fn under<'a>(
     buf: &mut [u8],
     state: State,
     schema: &'a [u8],
@@ -58,15 +57,16 @@ fn under_action<'a>(
     targets: &[u8],
     places: &[u16],
     env: &[u16],
-    common: Common,
-    found: Found,
+    target: Under,
 ) -> State
     requires { ⌜ Sound (sink (now buf) state) ⌝ }
-    requires { ⌜ Ready (now schema) (now condition) (now targets) (now places) (now env) common ⌝ }
-    requires { ⌜ foundStands (isAction (now schema)) found ≡ true ⌝ }
-    ensures { λ after. ⌜ sink (now (buf .exit)) after ≡ pushAll (sink (now (buf .entry)) state) (gather (nodeBreaches (factsOf (schemaIn (now (schema .entry))) (recordIn (now (condition .entry))) (targetsIn (now (targets .entry)) .scope) (foundIn (actionIn (now (schema .entry))) found))) (nodesOf (now (condition .entry)))) ⌝ }
+    requires { ⌜ Index (now condition) (now places) ⌝ }
+    requires { ⌜ UnderKnown (now schema) (now condition) (now env) target ⌝ }
+    ensures { λ after. ⌜ Pushed (now (buf .entry)) state (underBreaches (now (schema .entry)) (now (condition .entry)) (now (targets .entry)) target) (now (buf .exit)) after ⌝ }
 {
-    let facts = terms::facts_of(targets, found, common);
+    let Under::Checked(facts) = target else {
+        return state;
+    };
     nodes(buf, state, schema, condition, targets, places, env, facts)
 }
 
@@ -83,22 +83,13 @@ fn is_checked(schema: &[u8], targets: &[u8], found: Found) -> bool
     resolution::admits_any_env(schema, targets, action)
 }
 
-// The target at `at`: its action is looked up once.
-fn under_target<'a>(
-    buf: &mut [u8],
-    state: State,
-    schema: &'a [u8],
-    condition: &'a [u8],
-    targets: &[u8],
-    places: &[u16],
-    env: &[u16],
-    common: Common,
-    at: usize,
-) -> State
-    requires { ⌜ Sound (sink (now buf) state) ⌝ }
-    requires { ⌜ Ready (now schema) (now condition) (now targets) (now places) (now env) common ⌝ }
+// The target at `at`: its action is looked up once, and with it its facts are known.
+fn under_target(schema: &[u8], targets: &[u8], common: Common, at: usize) -> Under
+    requires { ⌜ isSchema (now schema) ≡ true ⌝ }
+    requires { ⌜ areTargets (now targets) ≡ true ⌝ }
+    requires { ⌜ ActionsOf (now schema) (common .actions) ⌝ }
     requires { ⌜ isTarget (now targets) at ≡ true ⌝ }
-    ensures { λ after. ⌜ sink (now (buf .exit)) after ≡ pushAll (sink (now (buf .entry)) state) (breachesUnder (schemaIn (now (schema .entry))) (recordIn (now (condition .entry))) (targetsIn (now (targets .entry)) .scope) (targetIn (now (targets .entry)) at)) ⌝ }
+    ensures { λ r. ⌜ UnderHere (now (schema .entry)) (now (targets .entry)) common at r ⌝ }
 {
     let found = schema::action_among(
         schema,
@@ -108,19 +99,9 @@ fn under_target<'a>(
         targets::id_of(targets, at),
     );
     if is_checked(schema, targets, found) {
-        return under_action(
-            buf,
-            state,
-            schema,
-            condition,
-            targets,
-            places,
-            env,
-            common,
-            found,
-        );
+        return Under::Checked(terms::facts_of(targets, found, common));
     }
-    state
+    Under::Skipped
 }
 
 // Each target of the record.
@@ -136,23 +117,14 @@ fn all_targets<'a>(
 ) -> State
     requires { ⌜ Sound (sink (now buf) state) ⌝ }
     requires { ⌜ Ready (now schema) (now condition) (now targets) (now places) (now env) common ⌝ }
-    ensures { λ after. ⌜ sink (now (buf .exit)) after ≡ pushAll (sink (now (buf .entry)) state) (gather (breachesUnder (schemaIn (now (schema .entry))) (recordIn (now (condition .entry))) (targetsIn (now (targets .entry)) .scope)) (targetsIn (now (targets .entry)) .list)) ⌝ }
+    ensures { λ after. ⌜ Pushed (now (buf .entry)) state (gather (breachesUnder (schemaIn (now (schema .entry))) (recordIn (now (condition .entry))) (targetsIn (now (targets .entry)) .scope)) (targetsIn (now (targets .entry)) .list)) (now (buf .exit)) after ⌝ }
 {
     let mut now = state;
     let mut rest = targets::count(targets);
     let mut at = targets::first_target(targets);
     while 0 < rest {
-        now = under_target(
-            buf,
-            now,
-            schema,
-            condition,
-            targets,
-            places,
-            env,
-            common,
-            at,
-        );
+        let target = under_target(schema, targets, common, at);
+        now = under(buf, now, schema, condition, targets, places, env, target);
         at = targets::next_target(targets, at);
         rest -= 1;
     }

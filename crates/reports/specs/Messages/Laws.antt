@@ -1,16 +1,16 @@
 -- Laws of the messages: the fixed texts as one table, and how long a message is. Assumes nothing.
 use mathlib.Core.Path.{_≡_, refl, sym, ap, _∙_}
-use mathlib.Core.List.{List, [], _∷_, _++_}
+use mathlib.Core.List.{List, [], _∷_, _++_, append-assoc}
 use Prim.Native.Nat.{ℕ, suc, _+_, _≤_, _<_}
 use native.Mathlib.Numerals.{add-one}
 use native.Mathlib.Omega.{arith}
-use lib.ListN.{length, getD, take, drop, length-append, List·getD-append}
+use lib.ListN.{length, getD, take, drop, length-append, drop-of-length-le, List·getD-append}
 use lib.Seq.{getD-drop, drop-cons}
 use lib.Dec.{lit<, lit≤}
 use Rattle.names.specs.Lists.{gather}
 use Rattle.names.specs.Text.{text}
 use Rattle.names.specs.Writer.{Stored}
-use Rattle.names.specs.Laws.Writers.{stored-more, stored-length}
+use Rattle.names.specs.Laws.Writers.{stored-none, stored-more, stored-length}
 use Rattle.reports.specs.declared.Message.{Message}
 use Rattle.reports.specs.declared.Message.the-variants.{WrongArgument, WrongTimepoint, NotNumeric, UnlikeTypes, WildcardInside, NotLong, CannotSum, CannotSumTimepoint, CannotSumDecimal}
 use Rattle.reports.specs.Messages.{parts, part, words, textSize, filled, from, message}
@@ -78,40 +78,58 @@ pieces-last CannotSumDecimal = lit< tt
 
 -- ---- a message, text by text
 
--- there is room for what is still to be written from a place on
-pub record Ahead (s : List ℕ) (at : ℕ) (vs : List ℕ) : Type 0 where
-  pub room : at + length vs ≤ length s
-
 module _ (m : Message) (i : ℕ) where
-  pub from-word : (w : List ℕ) (ws : List (List ℕ)) → i < words m → from m i (w ∷ ws) ≡ (part m i ++ w) ++ from m (suc i) ws
+  from-word : (w : List ℕ) (ws : List (List ℕ)) → i < words m → from m i (w ∷ ws) ≡ (part m i ++ w) ++ from m (suc i) ws
   unfolding from filled
   from-word w ws h = rw (drop-cons (parts m) i [] (omega (arith, parts-count m)))
 
-  pub from-last : i ≤ words m → from m i [] ≡ part m i
+  from-last : i ≤ words m → from m i [] ≡ part m i
   unfolding from filled
   from-last h = rw (drop-cons (parts m) i [] (omega (arith, parts-count m)))
 
-  -- a text and a word are written, and the rest behind them
-  module _ (w : List ℕ) (ws : List (List ℕ)) (h : i < words m) where
-    pub word-room : (s : List ℕ) (at : ℕ) → Ahead s at (from m i (w ∷ ws)) → at + length (part m i) + length w ≤ length s
-    word-room s at k = omega (arith, k .room, ap length (from-word w ws h), length-append (part m i ++ w) (from m (suc i) ws), length-append (part m i) w)
+-- A loop that writes a message: the texts before the text i are written, each with its word, and what is left makes the whole.
+pub record Composing (m : Message) (ws : List (List ℕ)) (old : List ℕ) (start : ℕ) (now : List ℕ) (at i : ℕ) : Type 0 where
+  pub done : List ℕ
+  pub written : Stored old start done now at
+  pub same : done ++ from m i (drop i ws) ≡ message m ws
+  pub inside : i ≤ words m
 
-    pub then-rest : {s s′ s″ : List ℕ} {at r r′ : ℕ} → Stored s at (part m i ++ w) s′ r → Stored s′ r (from m (suc i) ws) s″ r′ → Stored s at (from m i (w ∷ ws)) s″ r′
-    then-rest p q = rw (from-word w ws h) (stored-more p q)
+module _ (m : Message) (ws : List (List ℕ)) (full : length ws ≡ words m) (old : List ℕ) (start : ℕ) (room : start + length (message m ws) ≤ length old) where
+  pub composing-begins : Composing m ws old start old start 0
+  composing-begins = record { done = []; written = stored-none old start (omega arith); same = refl; inside = omega arith }
 
-    -- j is the number of the next text
-    pub rest-room : (j : ℕ) {s s′ : List ℕ} {at r : ℕ} → Stored s at (part m i ++ w) s′ r → j ≡ suc i → Ahead s at (from m i (w ∷ ws)) → Ahead s′ r (from m j ws)
-    rest-room j p e k = rw e (record {
-      room = omega (arith, k .room, p .next, stored-length p, ap length (from-word w ws h), length-append (part m i ++ w) (from m (suc i) ws));
-    })
+  module _ (now : List ℕ) (at i : ℕ) (c : Composing m ws old start now at i) where
+    left-room : at + length (from m i (drop i ws)) ≤ length now
+    left-room = omega (arith, ap length (c .same), length-append (c .done) (from m i (drop i ws)), c .written .next, stored-length (c .written))
 
-  -- the last text
-  module _ (h : i ≤ words m) where
-    pub last-room : (s : List ℕ) (at : ℕ) → Ahead s at (from m i []) → at + length (part m i) ≤ length s
-    last-room s at k = rw (from-last h) at (k .room)
+    -- one more text, and the word behind it
+    module _ (h : i < words m) where
+      next-word : from m i (drop i ws) ≡ (part m i ++ getD ws i []) ++ from m (suc i) (drop (suc i) ws)
+      next-word = ap (from m i) (drop-cons ws i [] (omega arith)) ∙ from-word m i (getD ws i []) (drop (suc i) ws) h
 
-    pub last-text : {s s′ : List ℕ} {at r : ℕ} → Stored s at (part m i) s′ r → Stored s at (from m i []) s′ r
-    last-text p = rw (from-last h) p
+      pub composing-room : at + length (part m i ++ getD ws i []) ≤ length now
+      composing-room = omega (arith, left-room, ap length next-word, length-append (part m i ++ getD ws i []) (from m (suc i) (drop (suc i) ws)))
+
+      pub composing-turn : {now′ : List ℕ} {at′ : ℕ} → Stored now at (part m i ++ getD ws i []) now′ at′ → Composing m ws old start now′ at′ (i + 1)
+      composing-turn p = rw add-one (record {
+        done = c .done ++ (part m i ++ getD ws i []);
+        written = stored-more (c .written) p;
+        same = append-assoc (c .done) (part m i ++ getD ws i []) (from m (suc i) (drop (suc i) ws)) ∙ ap (λ (l : List ℕ). c .done ++ l) (sym next-word) ∙ c .same;
+        inside = omega arith;
+      })
+
+    -- the last text
+    module _ (h : words m ≤ i) where
+      last-text : from m i (drop i ws) ≡ part m i
+      last-text = ap (from m i) (drop-of-length-le ws {i = i} (omega arith)) ∙ from-last m i (c .inside)
+
+      pub last-room : at + length (part m i) ≤ length now
+      last-room = omega (arith, left-room, ap length last-text)
+
+      pub composing-over : {now′ : List ℕ} {at′ : ℕ} → Stored now at (part m i) now′ at′ → Stored old start (message m ws) now′ at′
+      composing-over p =
+          let e : c .done ++ part m i ≡ message m ws = ap (λ (l : List ℕ). c .done ++ l) (sym last-text) ∙ c .same in
+          rw (← e) (stored-more (c .written) p)
 
 -- ---- how long a message is
 
@@ -127,7 +145,7 @@ texts-size CannotSum = refl
 texts-size CannotSumTimepoint = refl
 texts-size CannotSumDecimal = refl
 
-text-most : (m : Message) → textSize m ≤ 223
+pub text-most : (m : Message) → textSize m ≤ 223
 text-most WrongArgument = lit≤ tt
 text-most WrongTimepoint = lit≤ tt
 text-most NotNumeric = lit≤ tt
@@ -146,21 +164,13 @@ filled-length (p ∷ (q ∷ ps)) [] e = absurd (omega arith)
 filled-length (p ∷ ps) (w ∷ ws) e = simp length-append (omega (arith, filled-length ps ws (omega arith)))
 
 -- with as many words as it quotes: the bytes of its texts, and those of the words
-module _ (m : Message) (ws : List (List ℕ)) (e : length ws ≡ words m) where
-  pub message-length : length (message m ws) ≡ textSize m + sumOf length ws
-  unfolding from
-  message-length = filled-length (parts m) ws (omega (arith, parts-count m)) ∙ rw (texts-size m)
+pub message-length : (m : Message) (ws : List (List ℕ)) → length ws ≡ words m → length (message m ws) ≡ textSize m + sumOf length ws
+unfolding from
+message-length m ws e = filled-length (parts m) ws (omega (arith, parts-count m)) ∙ rw (texts-size m)
 
-  -- a name has 255 bytes at most, a type's text some 500: with words of 1,825 bytes in all a message fits the scratch
-  pub message-short : length (message m ws) ≤ 223 + sumOf length ws
-  message-short = omega (arith, message-length, text-most m)
+-- ---- the most words
 
-  pub message-fits : (s : List ℕ) → 2048 ≤ length s → sumOf length ws ≤ 1825 → Ahead s 0 (message m ws)
-  message-fits s k h = record { room = omega (arith, message-short) }
-
--- ---- what is left of a message, text by text
-
-words-few : (m : Message) → words m ≤ 4
+pub words-few : (m : Message) → words m ≤ 4
 words-few WrongArgument = lit≤ tt
 words-few WrongTimepoint = lit≤ tt
 words-few NotNumeric = lit≤ tt
@@ -170,38 +180,3 @@ words-few NotLong = lit≤ tt
 words-few CannotSum = lit≤ tt
 words-few CannotSumTimepoint = lit≤ tt
 words-few CannotSumDecimal = lit≤ tt
-
--- what is left from its text i on: one word for each text but the last, and room for all of it
-pub record Left (m : Message) (i : ℕ) (ws : List (List ℕ)) (s : List ℕ) (at : ℕ) : Type 0 where
-  pub index : i + length ws ≡ words m
-  pub few : words m ≤ 4
-  pub room : at + length (from m i ws) ≤ length s
-
-pub left-all : (m : Message) (ws : List (List ℕ)) (s : List ℕ) (at : ℕ) → length ws ≡ words m → at + length (message m ws) ≤ length s → Left m 0 ws s at
-left-all m ws s at e h = record { index = omega arith; few = words-few m; room = h }
-
-ahead : {m : Message} {i : ℕ} {ws : List (List ℕ)} {s : List ℕ} {at : ℕ} → Left m i ws s at → Ahead s at (from m i ws)
-ahead k = record { room = k .room }
-
-module _ (m : Message) (i : ℕ) (w : List ℕ) (ws : List (List ℕ)) (s : List ℕ) (at : ℕ) (k : Left m i (w ∷ ws) s at) where
-  more : i < words m
-  more = let e = k .index in omega arith
-
-  pub word-fits : at + length (part m i) + length w ≤ length s
-  word-fits = word-room m i w ws more s at (ahead k)
-
-  module _ (s′ : List ℕ) (n : ℕ) (p : Stored s at (part m i ++ w) s′ n) where
-    pub rest-left : Left m (i + 1) ws s′ n
-    rest-left =
-        let e = k .index in
-        rw add-one (record { index = omega arith; few = k .few; room = rest-room m i w ws more (suc i) p refl (ahead k) .room })
-
-    pub rest-done : (s″ : List ℕ) (n′ : ℕ) → Stored s′ n (from m (i + 1) ws) s″ n′ → Stored s at (from m i (w ∷ ws)) s″ n′
-    rest-done s″ n′ q = then-rest m i w ws more p (rw add-one at q)
-
-module _ (m : Message) (i : ℕ) (s : List ℕ) (at : ℕ) (k : Left m i [] s at) where
-  pub last-fits : at + length (part m i) ≤ length s
-  last-fits = let e = k .index in last-room m i (omega arith) s at (ahead k)
-
-  pub last-done : (s′ : List ℕ) (n : ℕ) → Stored s at (part m i) s′ n → Stored s at (from m i []) s′ n
-  last-done s′ n p = let e = k .index in last-text m i (omega arith) p

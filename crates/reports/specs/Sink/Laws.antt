@@ -1,8 +1,8 @@
 -- Laws of the sink. Assumes nothing.
---     sound-start, sound-after, append-after   what the first call of a run requires, and what the next one does
---     push-one, push-composed, append-one      one breach; one whose message was composed in a scratch
---     then, append-then                        one call behind the other; push-none, append-none: nothing is reported
---     reporting-.., push-next, append-next     a loop over a list
+--     sound-start                              what the first call of a run requires
+--     recorded-none, recorded-then             nothing is reported; one call behind the other
+--     appended-one, pushed-composed            one breach; one whose message was composed in a scratch
+--     reporting-..                             a loop over a list
 --     pushAll-reported, appendAll-reported     a run from no report answers and leaves what `reported` says
 --     push-.., append-.., room-..              the cases of the code, as it learns them
 use mathlib.Core.Path.{_≡_, refl, sym, ap, subst, subst₂, _∙_}
@@ -22,7 +22,7 @@ use Rattle.reports.specs.declared.State.{State}
 use Rattle.reports.specs.Reports.{Breach, samePair, once, encoded, fitting, reported}
 use Rattle.reports.specs.Decode.{header, length-header, encoded-parts, width, width-is, size, reports, Whole, reports-encoded, whole-encoded}
 use Rattle.reports.specs.Kept.{fold, fold-append, Log, empty, step, stepOnce, kept, steps-kept, steps-once, size-nil, size-cons, size-snoc, full-fewer}
-use Rattle.reports.specs.Sink.{Sink, sink, held, more, stopped, append, push, appendAll, pushAll, roomFor, written, logOf, Sound, start, outcome}
+use Rattle.reports.specs.Sink.{Sink, sink, held, more, stopped, append, push, appendAll, pushAll, roomFor, written, logOf, Sound, Recorded, Pushed, Appended, start, outcome}
 
 -- ---- a log, written
 
@@ -119,78 +119,52 @@ pub sound-push : (s : Sink) (b : Breach) → Sound s → Sound (push s b)
 unfolding push
 sound-push s b p = elim (anyOf (samePair b) (held s)) as (λ t. Sound (cond t s (append s b))) [ true ↦ p | false ↦ sound-append s b p ]
 
--- for a caller: one walk behind the other, and what the next call requires; f is `push` or `append`
-module _ (f : Sink → Breach → Sink) (keeps : (s : Sink) (b : Breach) → Sound s → Sound (f s b)) where
-  fold-sound : (s : Sink) (bs : List Breach) → Sound s → Sound (fold f s bs)
+-- ---- for a caller; f is `push` or `append`
+
+-- nothing is reported; one call behind the other
+module _ {f : Sink → Breach → Sink} where
+  pub recorded-none : (s : List ℕ) (st : State) → Sound (sink s st) → Recorded f s st [] s st
   unfolding fold
-  fold-sound s [] p = p
-  fold-sound s (b ∷ bs) p = fold-sound (f s b) bs (keeps s b p)
+  recorded-none s st p = record { sound = p; is = refl }
 
-fold-then : (f : Sink → Breach → Sink) (s : Sink) {s′ s″ : Sink} (xs ys : List Breach) → s′ ≡ fold f s xs → s″ ≡ fold f s′ ys → s″ ≡ fold f s (xs ++ ys)
-fold-then f s xs ys e g = g ∙ ap (λ (t : Sink). fold f t ys) e ∙ sym (fold-append f s xs ys)
+  module _ {s s′ : List ℕ} {st st′ : State} {xs : List Breach} (p : Recorded f s st xs s′ st′) where
+    pub recorded-more : (ys : List Breach) → fold f (sink s′ st′) ys ≡ fold f (sink s st) (xs ++ ys)
+    recorded-more ys = ap (λ (t : Sink). fold f t ys) (p .is) ∙ sym (fold-append f (sink s st) xs ys)
 
--- one breach is a list of one
-pub push-one : (s : Sink) {s′ : Sink} (b : Breach) → s′ ≡ push s b → s′ ≡ pushAll s (b ∷ [])
-unfolding fold
-push-one s b e = e
+    pub recorded-then : {s″ : List ℕ} {st″ : State} {ys : List Breach} → Recorded f s′ st′ ys s″ st″ → Recorded f s st (xs ++ ys) s″ st″
+    recorded-then {ys = ys} q = record { sound = q .sound; is = q .is ∙ recorded-more ys }
 
--- one breach whose message was composed in a scratch
-pub push-composed : (s : Sink) {s′ : Sink} (start end : ℕ) {old new m : List ℕ} {n : ℕ} → Stored old 0 m new n
-    → s′ ≡ push s (record { start = start; end = end; message = take n new }) → s′ ≡ pushAll s (record { start = start; end = end; message = m } ∷ [])
-push-composed s start end w e = push-one s _ (e ∙ ap (λ (l : List ℕ). push s (record { start = start; end = end; message = l })) (stored-text w))
+-- one breach; one whose message was composed in a scratch
+module _ {s s′ : List ℕ} {st st′ : State} (p : Sound (sink s st)) where
+  pub appended-one : (b : Breach) → sink s′ st′ ≡ append (sink s st) b → Appended s st (b ∷ []) s′ st′
+  unfolding fold
+  appended-one b e = record { sound = subst Sound (sym e) (sound-append (sink s st) b p); is = e }
 
-pub append-one : (s : Sink) {s′ : Sink} (b : Breach) → s′ ≡ append s b → s′ ≡ appendAll s (b ∷ [])
-unfolding fold
-append-one s b e = e
+  pushed-one : (b : Breach) → sink s′ st′ ≡ push (sink s st) b → Pushed s st (b ∷ []) s′ st′
+  unfolding fold
+  pushed-one b e = record { sound = subst Sound (sym e) (sound-push (sink s st) b p); is = e }
 
-pub then : (s : Sink) {s′ s″ : Sink} (xs ys : List Breach) → s′ ≡ pushAll s xs → s″ ≡ pushAll s′ ys → s″ ≡ pushAll s (xs ++ ys)
-then = fold-then push
+  pub pushed-composed : (start end : ℕ) {old new m : List ℕ} {n : ℕ} → Stored old 0 m new n
+      → sink s′ st′ ≡ push (sink s st) (record { start = start; end = end; message = take n new }) → Pushed s st (record { start = start; end = end; message = m } ∷ []) s′ st′
+  pushed-composed start end w e = pushed-one _ (e ∙ ap (λ (l : List ℕ). push (sink s st) (record { start = start; end = end; message = l })) (stored-text w))
 
-pub sound-after : {s s′ : Sink} (bs : List Breach) → Sound s → s′ ≡ pushAll s bs → Sound s′
-sound-after {s} bs p e = subst Sound (sym e) (fold-sound push sound-push s bs p)
-
-pub append-then : (s : Sink) {s′ s″ : Sink} (xs ys : List Breach) → s′ ≡ appendAll s xs → s″ ≡ appendAll s′ ys → s″ ≡ appendAll s (xs ++ ys)
-append-then = fold-then append
-
-pub append-after : {s s′ : Sink} (bs : List Breach) → Sound s → s′ ≡ appendAll s bs → Sound s′
-append-after {s} bs p e = subst Sound (sym e) (fold-sound append sound-append s bs p)
-
--- nothing is reported
-pub push-none : (s : Sink) → s ≡ pushAll s []
-unfolding fold
-push-none s = refl
-
-pub append-none : (s : Sink) → s ≡ appendAll s []
-unfolding fold
-append-none s = refl
-
--- ---- a loop that reports what f says of each of a list: what is left of the list, put in, makes the whole; g is `push` or `append`
-
-pub record Reporting {A : Type 0} (g : Sink → Breach → Sink) (f : A → List Breach) (whole now : Sink) (left : List A) : Type 0 where
+-- a loop that reports what g says of each of a list: what is left of the list, put in, makes the whole
+pub record Reporting {A : Type 0} (f : Sink → Breach → Sink) (g : A → List Breach) (whole now : Sink) (left : List A) : Type 0 where
   pub sound : Sound now
-  pub same : fold g now (gather f left) ≡ whole
+  pub same : fold f now (gather g left) ≡ whole
 
-module _ {A : Type 0} (f : A → List Breach) where
-  pub reporting-begins : (g : Sink → Breach → Sink) (s : Sink) (xs : List A) → Sound s → Reporting g f (fold g s (gather f xs)) s xs
-  reporting-begins g s xs p = record { sound = p; same = refl }
+module _ {A : Type 0} (f : Sink → Breach → Sink) (g : A → List Breach) where
+  pub reporting-begins : (s : Sink) (xs : List A) → Sound s → Reporting f g (fold f s (gather g xs)) s xs
+  reporting-begins s xs p = record { sound = p; same = refl }
 
-  pub reporting-over : {g : Sink → Breach → Sink} {whole now : Sink} → Reporting g f whole now [] → now ≡ whole
-  unfolding fold gather
-  reporting-over r = r .same
-
-  reporting-next : (g : Sink → Breach → Sink) → ((s : Sink) (b : Breach) → Sound s → Sound (g s b)) → {whole now next : Sink} {x : A} {left : List A}
-      → Reporting g f whole now (x ∷ left) → next ≡ fold g now (f x) → Reporting g f whole next left
+  pub reporting-next : {whole : Sink} {s s′ : List ℕ} {st st′ : State} {x : A} {left : List A}
+      → Reporting f g whole (sink s st) (x ∷ left) → Recorded f s st (g x) s′ st′ → Reporting f g whole (sink s′ st′) left
   unfolding gather
-  reporting-next g keeps {whole} {now} {next} {x} {left} r e = record {
-    sound = subst Sound (sym e) (fold-sound g keeps now (f x) (r .sound));
-    same = ap (λ (s : Sink). fold g s (gather f left)) e ∙ sym (fold-append g now (f x) (gather f left)) ∙ r .same;
-  }
+  reporting-next {left = left} r p = record { sound = p .sound; same = recorded-more p (gather g left) ∙ r .same }
 
-  pub push-next : {whole now next : Sink} {x : A} {left : List A} → Reporting push f whole now (x ∷ left) → next ≡ pushAll now (f x) → Reporting push f whole next left
-  push-next = reporting-next push sound-push
-
-  pub append-next : {whole now next : Sink} {x : A} {left : List A} → Reporting append f whole now (x ∷ left) → next ≡ appendAll now (f x) → Reporting append f whole next left
-  append-next = reporting-next append sound-append
+  pub reporting-over : {s s′ : List ℕ} {st st′ : State} {bs : List Breach} → Reporting f g (fold f (sink s st) bs) (sink s′ st′) [] → Recorded f s st bs s′ st′
+  unfolding fold gather
+  reporting-over r = record { sound = r .sound; is = r .same }
 
 -- ---- a run: from no report, over a buffer that holds anything
 

@@ -1,0 +1,218 @@
+-- The rules at one reached node, by what stands there. Assumes nothing.
+use mathlib.Core.Path.{_≡_, refl, sym, ap, _∙_}
+use mathlib.Core.Bool.{Bool, true, false, cond, _||_}
+use mathlib.Core.List.{List, [], _++_}
+use mathlib.Core.Option.{Option, none, some}
+use Prim.Native.Nat.{ℕ, _≤_, _<_}
+use native.Mathlib.Omega.{arith}
+use borrow.Author.Needs.{needs}
+use borrow.Author.Tests.{ne-eqb}
+use lib.Dec.{ltb, eqb, lit<}
+use Rattle.names.specs.Read.{wordAt}
+use Rattle.condition.specs.Condition as tree
+use Rattle.condition.specs.Condition.{Span, Condition, Term, integer, decimal, string, bool, Slot, named, paramRef, binderRef, Operator, le, lt, ge, gt, eq, notEq, one, two, predicate, comparison, exists, tp, opaque, entity, literal, contextField, scopeField, var, wildcard, array, aggregate, sigil}
+use Rattle.nodes.specs.Kinds.{kindOf, spanOf, termKindOf, operatorNumber}
+use Rattle.condition.specs.Places.{conditionIn, termIn, slotIn}
+use Rattle.nodes.specs.Open.{Opened, TermOpened}
+use Rattle.nodes.specs.Parts.{Spans, ComparisonHere, ArithHere, TimepointHere, slotOf}
+use Rattle.nodes.specs.declared.Ends.{Ends}
+use Rattle.nodes.specs.declared.ComparisonAt.{ComparisonAt}
+use Rattle.nodes.specs.declared.Operands.{Operands}
+use Rattle.nodes.specs.declared.SlotAt.{SlotAt}
+use Rattle.nodes.specs.declared.SlotAt.the-variants as SlotAt
+use Rattle.resolution.specs.Places.{typedOf}
+use Rattle.resolution.specs.declared.Typed.{Typed}
+use Rattle.reports.specs.declared.State.{State}
+use Rattle.reports.specs.Sink.{sink, Sound, Pushed}
+use Rattle.reports.specs.Sink.Laws.{recorded-none, recorded-then}
+use Rattle.terms.specs.Terms.{Facts, termType, varType}
+use Rattle.terms.specs.Answers.{TypeOf}
+use Rattle.terms.specs.Facts.{factsIn, NameTyped}
+use Rattle.terms.specs.declared.Facts as Code
+use Rattle.messages.specs.declared.Said.{Said}
+use Rattle.messages.specs.Words.{Rule, quoted, saidBreaches, Tells, spanIn}
+use Rattle.rules.specs.Messages.{wildcardInside}
+use Rattle.rules.specs.Rules.{breachIf, both, notLongHere, operandsBy, ordering, leafBreaches, arithmeticBreaches, timepointBreach, timepointBreaches, nodeBreaches}
+use Rattle.rules.specs.Findings.{Finds}
+use Rattle.rules.specs.Places.{ComparedHere}
+use Rattle.rules.specs.declared.Compared.{Compared}
+use Rattle.rules.specs.declared.Finding.the-variants.{Clean, Wildcard}
+
+-- ---- terms by their kinds
+
+module _ (f : Facts) (at : Span) where
+  leaf-by-kind : (t : Term) → (termKindOf t ≡ 12 → ⊥) → leafBreaches f t at ≡ cond (eqb (termKindOf t) 9) (breachIf true wildcardInside at) (cond (eqb (termKindOf t) 11 || eqb (termKindOf t) 13) [] (notLongHere (termType (some f) t) at))
+  unfolding leafBreaches
+  leaf-by-kind (entity n) e = refl
+  leaf-by-kind (literal integer) e = refl
+  leaf-by-kind (literal decimal) e = refl
+  leaf-by-kind (literal string) e = refl
+  leaf-by-kind (literal bool) e = refl
+  leaf-by-kind (contextField p) e = refl
+  leaf-by-kind (scopeField p) e = refl
+  leaf-by-kind (var v) e = refl
+  leaf-by-kind wildcard e = refl
+  leaf-by-kind (array ts) e = refl
+  leaf-by-kind (aggregate a) e = refl
+  leaf-by-kind (tree.arith l r) e = absurd (e refl)
+  leaf-by-kind sigil e = refl
+
+  operand-by-kind : (t : Term) → arithmeticBreaches f t at ≡ cond (eqb (termKindOf t) 12) (leafBreaches f t at) []
+  unfolding arithmeticBreaches
+  operand-by-kind (entity n) = refl
+  operand-by-kind (literal integer) = refl
+  operand-by-kind (literal decimal) = refl
+  operand-by-kind (literal string) = refl
+  operand-by-kind (literal bool) = refl
+  operand-by-kind (contextField p) = refl
+  operand-by-kind (scopeField p) = refl
+  operand-by-kind (var v) = refl
+  operand-by-kind wildcard = refl
+  operand-by-kind (array ts) = refl
+  operand-by-kind (aggregate a) = refl
+  operand-by-kind (tree.arith l r) = refl
+  operand-by-kind sigil = refl
+
+-- a leaf, by its kind
+module _ (f : Facts) (s c : List ℕ) (at k : ℕ) (o : TermOpened c at k) (not-arith : k ≡ 12 → ⊥) where
+  leaf-is : (span : Span) → leafBreaches f (termIn c at) span ≡ cond (eqb k 9) (breachIf true wildcardInside span) (cond (eqb k 11 || eqb k 13) [] (notLongHere (termType (some f) (termIn c at)) span))
+  leaf-is span = rw (o .kind) (leaf-by-kind f span (termIn c at) (λ e. not-arith (o .kind ∙ e)))
+
+  pub leaf-wild : k ≡ 9 → Finds s c (leafBreaches f (termIn c at)) Wildcard
+  unfolding quoted
+  leaf-wild e = record { is = λ span. rw (leaf-is span, e); stands = record { first = tt; second = tt; third = tt; fourth = tt; below = lit< tt } }
+
+  module _ (not-wild : k ≡ 9 → ⊥) where
+    pub leaf-aggregate : k ≡ 11 → Finds s c (leafBreaches f (termIn c at)) Clean
+    leaf-aggregate e = record { is = λ span. rw (leaf-is span, e); stands = tt }
+
+    pub leaf-sigil : k ≡ 13 → Finds s c (leafBreaches f (termIn c at)) Clean
+    leaf-sigil e = record { is = λ span. rw (leaf-is span, e); stands = tt }
+
+    pub leaf-typed : (k ≡ 11 → ⊥) → (k ≡ 13 → ⊥) → (r : Typed) → TypeOf s c (termType (some f) (termIn c at)) r → {x : Said} → Tells s c (notLongHere (typedOf s c r)) x → Tells s c (leafBreaches f (termIn c at)) x
+    leaf-typed a b r v g = record { is = λ span. rw (leaf-is span, ne-eqb _ _ not-wild, ne-eqb _ _ a, ne-eqb _ _ b, ← v .value) (g .is span); stands = g .stands }
+
+-- ---- what was found is reported where the rule stands
+
+module _ (s c : List ℕ) {old new : List ℕ} {st st′ : State} {x : Said} where
+  told : (rule : Rule) (at : Span) → Tells s c rule x → Pushed old st (saidBreaches s c x at) new st′ → Pushed old st (rule at) new st′
+  told rule at g p = rw (← g .is at) p
+
+  pub leaf-told : (f : Facts) (t : Term) (at : Span) → Tells s c (leafBreaches f t) x → Pushed old st (saidBreaches s c x at) new st′ → Pushed old st (leafBreaches f t at) new st′
+  leaf-told f t at = told (leafBreaches f t) at
+
+-- the leaves of an arithmetic, left then right
+module _ (f : Facts) (c : List ℕ) (at : ℕ) (span : Span) {old new : List ℕ} {st st′ : State} where
+  pub leaves-told : (p : Operands) → ArithHere c at p → {mid : List ℕ} {st₁ : State} → Pushed old st (leafBreaches f (termIn c (p .left)) span) mid st₁ → Pushed mid st₁ (leafBreaches f (termIn c (p .right)) span) new st′ → Pushed old st (leafBreaches f (termIn c at) span) new st′
+  unfolding leafBreaches
+  leaves-told p h e g = rw (h .value) (recorded-then e g)
+
+  module _ (k : ℕ) (o : TermOpened c at k) where
+    pub operand-arithmetic : k ≡ 12 → Pushed old st (leafBreaches f (termIn c at) span) new st′ → Pushed old st (arithmeticBreaches f (termIn c at) span) new st′
+    operand-arithmetic e g = rw (operand-by-kind f span (termIn c at), ← o .kind, e) g
+
+module _ (f : Facts) (c : List ℕ) (at k : ℕ) (o : TermOpened c at k) where
+  pub operand-plain : (k ≡ 12 → ⊥) → (span : Span) (old : List ℕ) (st : State) → Sound (sink old st) → Pushed old st (arithmeticBreaches f (termIn c at) span) old st
+  operand-plain n span old st p = rw (operand-by-kind f span (termIn c at), ← o .kind, ne-eqb _ _ n) (recorded-none old st p)
+
+  -- the kind of a term that is arithmetic is asked for its parts
+  pub arithmetic-kind : k ≡ 12 → termKindOf (termIn c at) ≡ 12
+  arithmetic-kind e = sym (o .kind) ∙ e
+
+pub ruleset leaf-kinds = (needs, leaf-wild, leaf-aggregate, leaf-sigil, leaf-typed)
+
+pub ruleset leaf-parts = (needs, arithmetic-kind, leaf-told, leaves-told)
+
+pub ruleset operand-kinds = (needs, operand-plain, operand-arithmetic)
+
+-- ---- a comparison
+
+ordering-is : (op : Operator) → ordering op ≡ ltb (operatorNumber op) 4
+ordering-is le = refl
+ordering-is lt = refl
+ordering-is ge = refl
+ordering-is gt = refl
+ordering-is eq = refl
+ordering-is notEq = refl
+
+span-is : {span : Span} {r : Ends} → Spans span r → span ≡ spanIn r
+span-is {span} {r} e = λ i. record { start = sym (e .start) i; end = sym (e .end) i }
+
+pub compared-here : (c : List ℕ) (at : ℕ) (r : Ends) → Spans (spanOf (conditionIn c at)) r → (p : ComparisonAt) → ComparisonHere c at p → (ordered : Bool) → ordered ≡ ltb (p .operator) 4
+    → ComparedHere c at (record { span = r; ordering = ordered; left = p .left; right = p .right })
+compared-here c at r span p h ordered o = record {
+  op = h .op;
+  ordered = o ∙ ap (λ (n : ℕ). ltb n 4) (h .number) ∙ sym (ordering-is (h .op));
+  left = h .left;
+  right = h .right;
+  value = h .value ∙ ap (λ (l : Span). comparison l (h .op) (termIn c (p .left)) (termIn c (p .right))) (span-is span);
+}
+
+pub operands-typed : (f : Facts) (s c : List ℕ) (left right : ℕ) (ordered : Bool) (l r : Typed) → TypeOf s c (termType (some f) (termIn c left)) l → TypeOf s c (termType (some f) (termIn c right)) r
+    → {x : Said} → Tells s c (both (typedOf s c l) (typedOf s c r) (operandsBy ordered)) x → Tells s c (both (termType (some f) (termIn c left)) (termType (some f) (termIn c right)) (operandsBy ordered)) x
+operands-typed f s c left right ordered l r v w g = rw (← v .value, ← w .value) g
+
+-- arithmetic first, then the types
+pub comparison-told : (f : Facts) (s c : List ℕ) (at : ℕ) (p : Compared) → ComparedHere c at p → {x : Said}
+    → Tells s c (both (termType (some f) (termIn c (p .left))) (termType (some f) (termIn c (p .right))) (operandsBy (p .ordering))) x
+    → {old mid new : List ℕ} {st st₁ st′ : State} → Pushed old st (arithmeticBreaches f (termIn c (p .left)) (spanIn (p .span)) ++ arithmeticBreaches f (termIn c (p .right)) (spanIn (p .span))) mid st₁
+    → Pushed mid st₁ (saidBreaches s c x (spanIn (p .span))) new st′ → Pushed old st (nodeBreaches f (conditionIn c at)) new st′
+unfolding nodeBreaches
+comparison-told f s c at p h g e r =
+    rw (h .value, ← h .ordered) (recorded-then e (told s c (both (termType (some f) (termIn c (p .left))) (termType (some f) (termIn c (p .right))) (operandsBy (p .ordering))) (spanIn (p .span)) g r))
+
+pub ruleset comparing = (needs, compared-here)
+
+pub ruleset typing = (needs, operands-typed)
+
+pub ruleset in-turn = (needs, recorded-then)
+
+pub ruleset comparisons = (needs, comparison-told)
+
+-- ---- a `tp`
+
+-- its slot
+module _ (s c : List ℕ) (at : ℕ) (r : SlotAt) (e : slotIn c at ≡ slotOf c r) where
+  pub slot-param : r ≡ SlotAt.ParamRef → (f : Facts) → Finds s c (timepointBreaches f (slotIn c at)) Clean
+  unfolding timepointBreaches
+  slot-param g f = rw (e, g) (record { is = λ span. refl; stands = tt })
+
+  pub slot-binder : r ≡ SlotAt.BinderRef → (f : Facts) → Finds s c (timepointBreaches f (slotIn c at)) Clean
+  unfolding timepointBreaches
+  slot-binder g f = rw (e, g) (record { is = λ span. refl; stands = tt })
+
+  pub slot-named : (p : ℕ) → r ≡ SlotAt.Named p → (name : List ℕ) → name ≡ wordAt c p → (n : List ℕ) (facts : Code.Facts) (typed : Typed) → NameTyped s c facts name typed
+      → {x : Said} → Tells s c (timepointBreach (wordAt c p) (typedOf s c typed)) x → Tells s c (timepointBreaches (factsIn s c n facts) (slotIn c at)) x
+  unfolding timepointBreaches
+  slot-named p g name w n facts typed v h = record { is = λ span. rw (e, g, ← w, ← v .value n, w) (h .is span); stands = h .stands }
+
+pub tp-told : (f : Facts) (s c : List ℕ) (at : ℕ) (r : Ends) → Spans (spanOf (conditionIn c at)) r → (p : ℕ) → TimepointHere c at p → {x : Said} → Tells s c (timepointBreaches f (slotIn c p)) x
+    → {old new : List ℕ} {st st′ : State} → Pushed old st (saidBreaches s c x (spanIn r)) new st′ → Pushed old st (nodeBreaches f (conditionIn c at)) new st′
+unfolding nodeBreaches
+tp-told f s c at r span p h g e = rw (h .value, span-is span) (told s c (timepointBreaches f (slotIn c p)) (spanIn r) g e)
+
+pub ruleset slots = (needs, slot-param, slot-binder, slot-named)
+
+pub ruleset tps = (needs, tp-told)
+
+-- ---- any node
+
+quiet : (f : Facts) (x : Condition) → (kindOf x ≡ 7 → ⊥) → (kindOf x ≡ 8 → ⊥) → (kindOf x ≡ 10 → ⊥) → nodeBreaches f x ≡ []
+unfolding nodeBreaches
+quiet f (one k span d) a b e = refl
+quiet f (two k span l r) a b e = refl
+quiet f (predicate span own ns act args) a b e = absurd (a refl)
+quiet f (comparison span op l r) a b e = absurd (b refl)
+quiet f (exists span d x) a b e = refl
+quiet f (tp span d) a b e = absurd (e refl)
+quiet f (opaque span) a b e = refl
+
+module _ (c : List ℕ) (at k : ℕ) (o : Opened c at k) where
+  pub node-quiet : (k ≡ 7 → ⊥) → (k ≡ 8 → ⊥) → (k ≡ 10 → ⊥) → (f : Facts) (old : List ℕ) (st : State) → Sound (sink old st) → Pushed old st (nodeBreaches f (conditionIn c at)) old st
+  node-quiet a b d f old st p = rw (quiet f (conditionIn c at) (λ e. a (o .kind ∙ e)) (λ e. b (o .kind ∙ e)) (λ e. d (o .kind ∙ e))) (recorded-none old st p)
+
+  -- the kind of a node is asked for its parts
+  pub node-kind : (j : ℕ) → k ≡ j → kindOf (conditionIn c at) ≡ j
+  node-kind j e = sym (o .kind) ∙ e
+
+pub ruleset nodes = (needs, node-kind, node-quiet)

@@ -1,0 +1,6 @@
+-- Laws that several proofs cite.
+pub mod Judging
+pub mod Reporting
+pub mod AtNode
+pub mod Namespaces
+pub mod Argued

@@ -1,0 +1,129 @@
+// The judgements: the types of terms in, a finding out. Each finds what the definition of its name says.
+use crate::Finding;
+use resolution::Typed;
+use types::Rich;
+ghost use mathlib.Core.Path.{_≡_};
+ghost use mathlib.Core.Bool.{_&&_};
+ghost use Rattle.names.specs.Read.{wordAt};
+ghost use Rattle.types.specs.Types.{isNumeric};
+ghost use Rattle.types.specs.Laws.Texts.{Small};
+ghost use Rattle.types.specs.Meaning.{richOf};
+ghost use Rattle.resolution.specs.Places.{typedOf, smallType};
+ghost use Rattle.rules.specs.Rules.{both, notLongHere, numericBreaches, likeBreaches, operandsBy, argumentBreach, timepointBreach};
+ghost use Rattle.rules.specs.Findings.{Finds};
+
+// An operand of arithmetic: Long, or without a type.
+pub fn not_long<'a>(schema: &'a [u8], condition: &'a [u8], typed: Typed) -> Finding
+    requires { ⌜ smallType (typedOf (now schema) (now condition) typed) ⌝ }
+    ensures { λ r. ⌜ Finds (now (schema .entry)) (now (condition .entry)) (notLongHere (typedOf (now (schema .entry)) (now (condition .entry)) typed)) r ⌝ }
+{
+    let Typed::As(t) = typed else {
+        return Finding::Clean;
+    };
+    if types::is_numeric(schema, condition, t) {
+        return Finding::Clean;
+    }
+    Finding::NotLong(t)
+}
+
+// Both are numbers.
+fn are_numeric<'a>(schema: &'a [u8], condition: &'a [u8], l: Rich, r: Rich) -> bool
+    ensures { λ b. ⌜ b ≡ isNumeric (richOf (now (schema .entry)) (now (condition .entry)) l) && isNumeric (richOf (now (schema .entry)) (now (condition .entry)) r) ⌝ }
+{
+    if types::is_numeric(schema, condition, l) {
+        return types::is_numeric(schema, condition, r);
+    }
+    false
+}
+
+// Two operands of an operator that wants numbers.
+fn not_numeric<'a>(schema: &'a [u8], condition: &'a [u8], l: Rich, r: Rich) -> Finding
+    requires { ⌜ Small (richOf (now schema) (now condition) l) ⌝ }
+    requires { ⌜ Small (richOf (now schema) (now condition) r) ⌝ }
+    ensures { λ f. ⌜ Finds (now (schema .entry)) (now (condition .entry)) (numericBreaches (richOf (now (schema .entry)) (now (condition .entry)) l) (richOf (now (schema .entry)) (now (condition .entry)) r)) f ⌝ }
+{
+    if are_numeric(schema, condition, l, r) {
+        return Finding::Clean;
+    }
+    Finding::NotNumeric(l, r)
+}
+
+// Two operands of an operator that wants like types.
+fn unlike<'a>(schema: &'a [u8], condition: &'a [u8], l: Rich, r: Rich) -> Finding
+    requires { ⌜ Small (richOf (now schema) (now condition) l) ⌝ }
+    requires { ⌜ Small (richOf (now schema) (now condition) r) ⌝ }
+    ensures { λ f. ⌜ Finds (now (schema .entry)) (now (condition .entry)) (likeBreaches (richOf (now (schema .entry)) (now (condition .entry)) l) (richOf (now (schema .entry)) (now (condition .entry)) r)) f ⌝ }
+{
+    if types::compatible(schema, condition, l, r) {
+        return Finding::Clean;
+    }
+    Finding::Unlike(l, r)
+}
+
+// The operands of a comparison, where both have a type.
+pub fn operands<'a>(
+    schema: &'a [u8],
+    condition: &'a [u8],
+    ordering: bool,
+    left: Typed,
+    right: Typed,
+) -> Finding
+    requires { ⌜ smallType (typedOf (now schema) (now condition) left) ⌝ }
+    requires { ⌜ smallType (typedOf (now schema) (now condition) right) ⌝ }
+    ensures { λ r. ⌜ Finds (now (schema .entry)) (now (condition .entry)) (both (typedOf (now (schema .entry)) (now (condition .entry)) left) (typedOf (now (schema .entry)) (now (condition .entry)) right) (operandsBy ordering)) r ⌝ }
+{
+    let Typed::As(l) = left else {
+        return Finding::Clean;
+    };
+    let Typed::As(r) = right else {
+        return Finding::Clean;
+    };
+    if ordering {
+        return not_numeric(schema, condition, l, r);
+    }
+    unlike(schema, condition, l, r)
+}
+
+// An argument beside its field, where both have a type; its name stands at `name`, that of its action at `action`.
+pub fn wrong_argument<'a>(
+    schema: &'a [u8],
+    condition: &'a [u8],
+    name: usize,
+    action: usize,
+    expected: Typed,
+    actual: Typed,
+) -> Finding
+    requires { ⌜ smallType (typedOf (now schema) (now condition) expected) ⌝ }
+    requires { ⌜ smallType (typedOf (now schema) (now condition) actual) ⌝ }
+    ensures { λ r. ⌜ Finds (now (schema .entry)) (now (condition .entry)) (both (typedOf (now (schema .entry)) (now (condition .entry)) expected) (typedOf (now (schema .entry)) (now (condition .entry)) actual) (argumentBreach (wordAt (now (condition .entry)) name) (wordAt (now (condition .entry)) action))) r ⌝ }
+{
+    let Typed::As(e) = expected else {
+        return Finding::Clean;
+    };
+    let Typed::As(a) = actual else {
+        return Finding::Clean;
+    };
+    if types::accepts(schema, condition, e, a) {
+        return Finding::Clean;
+    }
+    Finding::WrongArgument(name, action, e, a)
+}
+
+// The name of a `tp`, which stands at `name`, where it has a type.
+pub fn wrong_timepoint<'a>(
+    schema: &'a [u8],
+    condition: &'a [u8],
+    name: usize,
+    typed: Typed,
+) -> Finding
+    requires { ⌜ smallType (typedOf (now schema) (now condition) typed) ⌝ }
+    ensures { λ r. ⌜ Finds (now (schema .entry)) (now (condition .entry)) (timepointBreach (wordAt (now (condition .entry)) name) (typedOf (now (schema .entry)) (now (condition .entry)) typed)) r ⌝ }
+{
+    let Typed::As(t) = typed else {
+        return Finding::Clean;
+    };
+    if types::is_timepoint(schema, condition, t) {
+        return Finding::Clean;
+    }
+    Finding::WrongTimepoint(name, t)
+}

@@ -1,0 +1,164 @@
+// The arguments of a predicate, each judged where its action and its field resolve, and reported at the predicate's own span.
+use crate::Applied;
+use crate::Finding;
+use crate::judge::wrong_argument;
+use crate::report::report;
+use names::Found;
+use names::Row;
+use nodes::ArgumentAt;
+use nodes::PredicateAt;
+use reports::State;
+use schema::Namespace;
+use terms::Facts;
+ghost use mathlib.Core.Path.{_≡_};
+ghost use mathlib.Core.Bool.{true};
+ghost use Prim.Native.Nat.{_<_};
+ghost use Rattle.names.specs.Fields.{stringOf};
+ghost use Rattle.names.specs.Names.{pathName, lastOf};
+ghost use Rattle.names.specs.Read.{wordAt, isRow, rowIn, Listed};
+ghost use Rattle.nodes.specs.Kinds.{kindOf};
+ghost use Rattle.condition.specs.Places.{isCondition, conditionIn, isTerm, isPath, isArguments};
+ghost use Rattle.schema.specs.Places.{schemaIn, isAction, foundStands, FindsAction, ActionsOf};
+ghost use Rattle.reports.specs.Sink.{sink, Sound, Pushed};
+ghost use Rattle.terms.specs.Facts.{Known};
+ghost use Rattle.rules.specs.Rules.{withoutAction, predicateAction};
+ghost use Rattle.rules.specs.Findings.{Finds};
+ghost use Rattle.rules.specs.Places.{nodeAt, argumentAt, argumentsAt, AppliedHere};
+
+// The last of so many names.
+fn last_name(condition: &[u8], count: usize, start: usize) -> &[u8]
+    requires { ⌜ isRow (stringOf pathName) (now condition) count start ≡ true ⌝ }
+    requires { ⌜ 0 < count ⌝ }
+    ensures { λ r. ⌜ now r ≡ lastOf (rowIn (stringOf pathName) (now (condition .entry)) count start) ⌝ }
+{
+    let mut at = start;
+    let mut left = count;
+    while 1 < left {
+        at = names::past_word(condition, at);
+        left -= 1;
+    }
+    names::word(condition, at)
+}
+
+// The namespace of a predicate: the names of its path without a last `Action`.
+fn namespace_of(condition: &[u8], count: usize, start: usize) -> Row
+    requires { ⌜ isRow (stringOf pathName) (now condition) count start ≡ true ⌝ }
+    ensures { λ r. ⌜ Listed (stringOf pathName) (now (condition .entry)) (withoutAction (rowIn (stringOf pathName) (now (condition .entry)) count start)) (r .count) (r .at) ⌝ }
+{
+    if count < 1 {
+        return Row { count, at: start };
+    }
+    let last = last_name(condition, count, start);
+    if names::same(names::simple_name(last), b"Action") {
+        return Row {
+            count: count - 1,
+            at: start,
+        };
+    }
+    Row { count, at: start }
+}
+
+// The action that a predicate names, if it is declared, among the actions of the schema.
+fn predicate_action(schema: &[u8], actions: Row, condition: &[u8], parts: PredicateAt) -> Found
+    requires { ⌜ ActionsOf (now schema) actions ⌝ }
+    requires { ⌜ isRow (stringOf pathName) (now condition) (parts .names) (parts .namespace) ≡ true ⌝ }
+    ensures { λ r. ⌜ FindsAction (now (schema .entry)) (predicateAction (schemaIn (now (schema .entry))) (rowIn (stringOf pathName) (now (condition .entry)) (parts .names) (parts .namespace)) (wordAt (now (condition .entry)) (parts .action))) r ⌝ }
+{
+    let row = namespace_of(condition, parts.names, parts.namespace);
+    let name = names::word(condition, parts.action);
+    schema::action_among(schema, actions, condition, Namespace::Parts(row), name)
+}
+
+// A predicate taken apart; its action is looked up among those of the schema.
+fn applied_at(schema: &[u8], actions: Row, condition: &[u8], at: usize) -> Applied
+    requires { ⌜ ActionsOf (now schema) actions ⌝ }
+    requires { ⌜ isCondition (now condition) at ≡ true ⌝ }
+    requires { ⌜ kindOf (conditionIn (now condition) at) ≡ 7 ⌝ }
+    ensures { λ r. ⌜ AppliedHere (now (schema .entry)) (now (condition .entry)) at r ⌝ }
+{
+    let span = nodes::own_span_at(condition, at);
+    let parts = nodes::predicate_at(condition, at);
+    let action = predicate_action(schema, actions, condition, parts);
+    Applied {
+        span,
+        name: parts.action,
+        action,
+        count: parts.count,
+        first: parts.first,
+    }
+}
+
+// One argument, whose name stands at `at`, beside its field.
+fn argument<'a>(
+    schema: &'a [u8],
+    condition: &'a [u8],
+    targets: &[u8],
+    env: &[u16],
+    facts: Facts,
+    applied: Applied,
+    at: usize,
+    parts: ArgumentAt,
+) -> Finding
+    requires { ⌜ Known (now schema) (now condition) (now env) facts ⌝ }
+    requires { ⌜ foundStands (isAction (now schema)) (applied .action) ≡ true ⌝ }
+    requires { ⌜ isPath (now condition) (parts .field) ≡ true ⌝ }
+    requires { ⌜ isTerm (now condition) (parts .term) ≡ true ⌝ }
+    ensures { λ r. ⌜ Finds (now (schema .entry)) (now (condition .entry)) (argumentAt (now (schema .entry)) (now (condition .entry)) (now (targets .entry)) facts applied at parts) r ⌝ }
+{
+    let action = applied.action;
+    let expected = terms::context_field_type(schema, condition, action, parts.field);
+    let actual = terms::term_type(schema, condition, targets, env, facts, parts.term);
+    wrong_argument(schema, condition, at, applied.name, expected, actual)
+}
+
+// The arguments, in their order.
+fn arguments<'a>(
+    buf: &mut [u8],
+    state: State,
+    schema: &'a [u8],
+    condition: &'a [u8],
+    targets: &[u8],
+    env: &[u16],
+    facts: Facts,
+    applied: Applied,
+) -> State
+    requires { ⌜ Sound (sink (now buf) state) ⌝ }
+    requires { ⌜ Known (now schema) (now condition) (now env) facts ⌝ }
+    requires { ⌜ foundStands (isAction (now schema)) (applied .action) ≡ true ⌝ }
+    requires { ⌜ isArguments (now condition) (applied .count) (applied .first) ≡ true ⌝ }
+    ensures { λ after. ⌜ Pushed (now (buf .entry)) state (argumentsAt (now (schema .entry)) (now (condition .entry)) (now (targets .entry)) facts applied) (now (buf .exit)) after ⌝ }
+{
+    let span = applied.span;
+    let mut now = state;
+    let mut left = applied.count;
+    let mut at = applied.first;
+    while 0 < left {
+        let parts = nodes::argument_at(condition, left, at);
+        let finding = argument(schema, condition, targets, env, facts, applied, at, parts);
+        now = report(buf, now, schema, condition, span, finding);
+        at = parts.next;
+        left -= 1;
+    }
+    now
+}
+
+// A predicate's arguments.
+pub fn predicate<'a>(
+    buf: &mut [u8],
+    state: State,
+    schema: &'a [u8],
+    condition: &'a [u8],
+    targets: &[u8],
+    env: &[u16],
+    facts: Facts,
+    at: usize,
+) -> State
+    requires { ⌜ Sound (sink (now buf) state) ⌝ }
+    requires { ⌜ Known (now schema) (now condition) (now env) facts ⌝ }
+    requires { ⌜ isCondition (now condition) at ≡ true ⌝ }
+    requires { ⌜ kindOf (conditionIn (now condition) at) ≡ 7 ⌝ }
+    ensures { λ after. ⌜ Pushed (now (buf .entry)) state (nodeAt (now (schema .entry)) (now (condition .entry)) (now (targets .entry)) facts at) (now (buf .exit)) after ⌝ }
+{
+    let applied = applied_at(schema, facts.common.actions, condition, at);
+    arguments(buf, state, schema, condition, targets, env, facts, applied)
+}

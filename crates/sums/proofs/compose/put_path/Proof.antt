@@ -1,7 +1,0 @@
--- `sums::compose::put_path` meets its contract. Assumes nothing.
-use Rattle.sums.proofs.Composing.{texts}
-use Rattle.sums.proofs.compose.put_path.Statement.{statement}
-use Rattle.sums.proofs.compose.put_path.Tie as tie
-
-pub put-path-spec : {M : Type 1} → statement M
-put-path-spec = tie.close (tie.spec (λ c κs. search texts) (λ c κs. search texts) (λ c. search texts) (λ c. search texts))
