@@ -15,12 +15,12 @@ use Rattle.types.specs.Meaning.{layered}
 use Rattle.schema.specs.Schema.{Schema, EntityType, Action}
 use Rattle.schema.specs.Find.{findAction, findEntity, findAttribute}
 use Rattle.targets.specs.Targets.{Target, Scope, Narrowing, any}
-use Rattle.resolution.specs.Resolution.{contextType, admitted, sideAdmits}
+use Rattle.resolution.specs.Resolution.{contextType, admitted, sideAdmits, predicateAction}
 use Rattle.condition.specs.Condition as condition
 use Rattle.condition.specs.Condition.{Span, Condition, Term, Binder, Operator, named, path, lt, eq, two, predicate, comparison, exists, argument, noArgument, literal, scopeField, var, wildcard, array, nil, cons}
 use Rattle.condition.specs.Walk.{reached, binders, lastNamed}
 use Rattle.terms.specs.Terms.{Facts, factsOf, termType}
-use Rattle.rules.specs.Rules.{predicateAction, nodeBreaches}
+use Rattle.rules.specs.Rules.{nodeBreaches}
 use Rattle.typecheck.specs.Check.{breachesUnder}
 use Rattle.claims.specs.Breaches.{isChecked}
 use Rattle.claims.specs.Rows.{Row, ofAll, ofEach}

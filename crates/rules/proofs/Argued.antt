@@ -20,7 +20,7 @@ use Rattle.nodes.specs.Laws.Pieces.{arguments-over}
 use Rattle.schema.specs.Schema.{Action}
 use Rattle.schema.specs.Places.{schemaIn, isAction, actionIn, Answers}
 use Rattle.names.specs.declared.Found.{Found}
-use Rattle.resolution.specs.Resolution.{contextType}
+use Rattle.resolution.specs.Resolution.{contextType, predicateAction}
 use Rattle.resolution.specs.Places.{typedOf}
 use Rattle.resolution.specs.declared.Typed.{Typed}
 use Rattle.terms.specs.Terms.{Facts, termType}
@@ -34,7 +34,7 @@ use Rattle.terms.specs.Facts.{factsIn}
 use Rattle.terms.specs.declared.Facts as Code
 use Rattle.messages.specs.declared.Said.{Said}
 use Rattle.messages.specs.Words.{saidBreaches, Tells, spanIn}
-use Rattle.rules.specs.Rules.{both, argumentBreach, argumentBreaches, predicateAction, nodeBreaches}
+use Rattle.rules.specs.Rules.{both, argumentBreach, argumentBreaches, nodeBreaches}
 use Rattle.rules.specs.Places.{argumentsAt, nodeAt, AppliedHere}
 use Rattle.rules.specs.declared.Applied.{Applied}
 

@@ -12,7 +12,9 @@ use Rattle.names.specs.Read.{wordAt}
 use Rattle.condition.specs.Condition as tree
 use Rattle.condition.specs.Condition.{Span, Condition, Term, integer, decimal, string, bool, Slot, named, paramRef, binderRef, Operator, le, lt, ge, gt, eq, notEq, one, two, predicate, comparison, exists, tp, opaque, entity, literal, contextField, scopeField, var, wildcard, array, aggregate, sigil}
 use Rattle.nodes.specs.Kinds.{kindOf, spanOf, termKindOf, operatorNumber}
-use Rattle.condition.specs.Places.{conditionIn, termIn, slotIn}
+use Rattle.condition.specs.Places.{isCondition, conditionIn, termIn, isSlot, slotIn}
+use Rattle.nodes.specs.Offsets.{firstPart}
+use Rattle.nodes.specs.Laws.Pieces.{timepoint-inside}
 use Rattle.nodes.specs.Open.{Opened, TermOpened}
 use Rattle.nodes.specs.Parts.{Spans, ComparisonHere, ArithHere, TimepointHere, slotOf}
 use Rattle.nodes.specs.declared.Ends.{Ends}
@@ -193,7 +195,10 @@ tp-told f s c at r span p h g e = rw (h .value, span-is span) (told s c (timepoi
 
 pub ruleset slots = (needs, slot-param, slot-binder, slot-named)
 
-pub ruleset tps = (needs, tp-told)
+pub timepoint-slot : (s : List ℕ) (at : ℕ) → isCondition s at ≡ true → kindOf (conditionIn s at) ≡ 10 → (p : ℕ) → p ≡ firstPart s at → isSlot s p ≡ true
+timepoint-slot s at acc is p e = timepoint-inside s at acc is p e .stands
+
+pub ruleset tps = (needs, timepoint-inside, timepoint-slot, tp-told)
 
 -- ---- any node
 

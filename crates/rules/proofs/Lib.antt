@@ -2,5 +2,4 @@
 pub mod Judging
 pub mod Reporting
 pub mod AtNode
-pub mod Namespaces
 pub mod Argued

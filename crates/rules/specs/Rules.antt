@@ -9,7 +9,7 @@ use Rattle.types.specs.Types as types
 use Rattle.types.specs.Types.{Ty, scalar, isNumeric, accepts, compatible}
 use Rattle.schema.specs.Schema.{Schema, Action}
 use Rattle.schema.specs.Find.{findAction}
-use Rattle.resolution.specs.Resolution.{contextType}
+use Rattle.resolution.specs.Resolution.{contextType, predicateAction}
 use Rattle.condition.specs.Condition.{Condition, Term, Arguments, Span, Slot, named, paramRef, binderRef, Operator, le, lt, ge, gt, eq, notEq, one, two, predicate, comparison, exists, tp, opaque, noArgument, argument, entity, literal, contextField, scopeField, var, wildcard, array, aggregate, arith, sigil}
 use Rattle.terms.specs.Terms.{Facts, termType, varType}
 use Rattle.reports.specs.Reports.{Breach}
@@ -29,15 +29,6 @@ both (some l) (some r) f at = f l r at
 abbrev pub notLongHere : Option Ty → Rule
 notLongHere none at = []
 notLongHere (some t) at = breachIf (not (isNumeric t)) (notLong t) at
-
--- `predicate_namespace`: a predicate's path without a last `Action`
-unfoldable pub withoutAction : List (List ℕ) → List (List ℕ)
-withoutAction [] = []
-withoutAction (w ∷ []) = cond (same (simpleName w) (text "Action")) [] (w ∷ [])
-withoutAction (w ∷ (v ∷ rest)) = w ∷ withoutAction (v ∷ rest)
-
-unfoldable pub predicateAction : Schema → List (List ℕ) → List ℕ → Option Action
-predicateAction s ns name = findAction s (joined (withoutAction ns)) name
 
 -- the operators that want numbers on both sides
 abbrev pub ordering : Operator → Bool

@@ -152,7 +152,7 @@ fn tp<'a>(
     ensures { λ after. ⌜ Pushed (now (buf .entry)) state (nodeAt (now (schema .entry)) (now (condition .entry)) (now (targets .entry)) facts at) (now (buf .exit)) after ⌝ }
 {
     let span = nodes::span_at(condition, at);
-    let slot = nodes::timepoint_at(condition, at);
+    let slot = nodes::first_part(condition, at);
     let finding = timepoint(schema, condition, targets, env, facts, slot);
     report(buf, state, schema, condition, span, finding)
 }

@@ -6,68 +6,17 @@ use crate::report::report;
 use names::Found;
 use names::Row;
 use nodes::ArgumentAt;
-use nodes::PredicateAt;
 use reports::State;
-use schema::Namespace;
 use terms::Facts;
 ghost use mathlib.Core.Path.{_≡_};
 ghost use mathlib.Core.Bool.{true};
-ghost use Prim.Native.Nat.{_<_};
-ghost use Rattle.names.specs.Fields.{stringOf};
-ghost use Rattle.names.specs.Names.{pathName, lastOf};
-ghost use Rattle.names.specs.Read.{wordAt, isRow, rowIn, Listed};
 ghost use Rattle.nodes.specs.Kinds.{kindOf};
 ghost use Rattle.condition.specs.Places.{isCondition, conditionIn, isTerm, isPath, isArguments};
-ghost use Rattle.schema.specs.Places.{schemaIn, isAction, foundStands, FindsAction, ActionsOf};
+ghost use Rattle.schema.specs.Places.{isAction, foundStands, ActionsOf};
 ghost use Rattle.reports.specs.Sink.{sink, Sound, Pushed};
 ghost use Rattle.terms.specs.Facts.{Known};
-ghost use Rattle.rules.specs.Rules.{withoutAction, predicateAction};
 ghost use Rattle.rules.specs.Findings.{Finds};
 ghost use Rattle.rules.specs.Places.{nodeAt, argumentAt, argumentsAt, AppliedHere};
-
-// The last of so many names.
-fn last_name(condition: &[u8], count: usize, start: usize) -> &[u8]
-    requires { ⌜ isRow (stringOf pathName) (now condition) count start ≡ true ⌝ }
-    requires { ⌜ 0 < count ⌝ }
-    ensures { λ r. ⌜ now r ≡ lastOf (rowIn (stringOf pathName) (now (condition .entry)) count start) ⌝ }
-{
-    let mut at = start;
-    let mut left = count;
-    while 1 < left {
-        at = names::past_word(condition, at);
-        left -= 1;
-    }
-    names::word(condition, at)
-}
-
-// The namespace of a predicate: the names of its path without a last `Action`.
-fn namespace_of(condition: &[u8], count: usize, start: usize) -> Row
-    requires { ⌜ isRow (stringOf pathName) (now condition) count start ≡ true ⌝ }
-    ensures { λ r. ⌜ Listed (stringOf pathName) (now (condition .entry)) (withoutAction (rowIn (stringOf pathName) (now (condition .entry)) count start)) (r .count) (r .at) ⌝ }
-{
-    if count < 1 {
-        return Row { count, at: start };
-    }
-    let last = last_name(condition, count, start);
-    if names::same(names::simple_name(last), b"Action") {
-        return Row {
-            count: count - 1,
-            at: start,
-        };
-    }
-    Row { count, at: start }
-}
-
-// The action that a predicate names, if it is declared, among the actions of the schema.
-fn predicate_action(schema: &[u8], actions: Row, condition: &[u8], parts: PredicateAt) -> Found
-    requires { ⌜ ActionsOf (now schema) actions ⌝ }
-    requires { ⌜ isRow (stringOf pathName) (now condition) (parts .names) (parts .namespace) ≡ true ⌝ }
-    ensures { λ r. ⌜ FindsAction (now (schema .entry)) (predicateAction (schemaIn (now (schema .entry))) (rowIn (stringOf pathName) (now (condition .entry)) (parts .names) (parts .namespace)) (wordAt (now (condition .entry)) (parts .action))) r ⌝ }
-{
-    let row = namespace_of(condition, parts.names, parts.namespace);
-    let name = names::word(condition, parts.action);
-    schema::action_among(schema, actions, condition, Namespace::Parts(row), name)
-}
 
 // A predicate taken apart; its action is looked up among those of the schema.
 fn applied_at(schema: &[u8], actions: Row, condition: &[u8], at: usize) -> Applied
@@ -78,7 +27,11 @@ fn applied_at(schema: &[u8], actions: Row, condition: &[u8], at: usize) -> Appli
 {
     let span = nodes::own_span_at(condition, at);
     let parts = nodes::predicate_at(condition, at);
-    let action = predicate_action(schema, actions, condition, parts);
+    let path = Row {
+        count: parts.names,
+        at: parts.namespace,
+    };
+    let action = resolution::predicate_action(schema, actions, condition, path, parts.action);
     Applied {
         span,
         name: parts.action,
