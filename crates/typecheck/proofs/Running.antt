@@ -147,9 +147,9 @@ module _ (f : Target → List Breach) (n : List ℕ) where
         let d = listed-first target n (record { namespace = []; id = [] }) (l .left) rest at h (l .there) in
         record { left = d .others; there = d .on m g; reporting = reporting-next push f (rw (d .value) at (l .reporting)) e }
 
-module _ (s c n places env : List ℕ) (common : Common) (at : ℕ) (x : Under) (h : UnderHere s n common at x) where
-  pub target-known : Ready s c n places env common → UnderKnown s c env x
-  target-known r = h .known c places env r
+module _ (s c n : List ℕ) (common : Common) (at : ℕ) (x : Under) (h : UnderHere s n common at x) where
+  pub target-known : (places env : List ℕ) → Ready s c n places env common → UnderKnown s c env x
+  target-known places env r = h .known c places env r
 
   pub target-turn : (rest : ℕ) {all : Sink} {now next : List ℕ} {st r : State} → TargetsLeft (breachesUnder (schemaIn s) (recordIn c) (targetsIn n .scope)) n all (sink now st) rest at → 0 < rest → Pushed now st (underBreaches s c n x) next r
       → (m : ℕ) → Read.Next m ≡ ending (target n at) → TargetsLeft (breachesUnder (schemaIn s) (recordIn c) (targetsIn n .scope)) n all (sink next r) (rest - 1) m

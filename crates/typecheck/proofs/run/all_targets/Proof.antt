@@ -1,5 +1,7 @@
 -- `typecheck::run::all_targets` meets its contract. The targets that are left, put in, make the whole. Assumes nothing.
 use mathlib.Core.Path.{_≡_}
+use native.Mathlib.Omega.{arith}
+use borrow.Author.Needs.{needs}
 use lib.ListN.{length}
 use Rattle.names.specs.Lists.{gather}
 use Rattle.schema.specs.Places.{schemaIn}
@@ -7,7 +9,7 @@ use Rattle.targets.specs.Places.{targetsIn}
 use Rattle.condition.specs.Places.{recordIn}
 use Rattle.reports.specs.Sink.{sink, pushAll}
 use Rattle.typecheck.specs.Check.{breachesUnder}
-use Rattle.typecheck.proofs.Running.{TargetsLeft, each-target}
+use Rattle.typecheck.proofs.Running.{TargetsLeft, each-target, targets-stand, target-turn}
 use Rattle.typecheck.proofs.run.all_targets.Statement.{statement}
 use Rattle.typecheck.proofs.run.all_targets.Tie as tie
 
@@ -20,4 +22,4 @@ abbrev μ-loop : tie.MeasureT-loop
 μ-loop buf₀ schema condition targets places env common now₀ rest₀ at₀ buf now rest at = rest
 
 pub all-targets-spec : {M : Type 1} → statement M
-all-targets-spec = tie.close (tie.spec Inv-loop μ-loop (λ c κs. search each-target) (λ c κs. search each-target) (λ c. search each-target) (λ c κs. search each-target) (λ c κs. search each-target) (λ c κs. search each-target) (λ c. search each-target) (λ c. search each-target) (λ c. search each-target) (λ c. search each-target) (λ c. search each-target))
+all-targets-spec = tie.close (tie.spec Inv-loop μ-loop (λ c κs. search each-target) (λ c κs. search each-target) (λ c. search each-target) (λ c κs. search each-target) (λ c κs. search each-target) (λ c κs. targets-stand _ _ _ _ (c .before .before .before .before .before .before .loop .inv .1) (c .before .before .before .before .before .loop-test .taken)) (λ c. search needs) (λ c. search needs) (λ c. (omega (arith, c .before .before .before .under .kept .0, c .before .before .before .before .before .before .before .loop .inv .0), target-turn _ _ _ _ _ _ (c .before .before .before .before .before .under-target .ensures) _ (c .before .before .before .before .before .before .before .loop .inv .1) (c .before .before .before .before .before .before .loop-test .taken) (c .before .before .before .under .ensures) _ (c .next-target .ensures))) (λ c. search each-target) (λ c. search each-target))
