@@ -380,7 +380,7 @@ fn read_count(s: &[u8], at: usize, left: usize) -> Read
 pub fn read_condition(s: &[u8]) -> Read
     ensures { λ r. ⌜ r ≡ ending (whole conditionRecord (now (s .entry))) ⌝ }
 {
-    let heading = names::read_start(s, b"DWC");
+    let heading = names::read_start(s, b"DWC", 1);
     let Read::Next(at) = heading else {
         return heading;
     };

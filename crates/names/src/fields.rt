@@ -199,9 +199,9 @@ pub fn read_u32(s: &[u8], at: usize) -> Read
     read_bytes(s, at, 4)
 }
 
-// A mark and version 1 at the front of a record.
-pub fn read_heading(s: &[u8], mark: &[u8]) -> Read
-    ensures { λ r. ⌜ r ≡ ending (heading (now (mark .entry)) (now (s .entry)) 0) ⌝ }
+// A mark and a version that is known, from 1 to the newest, at the front of a record.
+pub fn read_heading(s: &[u8], mark: &[u8], newest: usize) -> Read
+    ensures { λ r. ⌜ r ≡ ending (heading (now (mark .entry)) newest (now (s .entry)) 0) ⌝ }
 {
     let n = mark.len();
     if s.len() < n {
@@ -212,7 +212,11 @@ pub fn read_heading(s: &[u8], mark: &[u8]) -> Read
         let Read::Next(m) = version else {
             return version;
         };
-        if u16_at(s, n) == 1 {
+        let number = u16_at(s, n);
+        if number == 0 {
+            return Read::Refused(4);
+        }
+        if number <= newest {
             return Read::Next(m);
         }
         return Read::Refused(4);
@@ -220,14 +224,14 @@ pub fn read_heading(s: &[u8], mark: &[u8]) -> Read
     Read::Refused(3)
 }
 
-// The front of a record: at most 32,768 bytes, a mark and version 1.
-pub fn read_start(s: &[u8], mark: &[u8]) -> Read
-    ensures { λ r. ⌜ r ≡ ending (whole (heading (now (mark .entry))) (now (s .entry))) ⌝ }
+// The front of a record: at most 32,768 bytes, a mark and a version that is known.
+pub fn read_start(s: &[u8], mark: &[u8], newest: usize) -> Read
+    ensures { λ r. ⌜ r ≡ ending (whole (heading (now (mark .entry)) newest) (now (s .entry))) ⌝ }
 {
     if 32768 < s.len() {
         return Read::Refused(1);
     }
-    read_heading(s, mark)
+    read_heading(s, mark, newest)
 }
 
 // The end of a record: no byte stands at `at` or behind it.

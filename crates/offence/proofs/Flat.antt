@@ -66,7 +66,7 @@ action-steady before =
 pub schema-ends : Ends schemaRecord
 unfolding schemaRecord
 schema-ends =
-    then-ends (heading-steady _)
+    then-ends (heading-steady _ _)
     (λ _. then-ends u16-steady
     (λ n. then-ends (many-steady _ entity-steady n none)
     (λ es. then-ends u16-steady
@@ -91,7 +91,7 @@ target-steady = then-steady (string-steady pathOrNone) (λ ns. then-steady (stri
 pub targets-ends : Ends targetRecord
 unfolding targetRecord
 targets-ends =
-    then-ends (heading-steady _)
+    then-ends (heading-steady _ _)
     (λ _. then-ends narrowing-steady
     (λ p. then-ends narrowing-steady
     (λ r. then-ends (counted-steady (λ before. target-steady))
@@ -104,4 +104,4 @@ side-steady = then-steady u8-steady (λ k. cond-steady (eqb k 0) pure-steady (co
 pub path-ends : Ends pathRecord
 unfolding pathRecord
 path-ends =
-    then-ends (heading-steady _) (λ _. then-ends side-steady (λ side. then-ends path-steady (λ path. then-ends u8-steady (λ position. finished-ends _))))
+    then-ends (heading-steady _ _) (λ _. then-ends side-steady (λ side. then-ends path-steady (λ path. then-ends u8-steady (λ position. finished-ends _))))

@@ -89,19 +89,19 @@ module _ (k : Kind) (s : List ℕ) where
       sized false h = absurd (omega (arith, sym (above k s (leb-false _ _ h)) ∙ e))
 
 -- Bytes that no record's mark begins are refused alike by all four.
-module _ {A : Type 0} (mark s : List ℕ) (rest : ℕ → Reader A) where
-  unmarked-front : begins mark s ≡ false → refusalNumber (whole (heading mark >>= rest) s) ≡ cond (leb (length s) 32768) (cond (leb (0 + length mark) (length s)) 3 2) 1
+module _ {A : Type 0} (mark : List ℕ) (newest : ℕ) (s : List ℕ) (rest : ℕ → Reader A) where
+  unmarked-front : begins mark s ≡ false → refusalNumber (whole (heading mark newest >>= rest) s) ≡ cond (leb (length s) 32768) (cond (leb (0 + length mark) (length s)) 3 2) 1
   unfolding whole heading bytes refusalNumber
   unmarked-front e = go (leb (length s) 32768) refl (leb (0 + length mark) (length s)) refl
     where
-      go : (b : Bool) → leb (length s) 32768 ≡ b → (d : Bool) → leb (0 + length mark) (length s) ≡ d → refusalNumber (whole (heading mark >>= rest) s) ≡ cond (leb (length s) 32768) (cond (leb (0 + length mark) (length s)) 3 2) 1
+      go : (b : Bool) → leb (length s) 32768 ≡ b → (d : Bool) → leb (0 + length mark) (length s) ≡ d → refusalNumber (whole (heading mark newest >>= rest) s) ≡ cond (leb (length s) 32768) (cond (leb (0 + length mark) (length s)) 3 2) 1
       go false h d i = rw h
       go true h false i = rw (h, i)
       go true h true i = rw (h, i, e)
 
 pub unmarked : (k : Kind) (s : List ℕ) → begins (markOf k) s ≡ false → numberOf k s ≡ cond (leb (length s) 32768) (cond (leb 3 (length s)) 3 2) 1
 unfolding schemaRecord conditionRecord targetRecord pathRecord
-unmarked Schema s e = unmarked-front (markOf Schema) s _ e
-unmarked Condition s e = unmarked-front (markOf Condition) s _ e
-unmarked Targets s e = unmarked-front (markOf Targets) s _ e
-unmarked Path s e = unmarked-front (markOf Path) s _ e
+unmarked Schema s e = unmarked-front (markOf Schema) 1 s _ e
+unmarked Condition s e = unmarked-front (markOf Condition) 1 s _ e
+unmarked Targets s e = unmarked-front (markOf Targets) 1 s _ e
+unmarked Path s e = unmarked-front (markOf Path) 1 s _ e

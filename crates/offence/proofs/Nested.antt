@@ -161,4 +161,4 @@ mutual
 
 pub condition-ends : Ends conditionRecord
 unfolding conditionRecord
-condition-ends = then-ends (heading-steady _) (λ _. then-ends (condition-steady levels) (λ c. finished-ends _))
+condition-ends = then-ends (heading-steady _ _) (λ _. then-ends (condition-steady levels) (λ c. finished-ends _))

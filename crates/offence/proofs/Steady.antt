@@ -1,7 +1,7 @@
 -- A reader goes left to right: what it gives for some bytes it gives for more of them too, unless the bytes ended before a field did, and it does not look behind where
 -- it ends. Here for the fields and for how readers are put together. Assumes nothing.
 use mathlib.Core.Path.{_≡_, refl, ap, sym, _∙_}
-use mathlib.Core.Bool.{Bool, true, false, cond}
+use mathlib.Core.Bool.{Bool, true, false, cond, _&&_}
 use mathlib.Core.List.{List, _++_}
 use mathlib.Core.Logic.{_⊎_, inl, inr}
 use mathlib.Core.Option.{Option, none, some}
@@ -189,9 +189,9 @@ pub path-steady : Steady pathOf
 unfolding pathOf
 path-steady = counted-steady (λ before. string-steady plain)
 
-pub heading-steady : (mark : List ℕ) → Steady (heading mark)
+pub heading-steady : (mark : List ℕ) (newest : ℕ) → Steady (heading mark newest)
 unfolding heading
-heading-steady mark = then-steady (bytes-steady (length mark)) (λ m. then-steady (holds-steady 3 refl (same m mark) m) (λ _. then-steady u16-steady (λ v. holds-steady 4 refl (eqb v 1) v)))
+heading-steady mark newest = then-steady (bytes-steady (length mark)) (λ m. then-steady (holds-steady 3 refl (same m mark) m) (λ _. then-steady u16-steady (λ v. holds-steady 4 refl (leb 1 v && leb v newest) v)))
 
 -- The number that refuses some bytes, and that of more of them: the bytes ended too early (2); or it is the same; or both times the record was read to its end,
 -- and only what stands behind it differs (0 or 10).

@@ -59,8 +59,8 @@ pub schema-view : (s : List ℕ) → isSchema s ≡ true → SchemaView s
 unfolding schemaRecord
 schema-view s is =
     let w = accept _ is in
-    let a = split (heading (68 ∷ 87 ∷ 83 ∷ []) s 0) _ (whole-read schemaRecord s (w .read)) in
-    let five : a .place ≡ 5 = heading-place (68 ∷ 87 ∷ 83 ∷ []) s (a .first) in
+    let a = split (heading (68 ∷ 87 ∷ 83 ∷ []) 1 s 0) _ (whole-read schemaRecord s (w .read)) in
+    let five : a .place ≡ 5 = heading-place (68 ∷ 87 ∷ 83 ∷ []) 1 s (a .first) in
     let b = split (u16 s (a .place)) _ (a .rest) in
     let seven : b .place ≡ 7 = u16-place s (a .place) (b .first) ∙ ap (λ (m : ℕ). m + 2) five in
     let n : b .value ≡ number 0 (take 2 (drop 5 s)) = u16-value s (a .place) (b .first) ∙ ap (λ (m : ℕ). number 0 (take 2 (drop m s))) five in

@@ -122,7 +122,7 @@ keyOf a = record { type = a .type; id = a .id }
 -- mark `DWS`, version 1, entity types, actions, and no byte more
 unfoldable pub schemaRecord : Reader Schema
 schemaRecord = do
-  _ ← heading (68 ∷ 87 ∷ 83 ∷ [])
+  _ ← heading (68 ∷ 87 ∷ 83 ∷ []) 1
   n ← u16
   es ← many (λ e. e .name) entityType n none
   m ← u16

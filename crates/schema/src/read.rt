@@ -217,7 +217,7 @@ fn read_actions(s: &[u8], start: usize, count: usize) -> Read
 pub fn read_schema(s: &[u8]) -> Read
     ensures { λ r. ⌜ r ≡ ending (whole schemaRecord (now (s .entry))) ⌝ }
 {
-    let heading = names::read_start(s, b"DWS");
+    let heading = names::read_start(s, b"DWS", 1);
     let Read::Next(at) = heading else {
         return heading;
     };

@@ -58,29 +58,29 @@ module _ (s : List ℕ) (at : ℕ) (x : Read) (is : x ≡ ending (stringOf pathO
   target-read n e y is′ = goes _ _ e is λ ns d. is′ ∙ last _ _
 
 -- The target record.
-module _ (s : List ℕ) (x : Read) (is-x : x ≡ ending (whole (heading (68 ∷ 87 ∷ 84 ∷ [])) s)) where
+module _ (s : List ℕ) (x : Read) (is-x : x ≡ ending (whole (heading (68 ∷ 87 ∷ 84 ∷ []) 1) s)) where
   pub targets-unmarked : (r : ℕ) → x ≡ Refused r → x ≡ ending (whole targetRecord s)
   unfolding targetRecord
-  targets-unmarked r e = start-stops _ s _ x is-x r e
+  targets-unmarked r e = start-stops _ _ s _ x is-x r e
 
   module _ (p : ℕ) (e : x ≡ Next p) (y : Read) (is-y : y ≡ ending (narrowing s p)) where
     pub targets-principal : (r : ℕ) → y ≡ Refused r → y ≡ ending (whole targetRecord s)
     unfolding targetRecord
-    targets-principal r f = start-goes _ s _ x is-x p e λ _ _. stops _ _ f is-y
+    targets-principal r f = start-goes _ _ s _ x is-x p e λ _ _. stops _ _ f is-y
 
     module _ (q : ℕ) (f : y ≡ Next q) (z : Read) (is-z : z ≡ ending (narrowing s q)) where
       pub targets-resource : (r : ℕ) → z ≡ Refused r → z ≡ ending (whole targetRecord s)
       unfolding targetRecord
-      targets-resource r g = start-goes _ s _ x is-x p e λ _ _. goes _ _ f is-y λ _ _. stops _ _ g is-z
+      targets-resource r g = start-goes _ _ s _ x is-x p e λ _ _. goes _ _ f is-y λ _ _. stops _ _ g is-z
 
       module _ (n : ℕ) (g : z ≡ Next n) (w : Read) (is-w : w ≡ ending (counted (each target) s n)) where
         pub targets-unlisted : (r : ℕ) → w ≡ Refused r → w ≡ ending (whole targetRecord s)
         unfolding targetRecord
-        targets-unlisted r i = start-goes _ s _ x is-x p e λ _ _. goes _ _ f is-y λ _ _. goes _ _ g is-z λ _ _. stops _ _ i is-w
+        targets-unlisted r i = start-goes _ _ s _ x is-x p e λ _ _. goes _ _ f is-y λ _ _. goes _ _ g is-z λ _ _. stops _ _ i is-w
 
         pub targets-read : (end : ℕ) → w ≡ Next end → (v : Read) → v ≡ ending (finished end s end) → v ≡ ending (whole targetRecord s)
         unfolding targetRecord
-        targets-read end i v l = start-goes _ s _ x is-x p e λ _ _. goes _ _ f is-y λ _ _. goes _ _ g is-z λ _ _. goes _ _ i is-w λ _ _. at-end _ s end v l
+        targets-read end i v l = start-goes _ _ s _ x is-x p e λ _ _. goes _ _ f is-y λ _ _. goes _ _ g is-z λ _ _. goes _ _ i is-w λ _ _. at-end _ s end v l
 
 -- A side.
 module _ (s : List ℕ) (at : ℕ) where
@@ -102,29 +102,29 @@ module _ (s : List ℕ) (at : ℕ) where
     side-read l = via (side-kind _ refl) (each-below (λ k. Next (at + 1) ≡ ending (choose k sides s (at + 1))) 2 ((tt, refl), refl) (getD s at 0) (omega arith))
 
 -- The path record.
-module _ (s : List ℕ) (x : Read) (is-x : x ≡ ending (whole (heading (68 ∷ 87 ∷ 80 ∷ [])) s)) where
+module _ (s : List ℕ) (x : Read) (is-x : x ≡ ending (whole (heading (68 ∷ 87 ∷ 80 ∷ []) 1) s)) where
   pub path-unmarked : (r : ℕ) → x ≡ Refused r → x ≡ ending (whole pathRecord s)
   unfolding pathRecord
-  path-unmarked r e = start-stops _ s _ x is-x r e
+  path-unmarked r e = start-stops _ _ s _ x is-x r e
 
   module _ (p : ℕ) (e : x ≡ Next p) (y : Read) (is-y : y ≡ ending (scopeSide s p)) where
     pub path-sideless : (r : ℕ) → y ≡ Refused r → y ≡ ending (whole pathRecord s)
     unfolding pathRecord
-    path-sideless r f = start-goes _ s _ x is-x p e λ _ _. stops _ _ f is-y
+    path-sideless r f = start-goes _ _ s _ x is-x p e λ _ _. stops _ _ f is-y
 
     module _ (n : ℕ) (f : y ≡ Next n) (z : Read) (is-z : z ≡ ending (pathOf s n)) where
       pub path-segments : (r : ℕ) → z ≡ Refused r → z ≡ ending (whole pathRecord s)
       unfolding pathRecord
-      path-segments r g = start-goes _ s _ x is-x p e λ _ _. goes _ _ f is-y λ _ _. stops _ _ g is-z
+      path-segments r g = start-goes _ _ s _ x is-x p e λ _ _. goes _ _ f is-y λ _ _. stops _ _ g is-z
 
       module _ (m : ℕ) (g : z ≡ Next m) (w : Read) (is-w : w ≡ ending (u8 s m)) where
         pub path-unpositioned : (r : ℕ) → w ≡ Refused r → w ≡ ending (whole pathRecord s)
         unfolding pathRecord
-        path-unpositioned r i = start-goes _ s _ x is-x p e λ _ _. goes _ _ f is-y λ _ _. goes _ _ g is-z λ _ _. stops _ _ i is-w
+        path-unpositioned r i = start-goes _ _ s _ x is-x p e λ _ _. goes _ _ f is-y λ _ _. goes _ _ g is-z λ _ _. stops _ _ i is-w
 
         pub path-read : (end : ℕ) → w ≡ Next end → (v : Read) → v ≡ ending (finished end s end) → v ≡ ending (whole pathRecord s)
         unfolding pathRecord
-        path-read end i v l = start-goes _ s _ x is-x p e λ _ _. goes _ _ f is-y λ _ _. goes _ _ g is-z λ _ _. goes _ _ i is-w λ _ _. at-end _ s end v l
+        path-read end i v l = start-goes _ _ s _ x is-x p e λ _ _. goes _ _ f is-y λ _ _. goes _ _ g is-z λ _ _. goes _ _ i is-w λ _ _. at-end _ s end v l
 
 pub ruleset narrowing-read = (needs, narrowing-end, narrowing-undefined, narrowing-bare, narrowing-typed)
 

@@ -57,7 +57,7 @@ fn read_list(s: &[u8], start: usize) -> Read
 pub fn read_targets(s: &[u8]) -> Read
     ensures { λ r. ⌜ r ≡ ending (whole targetRecord (now (s .entry))) ⌝ }
 {
-    let heading = names::read_start(s, b"DWT");
+    let heading = names::read_start(s, b"DWT", 1);
     let Read::Next(p) = heading else {
         return heading;
     };
@@ -92,7 +92,7 @@ fn read_side(s: &[u8], at: usize) -> Read
 pub fn read_path(s: &[u8]) -> Read
     ensures { λ r. ⌜ r ≡ ending (whole pathRecord (now (s .entry))) ⌝ }
 {
-    let heading = names::read_start(s, b"DWP");
+    let heading = names::read_start(s, b"DWP", 1);
     let Read::Next(p) = heading else {
         return heading;
     };

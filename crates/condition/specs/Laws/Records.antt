@@ -17,10 +17,10 @@ module _ (s : List ℕ) (acc : isRecord s ≡ true) where
   unfolding conditionRecord recordIn finished
   record-read =
       let w = accept (whole conditionRecord s) acc in
-      let a = split (heading (68 ∷ 87 ∷ 67 ∷ []) s 0) _ (whole-read conditionRecord s (w .read)) in
+      let a = split (heading (68 ∷ 87 ∷ 67 ∷ []) 1 s 0) _ (whole-read conditionRecord s (w .read)) in
       let b = split (conditionAt levels s (a .place)) _ (a .rest) in
       let v = held 10 (eqb (b .place) (length s)) s (b .rest) in
-      let p : a .place ≡ 5 = heading-place (68 ∷ 87 ∷ 67 ∷ []) s (a .first) in
+      let p : a .place ≡ 5 = heading-place (68 ∷ 87 ∷ 67 ∷ []) 1 s (a .first) in
       let x : recordIn s ≡ b .value = has-value _ (w .read) ∙ sym (v .value) in
       let n : b .place ≡ length s = eqb-true (b .place) (length s) (v .passed) in
       ap (conditionAt levels s) (sym p) ∙ b .first ∙ ap (λ y. got y (b .place)) (sym x) ∙ ap (got (recordIn s)) n

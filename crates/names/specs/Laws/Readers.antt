@@ -1,6 +1,6 @@
 -- The laws of readers: what a field's bytes give, and how an answer passes through a sequence. Assumes nothing.
 use mathlib.Core.Path.{_≡_, refl, sym, ap, _∙_}
-use mathlib.Core.Bool.{Bool, true, false, false≢true, cond}
+use mathlib.Core.Bool.{Bool, true, false, false≢true, cond, _&&_}
 use mathlib.Core.List.{List, [], _∷_}
 use Prim.Native.Nat.{ℕ, zero, suc, _+_, _-_, _≤_, _<_}
 use native.Mathlib.Omega.{arith}
@@ -263,16 +263,16 @@ u16-place s at e =
     let a = split (bytes 2 s at) _ e in
     sym (got-place (a .rest)) ∙ bytes-view s at 2 (a .first) .2
 
-pub heading-place : (mark s : List ℕ) {v n : ℕ} → heading mark s 0 ≡ got v n → n ≡ length mark + 2
+pub heading-place : (mark : List ℕ) (newest : ℕ) (s : List ℕ) {v n : ℕ} → heading mark newest s 0 ≡ got v n → n ≡ length mark + 2
 unfolding heading
-heading-place mark s {v} {n} e =
+heading-place mark newest s {v} {n} e =
     let a = split (bytes (length mark) s 0) _ e in
     let b = split (holds 3 (same (a .value) mark) (a .value) s (a .place)) _ (a .rest) in
     let d = split (u16 s (b .place)) _ (b .rest) in
     let i = bytes-view s 0 (length mark) (a .first) .2 in
     let j = held 3 (same (a .value) mark) s (b .first) .place in
     let k = u16-place s (b .place) (d .first) in
-    let l = held 4 (eqb (d .value) 1) s (d .rest) .place in
+    let l = held 4 (leb 1 (d .value) && leb (d .value) newest) s (d .rest) .place in
     sym l ∙ k ∙ ap (λ (m : ℕ). m + 2) (sym j ∙ i ∙ zero-add (length mark))
 
 pub finished-value : {A : Type 0} (a : A) (s : List ℕ) (at : ℕ) {b : A} {n : ℕ} → finished a s at ≡ got b n → a ≡ b

@@ -24,21 +24,21 @@ module _ {A : Type 0} (f : Reader A) (s : List ℕ) where
   not-long h x e = rw (le-leb _ _ h) e
 
 -- What follows the front of a record answers for the record.
-module _ {B : Type 0} (mark s : List ℕ) (f : ℕ → Reader B) (x : Read) (is : x ≡ ending (whole (heading mark) s)) where
-  pub start-stops : (r : ℕ) → x ≡ Refused r → x ≡ ending (whole (heading mark >>= f) s)
+module _ {B : Type 0} (mark : List ℕ) (newest : ℕ) (s : List ℕ) (f : ℕ → Reader B) (x : Read) (is : x ≡ ending (whole (heading mark newest) s)) where
+  pub start-stops : (r : ℕ) → x ≡ Refused r → x ≡ ending (whole (heading mark newest >>= f) s)
   unfolding whole ending
   start-stops r e = go (leb (length s) 32768) is
     where
-      go : (b : Bool) → x ≡ ending (cond b (heading mark s 0) (bad 1)) → x ≡ ending (cond b ((heading mark >>= f) s 0) (bad 1))
-      go true i = stops (heading mark s 0) (λ v n. f v s n) e i
+      go : (b : Bool) → x ≡ ending (cond b (heading mark newest s 0) (bad 1)) → x ≡ ending (cond b ((heading mark newest >>= f) s 0) (bad 1))
+      go true i = stops (heading mark newest s 0) (λ v n. f v s n) e i
       go false i = i
 
-  pub start-goes : (p : ℕ) → x ≡ Next p → {y : Read} → ((v : ℕ) → heading mark s 0 ≡ got v p → y ≡ ending (f v s p)) → y ≡ ending (whole (heading mark >>= f) s)
+  pub start-goes : (p : ℕ) → x ≡ Next p → {y : Read} → ((v : ℕ) → heading mark newest s 0 ≡ got v p → y ≡ ending (f v s p)) → y ≡ ending (whole (heading mark newest >>= f) s)
   unfolding whole ending
   start-goes p e {y} rest = go (leb (length s) 32768) is
     where
-      go : (b : Bool) → x ≡ ending (cond b (heading mark s 0) (bad 1)) → y ≡ ending (cond b ((heading mark >>= f) s 0) (bad 1))
-      go true i = goes (heading mark s 0) (λ v n. f v s n) e i rest
+      go : (b : Bool) → x ≡ ending (cond b (heading mark newest s 0) (bad 1)) → y ≡ ending (cond b ((heading mark newest >>= f) s 0) (bad 1))
+      go true i = goes (heading mark newest s 0) (λ v n. f v s n) e i rest
       go false i = let z : _≡_ {A = ℕ} 0 1 = cc in absurd (omega arith)
 
 -- The end of a record, whatever its value.

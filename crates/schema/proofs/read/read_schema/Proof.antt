@@ -16,15 +16,15 @@ use Rattle.schema.proofs.Views.{nameOf}
 use Rattle.schema.proofs.read.read_schema.Statement.{statement}
 use Rattle.schema.proofs.read.read_schema.Tie as tie
 
-module _ (s : List ℕ) (x : Read) (is-x : x ≡ ending (whole (heading (68 ∷ 87 ∷ 83 ∷ [])) s)) where
+module _ (s : List ℕ) (x : Read) (is-x : x ≡ ending (whole (heading (68 ∷ 87 ∷ 83 ∷ []) 1) s)) where
   no-heading : (r : ℕ) → x ≡ Refused r → x ≡ ending (whole schemaRecord s)
   unfolding schemaRecord
-  no-heading r e = start-stops _ s _ x is-x r e
+  no-heading r e = start-stops _ _ s _ x is-x r e
 
   module _ (at : ℕ) (e : x ≡ Next at) (y : Read) (is-y : y ≡ ending (u16 s at)) where
     no-entity-count : (r : ℕ) → y ≡ Refused r → y ≡ ending (whole schemaRecord s)
     unfolding schemaRecord
-    no-entity-count r f = start-goes _ s _ x is-x at e λ _ _. stops _ _ f is-y
+    no-entity-count r f = start-goes _ _ s _ x is-x at e λ _ _. stops _ _ f is-y
 
     module _ (n : ℕ) (f : y ≡ Next n) (v : ℕ) (is-v : v ≡ number 0 (take 2 (drop at s))) (z : Read) (is-z : z ≡ ending (many nameOf entityType v none s n)) where
       entities-are : {k : ℕ} → u16 s at ≡ got k n → z ≡ ending (many nameOf entityType k none s n)
@@ -32,12 +32,12 @@ module _ (s : List ℕ) (x : Read) (is-x : x ≡ ending (whole (heading (68 ∷ 
 
       no-entities : (r : ℕ) → z ≡ Refused r → z ≡ ending (whole schemaRecord s)
       unfolding schemaRecord
-      no-entities r g = start-goes _ s _ x is-x at e λ _ _. goes _ _ f is-y λ k d. stops _ _ g (entities-are d)
+      no-entities r g = start-goes _ _ s _ x is-x at e λ _ _. goes _ _ f is-y λ k d. stops _ _ g (entities-are d)
 
       module _ (m : ℕ) (g : z ≡ Next m) (u : Read) (is-u : u ≡ ending (u16 s m)) where
         no-action-count : (r : ℕ) → u ≡ Refused r → u ≡ ending (whole schemaRecord s)
         unfolding schemaRecord
-        no-action-count r i = start-goes _ s _ x is-x at e λ _ _. goes _ _ f is-y λ k d. goes _ _ g (entities-are d) λ es _. stops _ _ i is-u
+        no-action-count r i = start-goes _ _ s _ x is-x at e λ _ _. goes _ _ f is-y λ k d. goes _ _ g (entities-are d) λ es _. stops _ _ i is-u
 
         module _ (p : ℕ) (i : u ≡ Next p) (w : ℕ) (is-w : w ≡ number 0 (take 2 (drop m s))) (q : Read) (is-q : q ≡ ending (many keyOf action w none s p)) where
           actions-are : {k : ℕ} → u16 s m ≡ got k p → q ≡ ending (many keyOf action k none s p)
@@ -45,11 +45,11 @@ module _ (s : List ℕ) (x : Read) (is-x : x ≡ ending (whole (heading (68 ∷ 
 
           no-actions : (r : ℕ) → q ≡ Refused r → q ≡ ending (whole schemaRecord s)
           unfolding schemaRecord
-          no-actions r j = start-goes _ s _ x is-x at e λ _ _. goes _ _ f is-y λ k d. goes _ _ g (entities-are d) λ es _. goes _ _ i is-u λ l d′. stops _ _ j (actions-are d′)
+          no-actions r j = start-goes _ _ s _ x is-x at e λ _ _. goes _ _ f is-y λ k d. goes _ _ g (entities-are d) λ es _. goes _ _ i is-u λ l d′. stops _ _ j (actions-are d′)
 
           to-the-end : (end : ℕ) → q ≡ Next end → (o : Read) → o ≡ ending (finished end s end) → o ≡ ending (whole schemaRecord s)
           unfolding schemaRecord
-          to-the-end end j o is-o = start-goes _ s _ x is-x at e λ _ _. goes _ _ f is-y λ k d. goes _ _ g (entities-are d) λ es _. goes _ _ i is-u λ l d′. goes _ _ j (actions-are d′) λ acts _. at-end _ s end o is-o
+          to-the-end end j o is-o = start-goes _ _ s _ x is-x at e λ _ _. goes _ _ f is-y λ k d. goes _ _ g (entities-are d) λ es _. goes _ _ i is-u λ l d′. goes _ _ j (actions-are d′) λ acts _. at-end _ s end o is-o
 
 ruleset steps = (needs, no-heading, no-entity-count, no-entities, no-action-count, no-actions, to-the-end)
 
