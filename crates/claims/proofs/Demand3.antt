@@ -1,12 +1,13 @@
 -- Demand 3, of runs of the check: `demand3` is the claim of `specs/Breaches.antt`. `alone` is about one run, `joined` about lists joined, `alike` about
 -- order and repeats. Assumes nothing.
 use Prim.Native.Nat.{ℕ, _+_, _≤_}
+use native.Mathlib.Omega.{arith}
 use mathlib.Core.Path.{_≡_, refl, sym, ap, subst, _∙_}
-use mathlib.Core.Bool.{Bool, true, false, cond}
+use mathlib.Core.Bool.{Bool, true, false, cond, false≢true}
 use mathlib.Core.Logic.{_⊎_, inl, inr, ⊎-elim, _↔_}
 use mathlib.Core.List.{List, [], _∷_, _++_}
 use mathlib.Core.Option.{Option, none, some}
-use lib.ListN.{length}
+use lib.ListN.{length, drop}
 use Rattle.names.specs.Lists.{maybe, gather}
 use Rattle.names.specs.Laws.Lists.{gather-append}
 use Rattle.schema.specs.Schema.{Schema, Action}
@@ -20,12 +21,12 @@ use Rattle.reports.specs.Answers.{outcomeOf}
 use Rattle.reports.specs.Reports.Laws as laws
 use Rattle.reports.specs.Once.{both, both-in, both-nodup}
 use Rattle.reports.specs.Sets.{in-left, in-right, in-append, length-same}
-use Rattle.reports.specs.Pairs.{_∈_, Pair, pairOf, pairs, space}
+use Rattle.reports.specs.Pairs.{_∈_, NoDup, Same, Pair, pairOf, pairs, space}
 use Rattle.terms.specs.Terms.{factsOf}
 use Rattle.rules.specs.Rules.{nodeBreaches}
 use Rattle.typecheck.specs.Check.{breachesUnder, checked, check}
 use Rattle.claims.specs.Written.{written}
-use Rattle.claims.specs.Breaches.{Accepted, isChecked, BreachOf, PairOf, Different, SpaceForAll, Run, reportedPairs, Shared, under, Alone, Taken, RunOf, Counts, Joined, Alike, Claim}
+use Rattle.claims.specs.Breaches.{Accepted, isChecked, BreachUnder, BreachOf, PairOf, Different, SpaceForAll, Run, reportedPairs, Shared, Exact, under, Alone, Taken, RunOf, Counts, Joined, Alike, Claim}
 use Rattle.claims.proofs.Written.{no-other, front-accepted, behind-accepted}
 
 -- ---- what is gathered from a list, and the pairs of a list

@@ -1,31 +1,32 @@
 -- The rows of the examples hold. Assumes nothing.
-use mathlib.Core.Path.{_≡_, refl, sym, ap, _∙_}
-use mathlib.Core.Bool.{true, false, cond, false≢true}
+use mathlib.Core.Path.{_≡_, refl, sym, ap, ap₂, _∙_}
+use mathlib.Core.Bool.{Bool, true, false, cond, false≢true}
 use mathlib.Core.List.{List, [], _∷_, _++_, append-nil, append-assoc}
 use mathlib.Core.Option.{Option, none, some}
 use Prim.Native.Nat.{ℕ, zero, suc}
 use lib.ListN.{length}
-use Rattle.names.specs.Lists.{maybe, gather, first, anyOf, every}
+use Rattle.names.specs.Lists.{maybe, gather, first, anyOf, every, select}
 use Rattle.names.specs.Names.{same, lastOf}
 use Rattle.names.specs.Laws.Names.{same-refl}
 use Rattle.names.specs.Text.{text}
 use Rattle.types.specs.Types as types
-use Rattle.types.specs.Types.{Ty, scalar, anyArray, mixedArray, fits, isNumeric, tagFits}
+use Rattle.types.specs.Types.{Ty, scalar, anyArray, mixedArray, fits, isNumeric, tagFits, compatible}
 use Rattle.types.specs.Laws.Types.{isArray, any-array-inside, any-array-inside-right}
 use Rattle.types.specs.Meaning.{layered}
 use Rattle.schema.specs.Schema.{Schema, Action}
 use Rattle.schema.specs.Find.{findAction}
 use Rattle.targets.specs.Targets.{Target, Scope, Narrowing, any}
-use Rattle.resolution.specs.Resolution.{scopePath, declaredAll, onTypes, onEntity, unattributed, projection, verdict, failed, failure, typesOf, typed, agreed, sideAdmits, admitsAnyEnv}
+use Rattle.resolution.specs.Resolution.{scopePath, admitted, declaredAll, onTypes, onEntity, unattributed, projection, verdict, failed, failure, typesOf, typed, agreed, sideAdmits, admitsAnyEnv}
 use Rattle.condition.specs.Condition as condition
-use Rattle.condition.specs.Condition.{Span, Condition, Term, Binder, Operator, path, comparison, entity, literal, contextField, scopeField, var, wildcard, array, aggregate, sigil}
+use Rattle.condition.specs.Condition.{Span, Condition, Term, Annotation, Binder, Operator, path, comparison, entity, literal, contextField, scopeField, var, wildcard, array, nil, cons, aggregate, sigil}
 use Rattle.condition.specs.Walk.{reached, reachedIn, operandAggregates, operandBinders, declares, binders, namedHere, lastNamed}
-use Rattle.terms.specs.Terms.{Facts, factsOf, wordType, annotationType, varType, sideType, rootType, scopeFieldType, allLike, arrayOf, elementTypes, termType}
-use Rattle.typecheck.specs.Check.{numericBreaches, likeBreaches, operandsBy, ordering, argumentBreach, argumentBreaches, leafBreaches, arithmeticBreaches, nodeBreaches, breachesUnder}
+use Rattle.terms.specs.Terms.{Facts, factsOf, wordType, annotationType, inputType, varType, sideType, rootType, scopeFieldType, allLike, arrayOf, elementTypes, termType}
+use Rattle.rules.specs.Rules.{numericBreaches, likeBreaches, operandsBy, ordering, argumentBreach, argumentBreaches, leafBreaches, arithmeticBreaches, nodeBreaches}
+use Rattle.typecheck.specs.Check.{breachesUnder}
 use Rattle.reports.specs.Reports.{Breach}
 use Rattle.claims.specs.Breaches.{isChecked}
 use Rattle.claims.specs.Rows.{Hold, end, _and_}
-use Rattle.claims.specs.Examples.{Checked, factsIn, typeIn, reports, Operands, Entities, empty, BesideEmpty, ArrayField, argued, binderOf, Bound, Rebound, AnyName, WithoutId, id, partOfId, comparing, NoPrincipals, narrowedTo, integer, decimal, string, only, declaring, twice, edges}
+use Rattle.claims.specs.Examples.{Checked, factsIn, typeIn, reports, Operands, compared, Entities, empty, BesideEmpty, ArrayField, argued, binderOf, Bound, Rebound, AnyName, WithoutId, id, partOfId, comparing, NoPrincipals, narrowedTo, integer, decimal, string, only, declaring, twice, edges}
 
 -- ---- a condition under a target that is checked
 
@@ -48,7 +49,7 @@ module _ (x : Checked) where
 
 -- a term with a type that is no Long is no arithmetic and no aggregate
 record Plain (f : Facts) (at : Span) (t : Term) : Type 0 where
-  pub atoms : arithmeticBreaches f at t ≡ []
+  pub atoms : arithmeticBreaches f t at ≡ []
   pub inner : reachedIn t ≡ []
 
 plain : (f : Facts) (at : Span) (t : Term) (ty : Ty) → termType (some f) t ≡ some ty → isNumeric ty ≡ false → Plain f at t
@@ -69,12 +70,12 @@ module _ (x : Checked) (op : Operator) (l r : Term) (tl tr : Ty) where
   abbrev c : Condition
   c = comparison (x .at) op l r
 
-  by-types : typeIn x c l ≡ some tl → typeIn x c r ≡ some tr → Plain (factsIn x c) (x .at) l → Plain (factsIn x c) (x .at) r → reports x c ≡ length (operandsBy (ordering op) (x .at) tl tr)
+  by-types : typeIn x c l ≡ some tl → typeIn x c r ≡ some tr → Plain (factsIn x c) (x .at) l → Plain (factsIn x c) (x .at) r → reports x c ≡ length (operandsBy (ordering op) tl tr (x .at))
   unfolding reached gather nodeBreaches
   by-types el er pl pr =
       computed x c ∙ rw (pl .inner, pr .inner, pl .atoms, pr .atoms, el, er, append-nil)
 
-  no-long : typeIn x c l ≡ some tl → typeIn x c r ≡ some tr → isNumeric tl ≡ false → isNumeric tr ≡ false → reports x c ≡ length (operandsBy (ordering op) (x .at) tl tr)
+  no-long : typeIn x c l ≡ some tl → typeIn x c r ≡ some tr → isNumeric tl ≡ false → isNumeric tr ≡ false → reports x c ≡ length (operandsBy (ordering op) tl tr (x .at))
   no-long el er nl nr = by-types el er (plain (factsIn x c) (x .at) l tl el nl) (plain (factsIn x c) (x .at) r tr er nr)
 
 -- ---- arrays in every number of layers

@@ -4,7 +4,7 @@ use mathlib.Core.Bool.{Bool, true, false, cond}
 use mathlib.Core.Logic.{_⊎_, inl, inr, ⊎-elim}
 use mathlib.Core.List.{List, [], _∷_, _++_, append-assoc, append-nil}
 use mathlib.Core.Option.{Option, none, some}
-use Prim.Native.Nat.{ℕ, zero, suc, _+_, _≤_}
+use Prim.Native.Nat.{ℕ, zero, suc, _+_, _*_, _≤_}
 use native.Mathlib.Numerals.{add-one}
 use native.Mathlib.Omega.{arith}
 use lib.Dec.{leb, eqb}
@@ -13,7 +13,7 @@ use lib.Seq.{drop-cons, drop-drop, drop-append-seam, take-append-seam, length-ta
 use borrow.Author.Tests.{eqb-true, eq-eqb, leb-true, le-leb}
 use Rattle.names.specs.Lists.{gather}
 use Rattle.names.specs.Laws.Lists.{gather-append}
-use Rattle.names.specs.Fields.{Reader, Got, got, bad, next, _<$>_, pure, holds, u8, u16, number, bytes, stringOf, many, each, counted, heading, finished, whole, choose}
+use Rattle.names.specs.Fields.{Reader, Got, got, bad, next, _>>=_, _<$>_, pure, holds, u8, u16, number, bytes, stringOf, many, each, counted, heading, finished, whole, choose}
 use Rattle.names.specs.Names.{pathName, pathOrNone, plain, same}
 use Rattle.names.specs.Laws.Names.{same-eq, same-refl}
 use Rattle.names.specs.Laws.Readers.{split, held, u8-view, u8-got, bytes-view, bytes-got, got-value, got-place, whole-read}

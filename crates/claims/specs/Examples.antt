@@ -9,7 +9,7 @@ use lib.ListN.{length}
 use Rattle.names.specs.Lists.{gather}
 use Rattle.names.specs.Text.{text}
 use Rattle.types.specs.Types as types
-use Rattle.types.specs.Types.{Ty, scalar, mixedArray}
+use Rattle.types.specs.Types.{Ty, scalar, anyArray, mixedArray}
 use Rattle.types.specs.Laws.Types.{isArray}
 use Rattle.types.specs.Meaning.{layered}
 use Rattle.schema.specs.Schema.{Schema, EntityType, Action}

@@ -1,6 +1,6 @@
 -- The bytes of a target record: document 01's numbers, in its order. A record is accepted only where it is written so (`noOther` in `Claim`).
 use Prim.Native.Nat.{ℕ}
-use mathlib.Core.Bool.{true, false}
+use mathlib.Core.Bool.{Bool, true, false}
 use mathlib.Core.List.{List, [], _∷_, _++_}
 use mathlib.Core.Option.{Option, none, some}
 use lib.ListN.{length}
