@@ -9,7 +9,7 @@ use borrow.Author.Tests.{leb-true, leb-false}
 use lib.Dec.{leb}
 use Rattle.names.specs.Fields.{got, Reader, u8, stringOf, choose}
 use Rattle.names.specs.Names.{pathName, plain}
-use Rattle.names.specs.Laws.Readers.{u8-view, string-view, split, got-place, Each, each-below}
+use Rattle.names.specs.Laws.Readers.{u8-view, string-view, split, got-place, Each, each-below, _&_}
 use Rattle.schema.specs.Schema.{Declared, Attributes, kinds, ascending, typeAt, attributes, attributesOf}
 use Rattle.schema.specs.Laws.ByKind.{ascending-string, choose-above}
 use Rattle.schema.proofs.Levels.{none-left}
@@ -43,39 +43,18 @@ module _ (f : Reader Declared) (ahead : (s : List ℕ) (at : ℕ) (t : Declared)
   unfolding choose kinds Each
   kind-ahead s at t n =
       each-below (λ k. choose k (kinds f) s at ≡ got t n → at ≤ n) 11 (
-        (
-          (
-            (
-              (
-                (
-                  (
-                    (
-                      (
-                        (
-                          (
-                            tt,
-                            λ e. let i = got-place e in omega arith,
-                          ),
-                          λ e. let i = got-place e in omega arith,
-                        ),
-                        λ e. let i = got-place e in omega arith,
-                      ),
-                      λ e. let x = split (stringOf pathName s at) _ e in let i = got-place (x .rest) in let j = string-ahead s at (x .first) in omega arith,
-                    ),
-                    λ e. let x = split (f s at) _ e in let i = got-place (x .rest) in let j = ahead s at (x .value) (x .place) (x .first) in omega arith,
-                  ),
-                  λ e. let i = got-place e in omega arith,
-                ),
-                λ e. let x = split (attributes f s at) _ e in let i = got-place (x .rest) in let j = counted-ahead s at (x .first) in omega arith,
-              ),
-              λ e. let x = split (stringOf pathName s at) _ e in let i = got-place (x .rest) in let j = string-ahead s at (x .first) in omega arith,
-            ),
-            λ e. let i = got-place e in omega arith,
-          ),
-          λ e. let i = got-place e in omega arith,
-        ),
-        λ e. let i = got-place e in omega arith,
-      )
+      tt
+      & (λ e. let i = got-place e in omega arith)
+      & (λ e. let i = got-place e in omega arith)
+      & (λ e. let i = got-place e in omega arith)
+      & (λ e. let x = split (stringOf pathName s at) _ e in let i = got-place (x .rest) in let j = string-ahead s at (x .first) in omega arith)
+      & (λ e. let x = split (f s at) _ e in let i = got-place (x .rest) in let j = ahead s at (x .value) (x .place) (x .first) in omega arith)
+      & (λ e. let i = got-place e in omega arith)
+      & (λ e. let x = split (attributes f s at) _ e in let i = got-place (x .rest) in let j = counted-ahead s at (x .first) in omega arith)
+      & (λ e. let x = split (stringOf pathName s at) _ e in let i = got-place (x .rest) in let j = string-ahead s at (x .first) in omega arith)
+      & (λ e. let i = got-place e in omega arith)
+      & (λ e. let i = got-place e in omega arith)
+      & (λ e. let i = got-place e in omega arith))
 
   kinds-ahead : (s : List ℕ) (at : ℕ) (t : Declared) (n k : ℕ) → choose k (kinds f) s at ≡ got t n → at ≤ n
   kinds-ahead s at t n k e = go (leb k 10) refl

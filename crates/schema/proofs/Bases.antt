@@ -12,7 +12,7 @@ use Rattle.names.specs.Fields.{got, choose, stringOf, levels}
 use Rattle.names.specs.Names.{pathName, same, simpleName}
 use Rattle.names.specs.Text.{text}
 use Rattle.names.specs.Read.{wordAt}
-use Rattle.names.specs.Laws.Readers.{Split, split, string-view, accept, is-accepted, has-value, got-value, Each, each-below}
+use Rattle.names.specs.Laws.Readers.{Split, split, string-view, accept, is-accepted, has-value, got-value, Each, each-below, _&_}
 use Rattle.names.specs.Laws.Walks.{part-of-part, take-at-most}
 use Rattle.types.specs.Types.{Ty, entity, array}
 use Rattle.types.specs.Meaning.{tagOf, baseOf, layered}
@@ -112,39 +112,18 @@ module _ (s : List ℕ) (at : ℕ) (is : isType s at ≡ true) (k : ℕ) (op : O
   rich-untagged n4 n0 n1 n2 n3 n5 n6 n7 n10 c =
       let known : k < 11 = rw (op .kind) (open-type s at (accept _ is .read) .known) in
       each-below (λ j. k ≡ j → entity none ≡ richType (typeIn s at)) 11 (
-        (
-          (
-            (
-              (
-                (
-                  (
-                    (
-                      (
-                        (
-                          (
-                            tt,
-                            λ e. absurd (n0 e),
-                          ),
-                          λ e. absurd (n1 e),
-                        ),
-                        λ e. absurd (n2 e),
-                      ),
-                      λ e. absurd (n3 e),
-                    ),
-                    λ e. absurd (n4 (sym (op .kind) ∙ e)),
-                  ),
-                  λ e. absurd (n5 e),
-                ),
-                λ e. absurd (n6 e),
-              ),
-              λ e. absurd (n7 e),
-            ),
-            λ e. ap richType (got-value (at-kind 8 e)),
-          ),
-          λ e. ap richType (got-value (at-kind 9 e)),
-        ),
-        λ e. absurd (n10 e),
-      )
+      tt
+      & (λ e. absurd (n0 e))
+      & (λ e. absurd (n1 e))
+      & (λ e. absurd (n2 e))
+      & (λ e. absurd (n3 e))
+      & (λ e. absurd (n4 (sym (op .kind) ∙ e)))
+      & (λ e. absurd (n5 e))
+      & (λ e. absurd (n6 e))
+      & (λ e. absurd (n7 e))
+      & (λ e. ap richType (got-value (at-kind 8 e)))
+      & (λ e. ap richType (got-value (at-kind 9 e)))
+      & (λ e. absurd (n10 e)))
       k known refl
 
   -- a set, and its element one byte on

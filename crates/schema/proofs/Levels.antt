@@ -9,7 +9,7 @@ use borrow.Author.Tests.{leb-true, leb-false}
 use lib.Dec.{leb}
 use Rattle.names.specs.Fields.{got, Reader, refuse, u8, choose}
 use Rattle.names.specs.Names.{plain}
-use Rattle.names.specs.Laws.Readers.{Wider, next-wider, split, Each, each-below}
+use Rattle.names.specs.Laws.Readers.{Wider, next-wider, split, Each, each-below, _&_}
 use Rattle.schema.specs.Schema.{Declared, ascending, kinds, typeAt, attributes, attributesOf}
 use Rattle.schema.specs.Laws.ByKind.{choose-above}
 
@@ -30,39 +30,18 @@ module _ (f g : Reader Declared) (wide : Wider f g) where
   unfolding choose kinds Each
   choose-wider =
       each-below (λ k. Wider (choose k (kinds f)) (choose k (kinds g))) 11 (
-        (
-          (
-            (
-              (
-                (
-                  (
-                    (
-                      (
-                        (
-                          (
-                            tt,
-                            λ s at a n e. e,
-                          ),
-                          λ s at a n e. e,
-                        ),
-                        λ s at a n e. e,
-                      ),
-                      λ s at a n e. e,
-                    ),
-                    λ s at. next-wider (f s at) (g s at) _ _ (wide s at) (λ t p _ _ i. i),
-                  ),
-                  λ s at a n e. e,
-                ),
-                λ s at. next-wider (attributes f s at) (attributes g s at) _ _ (attributes-wider s at) (λ t p _ _ i. i),
-              ),
-              λ s at a n e. e,
-            ),
-            λ s at a n e. e,
-          ),
-          λ s at a n e. e,
-        ),
-        λ s at a n e. e,
-      )
+      tt
+      & (λ s at a n e. e)
+      & (λ s at a n e. e)
+      & (λ s at a n e. e)
+      & (λ s at a n e. e)
+      & (λ s at. next-wider (f s at) (g s at) _ _ (wide s at) (λ t p _ _ i. i))
+      & (λ s at a n e. e)
+      & (λ s at. next-wider (attributes f s at) (attributes g s at) _ _ (attributes-wider s at) (λ t p _ _ i. i))
+      & (λ s at a n e. e)
+      & (λ s at a n e. e)
+      & (λ s at a n e. e)
+      & (λ s at a n e. e))
 
   kinds-wider : (k : ℕ) → Wider (choose k (kinds f)) (choose k (kinds g))
   kinds-wider k s at a n e = go (leb k 10) refl

@@ -11,7 +11,7 @@ use lib.ListN.{length, getD}
 use borrow.Author.Needs.{needs}
 use Rattle.names.specs.Fields.{got, Reader, u8, choose, stringOf, levels}
 use Rattle.names.specs.Names.{pathName}
-use Rattle.names.specs.Laws.Readers.{u8-view, split, accept, Accepted, is-accepted, has-value, got-value, Each, each-below}
+use Rattle.names.specs.Laws.Readers.{u8-view, split, accept, Accepted, is-accepted, has-value, got-value, Each, each-below, _&_}
 use Rattle.schema.specs.Schema.{Declared, Attributes, never, nothing, object, kinds, typeAt, attributes}
 use Rattle.schema.specs.Places.{typeIn, isType, fieldsIn, areFields, FindsFields, Opened}
 use Rattle.schema.specs.Find.{fieldsOf}
@@ -42,39 +42,18 @@ no-fields : (inner : Reader Declared) (s : List ℕ) (at : ℕ) (t : Declared) (
 unfolding choose kinds Each fieldsOf
 no-fields inner s at t n =
     each-below (λ k. (k ≡ 6 → ⊥) → choose k (kinds inner) s at ≡ got t n → fieldsOf t ≡ none) 11 (
-      (
-        (
-          (
-            (
-              (
-                (
-                  (
-                    (
-                      (
-                        (
-                          tt,
-                          λ h e. ap fieldsOf (sym (got-value e)),
-                        ),
-                        λ h e. ap fieldsOf (sym (got-value e)),
-                      ),
-                      λ h e. ap fieldsOf (sym (got-value e)),
-                    ),
-                    λ h e. ap fieldsOf (sym (got-value (split (stringOf pathName s at) _ e .rest))),
-                  ),
-                  λ h e. ap fieldsOf (sym (got-value (split (inner s at) _ e .rest))),
-                ),
-                λ h e. ap fieldsOf (sym (got-value e)),
-              ),
-              λ h e. absurd (h refl),
-            ),
-            λ h e. ap fieldsOf (sym (got-value (split (stringOf pathName s at) _ e .rest))),
-          ),
-          λ h e. ap fieldsOf (sym (got-value e)),
-        ),
-        λ h e. ap fieldsOf (sym (got-value e)),
-      ),
-      λ h e. ap fieldsOf (sym (got-value e)),
-    )
+    tt
+    & (λ h e. ap fieldsOf (sym (got-value e)))
+    & (λ h e. ap fieldsOf (sym (got-value e)))
+    & (λ h e. ap fieldsOf (sym (got-value e)))
+    & (λ h e. ap fieldsOf (sym (got-value (split (stringOf pathName s at) _ e .rest))))
+    & (λ h e. ap fieldsOf (sym (got-value (split (inner s at) _ e .rest))))
+    & (λ h e. ap fieldsOf (sym (got-value e)))
+    & (λ h e. absurd (h refl))
+    & (λ h e. ap fieldsOf (sym (got-value (split (stringOf pathName s at) _ e .rest))))
+    & (λ h e. ap fieldsOf (sym (got-value e)))
+    & (λ h e. ap fieldsOf (sym (got-value e)))
+    & (λ h e. ap fieldsOf (sym (got-value e))))
 
 -- a record's attributes
 record-fields : (inner : Reader Declared) (s : List ℕ) (at : ℕ) {t : Declared} {n : ℕ} → choose 6 (kinds inner) s at ≡ got t n → Accepted (attributes inner s at)

@@ -9,8 +9,7 @@ use lib.Dec.{leb}
 use Rattle.names.specs.Fields.{Got, got, Reader, next, refuse, u8, choose, stringOf, each, counted}
 use Rattle.names.specs.Names.{plain, pathName}
 use Rattle.names.specs.Paths.{pathOf}
-use Rattle.names.specs.Laws.Readers.{Keeps, Wider, next-wider, split, Each, each-below, choose-beyond, keysUpTo}
-use Rattle.condition.specs.Laws.Tables.{_&_}
+use Rattle.names.specs.Laws.Readers.{Keeps, Wider, next-wider, split, Each, each-below, choose-beyond, keysUpTo, _&_}
 use Rattle.condition.specs.Condition.{Condition, Term, One, Two, span, slot, binder, operator, arguments, argumentList, elements, elementList, unary, binary, predicateOf, comparisonOf, existsOf, conditionKinds, sumOf, countOf, aggregateKinds, aggregateOf, arithOf, termKinds, tooDeep, conditionAt, termAt}
 
 -- read alike

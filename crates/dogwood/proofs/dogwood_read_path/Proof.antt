@@ -6,14 +6,5 @@ use Rattle.dogwood.proofs.dogwood_read_path.Tie as tie
 
 ruleset steps = (needs, number-of)
 
-read-path-requires : tie.Need-read-path-requires
-read-path-requires c κs = search steps
-
-refusal-number-requires : tie.Need-refusal-number-requires
-refusal-number-requires c κs = search steps
-
-returns : tie.Need-returns
-returns c = search steps
-
 pub dogwood-read-path-spec : {M : Type 1} → statement M
-dogwood-read-path-spec = tie.close (tie.spec read-path-requires refusal-number-requires returns)
+dogwood-read-path-spec = tie.close (tie.spec (λ c κs. search steps) (λ c κs. search steps) (λ c. search steps))

@@ -6,15 +6,5 @@ use Rattle.dogwood.proofs.dogwood_read_schema.Tie as tie
 
 ruleset steps = (needs, number-of)
 
-read-schema-requires : tie.Need-read-schema-requires
-read-schema-requires c κs = search steps
-
-refusal-number-requires : tie.Need-refusal-number-requires
-refusal-number-requires c κs = search steps
-
-returns : tie.Need-returns
-returns c = search steps
-
 pub dogwood-read-schema-spec : {M : Type 1} → statement M
-dogwood-read-schema-spec =
-    tie.close (tie.spec read-schema-requires refusal-number-requires returns)
+dogwood-read-schema-spec = tie.close (tie.spec (λ c κs. search steps) (λ c κs. search steps) (λ c. search steps))

@@ -6,15 +6,5 @@ use Rattle.dogwood.proofs.dogwood_read_targets.Tie as tie
 
 ruleset steps = (needs, number-of)
 
-read-targets-requires : tie.Need-read-targets-requires
-read-targets-requires c κs = search steps
-
-refusal-number-requires : tie.Need-refusal-number-requires
-refusal-number-requires c κs = search steps
-
-returns : tie.Need-returns
-returns c = search steps
-
 pub dogwood-read-targets-spec : {M : Type 1} → statement M
-dogwood-read-targets-spec =
-    tie.close (tie.spec read-targets-requires refusal-number-requires returns)
+dogwood-read-targets-spec = tie.close (tie.spec (λ c κs. search steps) (λ c κs. search steps) (λ c. search steps))

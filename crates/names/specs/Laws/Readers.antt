@@ -17,6 +17,7 @@ use Rattle.names.specs.Names.{same}
 use mathlib.Core.Option.{Option, none, some}
 use Rattle.names.specs.Read.{ending, readNumber, refusalNumber, accepted, valueOr, wordAt}
 
+infixl 10 _&_
 -- Fields.
 module _ (s : List ℕ) (at : ℕ) where
   pub u8-end : length s ≤ at → u8 s at ≡ bad 2
@@ -212,6 +213,10 @@ string-view class s at {w} {n} e =
 unfoldable pub Each : (ℕ → Type 0) → ℕ → Type 0
 Each P zero = Unit {0}
 Each P (suc n) = Each P n × P n
+
+-- what holds of each, one on a line: `tt & law & law`
+abbrev pub _&_ : {A B : Type 0} → A → B → A × B
+a & b = (a, b)
 
 pub each-below : (P : ℕ → Type 0) (n : ℕ) → Each P n → (k : ℕ) → k < n → P k
 unfolding Each

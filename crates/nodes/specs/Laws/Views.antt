@@ -11,11 +11,10 @@ use lib.ListN.{length, getD, take, drop}
 use Rattle.names.specs.Fields.{Got, got, bad, Reader, next, u8, u32, number, bytes, choose, levels, stringOf, each, counted}
 use Rattle.names.specs.Names.{plain, pathName}
 use Rattle.names.specs.Paths.{pathOf}
-use Rattle.names.specs.Laws.Readers.{split, u8-view, bytes-view, got-value, got-place, Each, each-below, choose-beyond, keysUpTo}
+use Rattle.names.specs.Laws.Readers.{split, u8-view, bytes-view, got-value, got-place, Each, each-below, choose-beyond, keysUpTo, _&_}
 use Rattle.condition.specs.Condition.{Span, Slot, Condition, Term, Arguments, Aggregate, Operator, Binder, One, Two, one, two, predicate, comparison, exists, tp, opaque, negation, formerly, previous, refine, and, or, since, le, lt, ge, gt, eq, notEq, integer, decimal, string, bool, entity, literal, contextField, scopeField, var, wildcard, array, aggregate, sigil, sum, count, call, span, slot, operators, operator, binder, timepointOf, argumentList, elementList, unary, binary, predicateOf, comparisonOf, existsOf, conditionKinds, sumOf, countOf, aggregateKinds, aggregateOf, arithOf, termKinds, conditionAt, termAt}
 use Rattle.condition.specs.Condition as tree
 use Rattle.nodes.specs.Kinds.{kindOf, spanOf, termKindOf, aggregateKindOf, aggregateSpanOf, operatorNumber, oneNumber, twoNumber, twoKind, oneKind}
-use Rattle.condition.specs.Laws.Tables.{_&_}
 use Rattle.condition.specs.Laws.Levels.{condition-wider, term-wider}
 
 -- what is known of a table's choice, by what each of its keys says

@@ -6,8 +6,5 @@ use lib.ListN.{length-replicate}
 use Rattle.replay.proofs.list_space.Statement.{statement}
 use Rattle.replay.proofs.list_space.Tie as tie
 
-returns : tie.Need-returns
-returns c = sym (length-replicate {0} {A = ℕ} 2097152 0)
-
 pub list-space-spec : {M : Type 1} → statement M
-list-space-spec = tie.close (tie.spec returns)
+list-space-spec = tie.close (tie.spec (λ c. sym (length-replicate {0} {A = ℕ} 2097152 0)))

@@ -14,7 +14,7 @@ use Rattle.names.specs.Names.{pathName, same, simpleName}
 use Rattle.names.specs.Laws.Joined.{simple-end}
 use Rattle.names.specs.Read.{wordAt}
 use Rattle.names.specs.Text.{text}
-use Rattle.names.specs.Laws.Readers.{split, string-view, accept, has-value, got-value, Each, each-below}
+use Rattle.names.specs.Laws.Readers.{split, string-view, accept, has-value, got-value, Each, each-below, _&_}
 use Rattle.names.specs.Laws.Walks.{take-at-most}
 use Rattle.types.specs.Types as types
 use Rattle.types.specs.Types.{scalar}
@@ -72,39 +72,18 @@ module _ (s : List ℕ) (bytes : Bytes s) where
     unfolding choose kinds Each richType layersIn tagIn
     by-kind =
         each-below (λ k. choose k (kinds (typeAt l)) s at ≡ got t n → Within (suc l) t) 11 (
-          (
-            (
-              (
-                (
-                  (
-                    (
-                      (
-                        (
-                          (
-                            (
-                              tt,
-                              λ e. rw (← got-value e) (plain-within (suc l) long refl refl),
-                            ),
-                            λ e. rw (← got-value e) (plain-within (suc l) string refl refl),
-                          ),
-                          λ e. rw (← got-value e) (plain-within (suc l) bool refl refl),
-                        ),
-                        λ e. let a = split (stringOf pathName s at) _ e in rw (← got-value (a .rest)) (plain-within (suc l) (extension (a .value)) (extension-layers (a .value)) (extension-tag (a .value))),
-                      ),
-                      λ e. let a = split (typeAt l s at) _ e in rw (← got-value (a .rest)) (set-within l (a .value) (inner at (a .value) (a .place) (a .first))),
-                    ),
-                    λ e. rw (← got-value e) (plain-within (suc l) anySet refl refl),
-                  ),
-                  λ e. let a = split (attributes (typeAt l) s at) _ e in rw (← got-value (a .rest)) (plain-within (suc l) (object (a .value)) refl refl),
-                ),
-                λ e. let a = split (stringOf pathName s at) _ e in rw (← got-value (a .rest)) (entity-within (suc l) (a .value) (rw (string-view pathName s at (a .first) .word) (word-short at))),
-              ),
-              λ e. rw (← got-value e) (plain-within (suc l) severalEntities refl refl),
-            ),
-            λ e. rw (← got-value e) (plain-within (suc l) anyEntity refl refl),
-          ),
-          λ e. rw (← got-value e) (plain-within (suc l) never refl refl),
-        )
+        tt
+        & (λ e. rw (← got-value e) (plain-within (suc l) long refl refl))
+        & (λ e. rw (← got-value e) (plain-within (suc l) string refl refl))
+        & (λ e. rw (← got-value e) (plain-within (suc l) bool refl refl))
+        & (λ e. let a = split (stringOf pathName s at) _ e in rw (← got-value (a .rest)) (plain-within (suc l) (extension (a .value)) (extension-layers (a .value)) (extension-tag (a .value))))
+        & (λ e. let a = split (typeAt l s at) _ e in rw (← got-value (a .rest)) (set-within l (a .value) (inner at (a .value) (a .place) (a .first))))
+        & (λ e. rw (← got-value e) (plain-within (suc l) anySet refl refl))
+        & (λ e. let a = split (attributes (typeAt l) s at) _ e in rw (← got-value (a .rest)) (plain-within (suc l) (object (a .value)) refl refl))
+        & (λ e. let a = split (stringOf pathName s at) _ e in rw (← got-value (a .rest)) (entity-within (suc l) (a .value) (rw (string-view pathName s at (a .first) .word) (word-short at))))
+        & (λ e. rw (← got-value e) (plain-within (suc l) severalEntities refl refl))
+        & (λ e. rw (← got-value e) (plain-within (suc l) anyEntity refl refl))
+        & (λ e. rw (← got-value e) (plain-within (suc l) never refl refl)))
 
   within : (l at : ℕ) (t : Declared) (n : ℕ) → typeAt l s at ≡ got t n → Within l t
   unfolding typeAt

@@ -19,7 +19,7 @@ use borrow.Author.Needs.{needs}
 use Rattle.names.specs.Read.{ending, earlier, wordAt}
 use Rattle.names.specs.declared.Read.{Read}
 use Rattle.names.specs.declared.Read.the-variants.{Next, Refused}
-use Rattle.names.specs.Laws.Readers.{u8-end, u8-got, via, last, stops, goes, split, held, string-view, Each, each-below}
+use Rattle.names.specs.Laws.Readers.{u8-end, u8-got, via, last, stops, goes, split, held, string-view, Each, each-below, _&_}
 use Rattle.schema.specs.Schema.{Declared, kinds, typeAt, attributes, attributesOf, ascending, after}
 
 -- a name of a row, accepted: the string there
@@ -46,39 +46,18 @@ choose-leaf : (inner : Reader Declared) (s : List ℕ) (at k : ℕ) → k < 11 �
 unfolding choose kinds ending Each
 choose-leaf inner s at =
     each-below (λ k. (k ≡ 3 → ⊥) → (k ≡ 4 → ⊥) → (k ≡ 6 → ⊥) → (k ≡ 7 → ⊥) → Next at ≡ ending (choose k (kinds inner) s at)) 11 (
-      (
-        (
-          (
-            (
-              (
-                (
-                  (
-                    (
-                      (
-                        (
-                          tt,
-                          λ a b d e. refl,
-                        ),
-                        λ a b d e. refl,
-                      ),
-                      λ a b d e. refl,
-                    ),
-                    λ a b d e. absurd (a refl),
-                  ),
-                  λ a b d e. absurd (b refl),
-                ),
-                λ a b d e. refl,
-              ),
-              λ a b d e. absurd (d refl),
-            ),
-            λ a b d e. absurd (e refl),
-          ),
-          λ a b d e. refl,
-        ),
-        λ a b d e. refl,
-      ),
-      λ a b d e. refl,
-    )
+    tt
+    & (λ a b d e. refl)
+    & (λ a b d e. refl)
+    & (λ a b d e. refl)
+    & (λ a b d e. absurd (a refl))
+    & (λ a b d e. absurd (b refl))
+    & (λ a b d e. refl)
+    & (λ a b d e. absurd (d refl))
+    & (λ a b d e. absurd (e refl))
+    & (λ a b d e. refl)
+    & (λ a b d e. refl)
+    & (λ a b d e. refl))
 
 -- a type of the kind k
 pub type-kind : (s : List ℕ) (at l : ℕ) → at < length s → (l ≡ 0 → ⊥) → (k : ℕ) → getD s at 0 ≡ k → typeAt l s at ≡ choose k (kinds (typeAt (l - 1))) s (at + 1)

@@ -11,14 +11,4 @@ abbrev μ-loop : tie.MeasureT-loop
 μ-loop count i₀ i = count - i
 
 pub arguments-spec : {M : Type 1} → statement M
-arguments-spec =
-    tie.close
-    (tie.spec
-    Inv-loop
-    μ-loop
-    (λ c. search needs)
-    (λ c κs. search needs)
-    (λ c. search needs)
-    (λ c. search needs)
-    (λ c. search needs)
-    (λ c. search needs))
+arguments-spec = tie.close (tie.spec Inv-loop μ-loop (λ c. search needs) (λ c κs. search needs) (λ c. search needs) (λ c. search needs) (λ c. search needs) (λ c. search needs))

@@ -6,4 +6,10 @@ use Rattle.lookup.proofs.place.place_unknown.Tie as tie
 pub place-unknown-spec : {M : Type 1} → statement M
 place-unknown-spec =
     tie.close
-    (tie.spec (λ c κs. search unknowns) (λ c. search unknowns) (λ c κs. search unknowns) (λ c κs. search unknowns) (λ c. search unknowns) (λ c. search unknowns))
+    (tie.spec
+    (λ c κs. search unknowns)
+    (λ c. search unknowns)
+    (λ c κs. search unknowns)
+    (λ c κs. search unknowns)
+    (λ c. search unknowns)
+    (λ c. search unknowns))

@@ -6,4 +6,15 @@ use Rattle.messages.proofs.joined.joined_size.Statement.{statement}
 use Rattle.messages.proofs.joined.joined_size.Tie as tie
 
 pub joined-size-spec : {M : Type 1} → statement M
-joined-size-spec = tie.close (tie.spec (λ c. omega (arith, segments-index _ _ (c .before .pre .0))) (λ c. search measuring) (λ c κs. search measuring) (λ c κs. search measuring) (λ c. search measuring) (λ c. search measuring) (λ c. search measuring) (λ c κs. search measuring) (λ c. search measuring))
+joined-size-spec =
+    tie.close
+    (tie.spec
+    (λ c. omega (arith, segments-index _ _ (c .before .pre .0)))
+    (λ c. search measuring)
+    (λ c κs. search measuring)
+    (λ c κs. search measuring)
+    (λ c. search measuring)
+    (λ c. search measuring)
+    (λ c. search measuring)
+    (λ c κs. search measuring)
+    (λ c. search measuring))

@@ -6,4 +6,16 @@ use Rattle.messages.proofs.joined.put_joined.Statement.{statement}
 use Rattle.messages.proofs.joined.put_joined.Tie as tie
 
 pub put-joined-spec : {M : Type 1} → statement M
-put-joined-spec = tie.close (tie.spec (λ c. omega (arith, segments-index _ _ (c .before .before .pre .0))) (λ c. search joining) (λ c κs. search joining) (λ c κs. search joining) (λ c κs. search joining) (λ c. search joining) (λ c κs. search joining) (λ c κs. search joining) (λ c. search joining) (λ c. search joining))
+put-joined-spec =
+    tie.close
+    (tie.spec
+    (λ c. omega (arith, segments-index _ _ (c .before .before .pre .0)))
+    (λ c. search joining)
+    (λ c κs. search joining)
+    (λ c κs. search joining)
+    (λ c κs. search joining)
+    (λ c. search joining)
+    (λ c κs. search joining)
+    (λ c κs. search joining)
+    (λ c. search joining)
+    (λ c. search joining))

@@ -16,4 +16,17 @@ abbrev μ-loop : tie.MeasureT-loop
 μ-loop out₀ start s count first next₀ at₀ rest₀ out next at rest = rest
 
 pub put-segments-spec : {M : Type 1} → statement M
-put-segments-spec = tie.close (tie.spec Inv-loop μ-loop (λ c. search segments) (λ c κs. search segments) (λ c κs. search segments) (λ c κs. search segments) (λ c. search segments) (λ c. search segments) (λ c. search segments) (λ c. search segments) (λ c. search segments))
+put-segments-spec =
+    tie.close
+    (tie.spec
+    Inv-loop
+    μ-loop
+    (λ c. search segments)
+    (λ c κs. search segments)
+    (λ c κs. search segments)
+    (λ c κs. search segments)
+    (λ c. search segments)
+    (λ c. search segments)
+    (λ c. search segments)
+    (λ c. search segments)
+    (λ c. search segments))

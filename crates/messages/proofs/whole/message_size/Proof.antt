@@ -11,4 +11,18 @@ abbrev μ-loop : tie.MeasureT-loop
 μ-loop schema condition m count size₀ i₀ size i = count - i
 
 pub message-size-spec : {M : Type 1} → statement M
-message-size-spec = tie.close (tie.spec Inv-loop μ-loop (λ c κs. search measuring) (λ c κs. search measuring) (λ c. search measuring) (λ c κs. search measuring) (λ c κs. search measuring) (λ c. search measuring) (λ c. search measuring) (λ c. search measuring) (λ c. search measuring) (λ c. search measuring))
+message-size-spec =
+    tie.close
+    (tie.spec
+    Inv-loop
+    μ-loop
+    (λ c κs. search measuring)
+    (λ c κs. search measuring)
+    (λ c. search measuring)
+    (λ c κs. search measuring)
+    (λ c κs. search measuring)
+    (λ c. search measuring)
+    (λ c. search measuring)
+    (λ c. search measuring)
+    (λ c. search measuring)
+    (λ c. search measuring))

@@ -15,4 +15,17 @@ abbrev μ-loop : tie.MeasureT-loop
 μ-loop out₀ start schema condition m which count at₀ i₀ out at i = count - i
 
 pub put-message-spec : {M : Type 1} → statement M
-put-message-spec = tie.close (tie.spec Inv-loop μ-loop (λ c κs. search writing) (λ c. search writing) (λ c κs. search writing) (λ c. search writing) (λ c. search writing) (λ c. search writing) (λ c κs. search writing) (λ c. search writing) (λ c. search writing))
+put-message-spec =
+    tie.close
+    (tie.spec
+    Inv-loop
+    μ-loop
+    (λ c κs. search writing)
+    (λ c. search writing)
+    (λ c κs. search writing)
+    (λ c. search writing)
+    (λ c. search writing)
+    (λ c. search writing)
+    (λ c κs. search writing)
+    (λ c. search writing)
+    (λ c. search writing))

@@ -4,4 +4,17 @@ use Rattle.messages.proofs.words.word_size.Statement.{statement}
 use Rattle.messages.proofs.words.word_size.Tie as tie
 
 pub word-size-spec : {M : Type 1} → statement M
-word-size-spec = tie.close (tie.spec (λ c. search sizing) (λ c. search sizing) (λ c κs. search sizing) (λ c. search sizing) (λ c κs. search sizing) (λ c. search sizing) (λ c κs. search sizing) (λ c. search sizing) (λ c. search sizing) (λ c. search sizing) (λ c. search sizing))
+word-size-spec =
+    tie.close
+    (tie.spec
+    (λ c. search sizing)
+    (λ c. search sizing)
+    (λ c κs. search sizing)
+    (λ c. search sizing)
+    (λ c κs. search sizing)
+    (λ c. search sizing)
+    (λ c κs. search sizing)
+    (λ c. search sizing)
+    (λ c. search sizing)
+    (λ c. search sizing)
+    (λ c. search sizing))

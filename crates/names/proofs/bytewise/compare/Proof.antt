@@ -45,53 +45,20 @@ Inv-loop a b i₀ i = (i ≤ length a) × (i ≤ length b) × (order (drop i a) 
 abbrev μ-loop : tie.MeasureT-loop
 μ-loop a b i₀ i = length a - i
 
-loop-holds : tie.Need-loop-holds Inv-loop μ-loop
-loop-holds c = search steps
-
-returns : tie.Need-returns Inv-loop μ-loop
-returns c = search steps
-
-shared-slice-read-x : tie.Need-shared-slice-read-x Inv-loop μ-loop
-shared-slice-read-x c = search steps
-
-shared-slice-read-y : tie.Need-shared-slice-read-y Inv-loop μ-loop
-shared-slice-read-y c = search steps
-
-returns-2 : tie.Need-returns-2 Inv-loop μ-loop
-returns-2 c = search steps
-
-returns-3 : tie.Need-returns-3 Inv-loop μ-loop
-returns-3 c = search steps
-
-add-i : tie.Need-add-i Inv-loop μ-loop
-add-i c = search steps
-
-loop-less : tie.Need-loop-less Inv-loop μ-loop
-loop-less c = search steps
-
-loop-again : tie.Need-loop-again Inv-loop μ-loop
-loop-again c = search steps
-
-returns-4 : tie.Need-returns-4 Inv-loop μ-loop
-returns-4 c = search steps
-
-returns-5 : tie.Need-returns-5 Inv-loop μ-loop
-returns-5 c = search steps
-
 pub compare-spec : {M : Type 1} → statement M
 compare-spec =
     tie.close
     (tie.spec
     Inv-loop
     μ-loop
-    loop-holds
-    returns
-    shared-slice-read-x
-    shared-slice-read-y
-    returns-2
-    returns-3
-    add-i
-    loop-less
-    loop-again
-    returns-4
-    returns-5)
+    (λ c. search steps)
+    (λ c. search steps)
+    (λ c. search steps)
+    (λ c. search steps)
+    (λ c. search steps)
+    (λ c. search steps)
+    (λ c. search steps)
+    (λ c. search steps)
+    (λ c. search steps)
+    (λ c. search steps)
+    (λ c. search steps))

@@ -25,28 +25,5 @@ module _ (a b : List ℕ) (o : Order) (is : orderNumber o ≡ order a b) where
 
 ruleset steps = (needs, when-less, when-same, when-more)
 
-compare-requires : tie.Need-compare-requires
-compare-requires c κs = search steps
-
-enum-told : tie.Need-enum-told
-enum-told c = search steps
-
-enum-told-2 : tie.Need-enum-told-2
-enum-told-2 c = search steps
-
-enum-told-3 : tie.Need-enum-told-3
-enum-told-3 c = search steps
-
-returns : tie.Need-returns
-returns c = search steps
-
-returns-2 : tie.Need-returns-2
-returns-2 c = search steps
-
-returns-3 : tie.Need-returns-3
-returns-3 c = search steps
-
 pub is-below-spec : {M : Type 1} → statement M
-is-below-spec =
-    tie.close
-    (tie.spec compare-requires enum-told enum-told-2 enum-told-3 returns returns-2 returns-3)
+is-below-spec = tie.close (tie.spec (λ c κs. search steps) (λ c. search steps) (λ c. search steps) (λ c. search steps) (λ c. search steps) (λ c. search steps) (λ c. search steps))

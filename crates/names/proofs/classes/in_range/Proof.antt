@@ -18,11 +18,5 @@ module _ (lo hi b : ℕ) where
 
 ruleset steps = (needs, above, under)
 
-returns : tie.Need-returns
-returns c = search steps
-
-returns-2 : tie.Need-returns-2
-returns-2 c = search steps
-
 pub in-range-spec : {M : Type 1} → statement M
-in-range-spec = tie.close (tie.spec returns returns-2)
+in-range-spec = tie.close (tie.spec (λ c. search steps) (λ c. search steps))

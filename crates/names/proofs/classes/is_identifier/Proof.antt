@@ -52,57 +52,21 @@ Inv-loop s i₀ i = (i ≤ length s) × (every letterOrDigit (drop i s) ≡ iden
 abbrev μ-loop : tie.MeasureT-loop
 μ-loop s i₀ i = length s - i
 
-returns : tie.Need-returns Inv-loop μ-loop
-returns c = search steps
-
-shared-slice-read-is-letter : tie.Need-shared-slice-read-is-letter Inv-loop μ-loop
-shared-slice-read-is-letter c = search steps
-
-is-letter-requires : tie.Need-is-letter-requires Inv-loop μ-loop
-is-letter-requires c κs = search steps
-
-returns-2 : tie.Need-returns-2 Inv-loop μ-loop
-returns-2 c = search steps
-
-loop-holds : tie.Need-loop-holds Inv-loop μ-loop
-loop-holds c = search steps
-
-is-letter-or-digit-requires : tie.Need-is-letter-or-digit-requires Inv-loop μ-loop
-is-letter-or-digit-requires c κs = search steps
-
-returns-3 : tie.Need-returns-3 Inv-loop μ-loop
-returns-3 c = search steps
-
-add-i : tie.Need-add-i Inv-loop μ-loop
-add-i c = search steps
-
-loop-less : tie.Need-loop-less Inv-loop μ-loop
-loop-less c = search steps
-
-loop-again : tie.Need-loop-again Inv-loop μ-loop
-loop-again c = search steps
-
-returns-4 : tie.Need-returns-4 Inv-loop μ-loop
-returns-4 c = search steps
-
-shared-slice-read-is-letter-or-digit : tie.Need-shared-slice-read-is-letter-or-digit Inv-loop μ-loop
-shared-slice-read-is-letter-or-digit c = search steps
-
 pub is-identifier-spec : {M : Type 1} → statement M
 is-identifier-spec =
     tie.close
     (tie.spec
     Inv-loop
     μ-loop
-    returns
-    shared-slice-read-is-letter
-    is-letter-requires
-    returns-2
-    loop-holds
-    shared-slice-read-is-letter-or-digit
-    is-letter-or-digit-requires
-    returns-3
-    add-i
-    loop-less
-    loop-again
-    returns-4)
+    (λ c. search steps)
+    (λ c. search steps)
+    (λ c κs. search steps)
+    (λ c. search steps)
+    (λ c. search steps)
+    (λ c. search steps)
+    (λ c κs. search steps)
+    (λ c. search steps)
+    (λ c. search steps)
+    (λ c. search steps)
+    (λ c. search steps)
+    (λ c. search steps))

@@ -24,21 +24,5 @@ module _ (b : ℕ) (p : Bool) (up : p ≡ between 65 90 b) where
 
 ruleset steps = (needs, upper, lower, other)
 
-in-range-requires : tie.Need-in-range-requires
-in-range-requires c κs = search steps
-
-returns : tie.Need-returns
-returns c = search steps
-
-in-range-requires-2 : tie.Need-in-range-requires-2
-in-range-requires-2 c κs = search steps
-
-returns-2 : tie.Need-returns-2
-returns-2 c = search steps
-
-returns-3 : tie.Need-returns-3
-returns-3 c = search steps
-
 pub is-letter-spec : {M : Type 1} → statement M
-is-letter-spec =
-    tie.close (tie.spec in-range-requires returns in-range-requires-2 returns-2 returns-3)
+is-letter-spec = tie.close (tie.spec (λ c κs. search steps) (λ c. search steps) (λ c κs. search steps) (λ c. search steps) (λ c. search steps))

@@ -18,18 +18,5 @@ module _ (b : ℕ) (p : Bool) (is : p ≡ letter b) where
 
 ruleset steps = (needs, letters, digits)
 
-is-letter-requires : tie.Need-is-letter-requires
-is-letter-requires c κs = search steps
-
-in-range-requires : tie.Need-in-range-requires
-in-range-requires c κs = search steps
-
-returns : tie.Need-returns
-returns c = search steps
-
-returns-2 : tie.Need-returns-2
-returns-2 c = search steps
-
 pub is-letter-or-digit-spec : {M : Type 1} → statement M
-is-letter-or-digit-spec =
-    tie.close (tie.spec is-letter-requires in-range-requires returns returns-2)
+is-letter-or-digit-spec = tie.close (tie.spec (λ c κs. search steps) (λ c κs. search steps) (λ c. search steps) (λ c. search steps))

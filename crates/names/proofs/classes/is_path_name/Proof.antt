@@ -28,41 +28,17 @@ Inv-loop s place₀ i₀ place i = (i ≤ length s) × (pathFrom place (drop i s
 abbrev μ-loop : tie.MeasureT-loop
 μ-loop s place₀ i₀ place i = length s - i
 
-loop-holds : tie.Need-loop-holds Inv-loop μ-loop
-loop-holds c = search steps
-
-shared-slice-read-past : tie.Need-shared-slice-read-past Inv-loop μ-loop
-shared-slice-read-past c = search steps
-
-past-requires : tie.Need-past-requires Inv-loop μ-loop
-past-requires c κs = search steps
-
-add-i : tie.Need-add-i Inv-loop μ-loop
-add-i c = search steps
-
-loop-less : tie.Need-loop-less Inv-loop μ-loop
-loop-less c = search steps
-
-loop-again : tie.Need-loop-again Inv-loop μ-loop
-loop-again c = search steps
-
-may-end-requires : tie.Need-may-end-requires Inv-loop μ-loop
-may-end-requires c κs = search steps
-
-returns : tie.Need-returns Inv-loop μ-loop
-returns c = search steps
-
 pub is-path-name-spec : {M : Type 1} → statement M
 is-path-name-spec =
     tie.close
     (tie.spec
     Inv-loop
     μ-loop
-    loop-holds
-    shared-slice-read-past
-    past-requires
-    add-i
-    loop-less
-    loop-again
-    may-end-requires
-    returns)
+    (λ c. search steps)
+    (λ c. search steps)
+    (λ c κs. search steps)
+    (λ c. search steps)
+    (λ c. search steps)
+    (λ c. search steps)
+    (λ c κs. search steps)
+    (λ c. search steps))

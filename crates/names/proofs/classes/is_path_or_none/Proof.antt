@@ -22,14 +22,5 @@ named (b ∷ w) e r h = h
 
 ruleset steps = (needs, none, named)
 
-returns : tie.Need-returns
-returns c = search steps
-
-is-path-name-requires : tie.Need-is-path-name-requires
-is-path-name-requires c κs = search steps
-
-returns-2 : tie.Need-returns-2
-returns-2 c = search steps
-
 pub is-path-or-none-spec : {M : Type 1} → statement M
-is-path-or-none-spec = tie.close (tie.spec returns is-path-name-requires returns-2)
+is-path-or-none-spec = tie.close (tie.spec (λ c. search steps) (λ c κs. search steps) (λ c. search steps))

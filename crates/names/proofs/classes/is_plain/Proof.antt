@@ -34,41 +34,17 @@ Inv-loop s i₀ i = (i ≤ length s) × (plain (drop i s) ≡ plain s)
 abbrev μ-loop : tie.MeasureT-loop
 μ-loop s i₀ i = length s - i
 
-loop-holds : tie.Need-loop-holds Inv-loop μ-loop
-loop-holds c = search steps
-
-shared-slice-read-is-plain-byte : tie.Need-shared-slice-read-is-plain-byte Inv-loop μ-loop
-shared-slice-read-is-plain-byte c = search steps
-
-is-plain-byte-requires : tie.Need-is-plain-byte-requires Inv-loop μ-loop
-is-plain-byte-requires c κs = search steps
-
-returns : tie.Need-returns Inv-loop μ-loop
-returns c = search steps
-
-add-i : tie.Need-add-i Inv-loop μ-loop
-add-i c = search steps
-
-loop-less : tie.Need-loop-less Inv-loop μ-loop
-loop-less c = search steps
-
-loop-again : tie.Need-loop-again Inv-loop μ-loop
-loop-again c = search steps
-
-returns-2 : tie.Need-returns-2 Inv-loop μ-loop
-returns-2 c = search steps
-
 pub is-plain-spec : {M : Type 1} → statement M
 is-plain-spec =
     tie.close
     (tie.spec
     Inv-loop
     μ-loop
-    loop-holds
-    shared-slice-read-is-plain-byte
-    is-plain-byte-requires
-    returns
-    add-i
-    loop-less
-    loop-again
-    returns-2)
+    (λ c. search steps)
+    (λ c. search steps)
+    (λ c κs. search steps)
+    (λ c. search steps)
+    (λ c. search steps)
+    (λ c. search steps)
+    (λ c. search steps)
+    (λ c. search steps))

@@ -39,23 +39,5 @@ module _ (b : ℕ) where
 
 ruleset steps = (needs, low, high, double, single, back, other)
 
-returns : tie.Need-returns
-returns c = search steps
-
-returns-2 : tie.Need-returns-2
-returns-2 c = search steps
-
-returns-3 : tie.Need-returns-3
-returns-3 c = search steps
-
-returns-4 : tie.Need-returns-4
-returns-4 c = search steps
-
-returns-5 : tie.Need-returns-5
-returns-5 c = search steps
-
-returns-6 : tie.Need-returns-6
-returns-6 c = search steps
-
 pub is-plain-byte-spec : {M : Type 1} → statement M
-is-plain-byte-spec = tie.close (tie.spec returns returns-2 returns-3 returns-4 returns-5 returns-6)
+is-plain-byte-spec = tie.close (tie.spec (λ c. search steps) (λ c. search steps) (λ c. search steps) (λ c. search steps) (λ c. search steps) (λ c. search steps))

@@ -25,31 +25,15 @@ module _ (p : Place) where
 
 ruleset steps = (needs, inside, start, colon)
 
-enum-told : tie.Need-enum-told
-enum-told c = search steps
-
-enum-told-2 : tie.Need-enum-told-2
-enum-told-2 c = search steps
-
-enum-told-3 : tie.Need-enum-told-3
-enum-told-3 c = search steps
-
-enum-told-4 : tie.Need-enum-told-4
-enum-told-4 c = search steps
-
-returns : tie.Need-returns
-returns c = search steps
-
-returns-2 : tie.Need-returns-2
-returns-2 c = search steps
-
-returns-3 : tie.Need-returns-3
-returns-3 c = search steps
-
-returns-4 : tie.Need-returns-4
-returns-4 c = search steps
-
 pub may-end-spec : {M : Type 1} → statement M
 may-end-spec =
     tie.close
-    (tie.spec enum-told enum-told-2 enum-told-3 enum-told-4 returns returns-2 returns-3 returns-4)
+    (tie.spec
+    (λ c. search steps)
+    (λ c. search steps)
+    (λ c. search steps)
+    (λ c. search steps)
+    (λ c. search steps)
+    (λ c. search steps)
+    (λ c. search steps)
+    (λ c. search steps))

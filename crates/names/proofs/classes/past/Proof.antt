@@ -55,63 +55,21 @@ module _ (p : Place) (b : ℕ) where
 
 ruleset steps = (needs, letter-in, letter-out, colon, more, no-more, second, no-second, nowhere)
 
-enum-told : tie.Need-enum-told
-enum-told c = search steps
-
-is-letter-requires : tie.Need-is-letter-requires
-is-letter-requires c κs = search steps
-
-enum-told-2 : tie.Need-enum-told-2
-enum-told-2 c = search steps
-
-is-letter-or-digit-requires : tie.Need-is-letter-or-digit-requires
-is-letter-or-digit-requires c κs = search steps
-
-enum-told-3 : tie.Need-enum-told-3
-enum-told-3 c = search steps
-
-enum-told-4 : tie.Need-enum-told-4
-enum-told-4 c = search steps
-
-returns : tie.Need-returns
-returns c = search steps
-
-returns-2 : tie.Need-returns-2
-returns-2 c = search steps
-
-returns-3 : tie.Need-returns-3
-returns-3 c = search steps
-
-returns-4 : tie.Need-returns-4
-returns-4 c = search steps
-
-returns-5 : tie.Need-returns-5
-returns-5 c = search steps
-
-returns-6 : tie.Need-returns-6
-returns-6 c = search steps
-
-returns-7 : tie.Need-returns-7
-returns-7 c = search steps
-
-returns-8 : tie.Need-returns-8
-returns-8 c = search steps
-
 pub past-spec : {M : Type 1} → statement M
 past-spec =
     tie.close
     (tie.spec
-    enum-told
-    is-letter-requires
-    enum-told-2
-    is-letter-or-digit-requires
-    enum-told-3
-    enum-told-4
-    returns
-    returns-2
-    returns-3
-    returns-4
-    returns-5
-    returns-6
-    returns-7
-    returns-8)
+    (λ c. search steps)
+    (λ c κs. search steps)
+    (λ c. search steps)
+    (λ c κs. search steps)
+    (λ c. search steps)
+    (λ c. search steps)
+    (λ c. search steps)
+    (λ c. search steps)
+    (λ c. search steps)
+    (λ c. search steps)
+    (λ c. search steps)
+    (λ c. search steps)
+    (λ c. search steps)
+    (λ c. search steps))

@@ -25,55 +25,19 @@ module _ (s : List ℕ) (at n : ℕ) where
 
 ruleset steps = (needs, past-end, to-end, inside)
 
-slice-aggregate-result : tie.Need-slice-aggregate-result
-slice-aggregate-result c = search steps
-
-returns : tie.Need-returns
-returns c = search steps
-
-sub-if2 : tie.Need-sub-if2
-sub-if2 c = search steps
-
-sub-result : tie.Need-sub-result
-sub-result c = search steps
-
-part-result-start : tie.Need-part-result-start
-part-result-start c = search steps
-
-part-result-end : tie.Need-part-result-end
-part-result-end c = search steps
-
-returns-2 : tie.Need-returns-2
-returns-2 c = search steps
-
-add-end : tie.Need-add-end
-add-end c = search steps
-
-sub-result-2 : tie.Need-sub-result-2
-sub-result-2 c = search steps
-
-part-result-start-2 : tie.Need-part-result-start-2
-part-result-start-2 c = search steps
-
-part-result-end-2 : tie.Need-part-result-end-2
-part-result-end-2 c = search steps
-
-returns-3 : tie.Need-returns-3
-returns-3 c = search steps
-
 pub part-of-spec : {M : Type 1} → statement M
 part-of-spec =
     tie.close
     (tie.spec
-    slice-aggregate-result
-    returns
-    sub-if2
-    sub-result
-    part-result-start
-    part-result-end
-    returns-2
-    add-end
-    sub-result-2
-    part-result-start-2
-    part-result-end-2
-    returns-3)
+    (λ c. search steps)
+    (λ c. search steps)
+    (λ c. search steps)
+    (λ c. search steps)
+    (λ c. search steps)
+    (λ c. search steps)
+    (λ c. search steps)
+    (λ c. search steps)
+    (λ c. search steps)
+    (λ c. search steps)
+    (λ c. search steps)
+    (λ c. search steps))

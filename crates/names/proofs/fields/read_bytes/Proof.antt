@@ -28,20 +28,5 @@ module _ (s : List ℕ) (at n : ℕ) where
 
 ruleset steps = (needs, past-end, too-short, there)
 
-returns : tie.Need-returns
-returns c = search steps
-
-sub-if2 : tie.Need-sub-if2
-sub-if2 c = search steps
-
-returns-2 : tie.Need-returns-2
-returns-2 c = search steps
-
-add-t4 : tie.Need-add-t4
-add-t4 c = search steps
-
-returns-3 : tie.Need-returns-3
-returns-3 c = search steps
-
 pub read-bytes-spec : {M : Type 1} → statement M
-read-bytes-spec = tie.close (tie.spec returns sub-if2 returns-2 add-t4 returns-3)
+read-bytes-spec = tie.close (tie.spec (λ c. search steps) (λ c. search steps) (λ c. search steps) (λ c. search steps) (λ c. search steps))

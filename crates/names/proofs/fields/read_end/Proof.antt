@@ -6,11 +6,5 @@ use Rattle.names.proofs.fields.read_end.Tie as tie
 
 ruleset steps = (needs, finished-here, finished-not)
 
-returns : tie.Need-returns
-returns c = search steps
-
-returns-2 : tie.Need-returns-2
-returns-2 c = search steps
-
 pub read-end-spec : {M : Type 1} → statement M
-read-end-spec = tie.close (tie.spec returns returns-2)
+read-end-spec = tie.close (tie.spec (λ c. search steps) (λ c. search steps))

@@ -56,55 +56,19 @@ module _ (s mark : List ℕ) (newest : ℕ) where
 
 ruleset steps = (needs, too-short, other-mark, no-version, no-number, known, newer)
 
-returns : tie.Need-returns
-returns c = search steps
-
-slice-aggregate-same : tie.Need-slice-aggregate-same
-slice-aggregate-same c = search (steps, length-take-le)
-
-same-requires : tie.Need-same-requires
-same-requires c κs = search steps
-
-read-u16-requires : tie.Need-read-u16-requires
-read-u16-requires c κs = search steps
-
-enum-known-version : tie.Need-enum-known-version
-enum-known-version c = search steps
-
-enum-told : tie.Need-enum-told
-enum-told c = search steps
-
-returns-2 : tie.Need-returns-2
-returns-2 c = search steps
-
-u16-at-requires : tie.Need-u16-at-requires
-u16-at-requires c κs = search steps
-
-returns-3 : tie.Need-returns-3
-returns-3 c = search steps
-
-returns-4 : tie.Need-returns-4
-returns-4 c = search steps
-
-returns-5 : tie.Need-returns-5
-returns-5 c = search steps
-
-returns-6 : tie.Need-returns-6
-returns-6 c = search steps
-
 pub read-heading-spec : {M : Type 1} → statement M
 read-heading-spec =
     tie.close
     (tie.spec
-    returns
-    slice-aggregate-same
-    same-requires
-    read-u16-requires
-    enum-known-version
-    enum-told
-    returns-2
-    u16-at-requires
-    returns-3
-    returns-4
-    returns-5
-    returns-6)
+    (λ c. search steps)
+    (λ c. search (steps, length-take-le))
+    (λ c κs. search steps)
+    (λ c κs. search steps)
+    (λ c. search steps)
+    (λ c. search steps)
+    (λ c. search steps)
+    (λ c κs. search steps)
+    (λ c. search steps)
+    (λ c. search steps)
+    (λ c. search steps)
+    (λ c. search steps))

@@ -18,11 +18,5 @@ strings s at x e = e
 
 ruleset steps = (needs, strings)
 
-read-strings-requires : tie.Need-read-strings-requires
-read-strings-requires c κs = search steps
-
-returns : tie.Need-returns
-returns c = search steps
-
 pub read-path-spec : {M : Type 1} → statement M
-read-path-spec = tie.close (tie.spec read-strings-requires returns)
+read-path-spec = tie.close (tie.spec (λ c κs. search steps) (λ c. search steps))

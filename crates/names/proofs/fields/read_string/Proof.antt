@@ -40,59 +40,20 @@ module _ (k : Class) (s : List ℕ) (at : ℕ) where
 
 ruleset steps = (needs, no-length, too-short, arrived, outside)
 
-returns : tie.Need-returns
-returns c = search steps
-
-shared-slice-read-wide : tie.Need-shared-slice-read-wide
-shared-slice-read-wide c = search steps
-
-wide-requires : tie.Need-wide-requires
-wide-requires c κs = search steps
-
-add-b : tie.Need-add-b
-add-b c = search steps
-
-sub-if2 : tie.Need-sub-if2
-sub-if2 c = search steps
-
-returns-2 : tie.Need-returns-2
-returns-2 c = search steps
-
-add-e : tie.Need-add-e
-add-e c = search steps
-
-sub-in-class : tie.Need-sub-in-class
-sub-in-class c = search steps
-
-part-in-class-start : tie.Need-part-in-class-start
-part-in-class-start c = search steps
-
-part-in-class-end : tie.Need-part-in-class-end
-part-in-class-end c = search steps
-
-in-class-requires : tie.Need-in-class-requires
-in-class-requires c κs = search steps
-
-returns-3 : tie.Need-returns-3
-returns-3 c = search steps
-
-returns-4 : tie.Need-returns-4
-returns-4 c = search steps
-
 pub read-string-spec : {M : Type 1} → statement M
 read-string-spec =
     tie.close
     (tie.spec
-    returns
-    shared-slice-read-wide
-    wide-requires
-    add-b
-    sub-if2
-    returns-2
-    add-e
-    sub-in-class
-    part-in-class-start
-    part-in-class-end
-    in-class-requires
-    returns-3
-    returns-4)
+    (λ c. search steps)
+    (λ c. search steps)
+    (λ c κs. search steps)
+    (λ c. search steps)
+    (λ c. search steps)
+    (λ c. search steps)
+    (λ c. search steps)
+    (λ c. search steps)
+    (λ c. search steps)
+    (λ c. search steps)
+    (λ c κs. search steps)
+    (λ c. search steps)
+    (λ c. search steps))

@@ -16,11 +16,5 @@ number-read s at x e = e ∙ last _ _
 
 ruleset steps = (needs, number-read)
 
-read-bytes-requires : tie.Need-read-bytes-requires
-read-bytes-requires c κs = search steps
-
-returns : tie.Need-returns
-returns c = search steps
-
 pub read-u16-spec : {M : Type 1} → statement M
-read-u16-spec = tie.close (tie.spec read-bytes-requires returns)
+read-u16-spec = tie.close (tie.spec (λ c κs. search steps) (λ c. search steps))

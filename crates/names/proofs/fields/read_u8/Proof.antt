@@ -22,14 +22,5 @@ module _ (s : List ℕ) (at : ℕ) where
 
 ruleset steps = (needs, at-end, there)
 
-returns : tie.Need-returns
-returns c = search steps
-
-add-t3 : tie.Need-add-t3
-add-t3 c = search steps
-
-returns-2 : tie.Need-returns-2
-returns-2 c = search steps
-
 pub read-u8-spec : {M : Type 1} → statement M
-read-u8-spec = tie.close (tie.spec returns add-t3 returns-2)
+read-u8-spec = tie.close (tie.spec (λ c. search steps) (λ c. search steps) (λ c. search steps))

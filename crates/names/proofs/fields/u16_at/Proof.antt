@@ -27,43 +27,16 @@ module _ (s : List ℕ) (at : ℕ) where
 
 ruleset steps = (needs, none, one, two)
 
-returns : tie.Need-returns
-returns c = search steps
-
-shared-slice-read-wide : tie.Need-shared-slice-read-wide
-shared-slice-read-wide c = search steps
-
-wide-requires : tie.Need-wide-requires
-wide-requires c κs = search steps
-
-add-next : tie.Need-add-next
-add-next c = search steps
-
-returns-2 : tie.Need-returns-2
-returns-2 c = search steps
-
-shared-slice-read-wide-2 : tie.Need-shared-slice-read-wide-2
-shared-slice-read-wide-2 c = search steps
-
-wide-requires-2 : tie.Need-wide-requires-2
-wide-requires-2 c κs = search steps
-
-pair-requires : tie.Need-pair-requires
-pair-requires c κs = search steps
-
-returns-3 : tie.Need-returns-3
-returns-3 c = search steps
-
 pub u16-at-spec : {M : Type 1} → statement M
 u16-at-spec =
     tie.close
     (tie.spec
-    returns
-    shared-slice-read-wide
-    wide-requires
-    add-next
-    returns-2
-    shared-slice-read-wide-2
-    wide-requires-2
-    pair-requires
-    returns-3)
+    (λ c. search steps)
+    (λ c. search steps)
+    (λ c κs. search steps)
+    (λ c. search steps)
+    (λ c. search steps)
+    (λ c. search steps)
+    (λ c κs. search steps)
+    (λ c κs. search steps)
+    (λ c. search steps))

@@ -27,35 +27,5 @@ short n small l p is = rw is (simp length-take (omega (arith, min-le-left n (len
 
 ruleset steps = (needs, no-length, whole, no-bytes, short)
 
-slice-aggregate-result : tie.Need-slice-aggregate-result
-slice-aggregate-result c = search steps
-
-returns : tie.Need-returns
-returns c = search steps
-
-shared-slice-read-wide : tie.Need-shared-slice-read-wide
-shared-slice-read-wide c = search steps
-
-wide-requires : tie.Need-wide-requires
-wide-requires c κs = search steps
-
-add-part-of : tie.Need-add-part-of
-add-part-of c = search steps
-
-part-of-requires : tie.Need-part-of-requires
-part-of-requires c κs = search steps
-
-returns-2 : tie.Need-returns-2
-returns-2 c = search steps
-
 pub word-spec : {M : Type 1} → statement M
-word-spec =
-    tie.close
-    (tie.spec
-    slice-aggregate-result
-    returns
-    shared-slice-read-wide
-    wide-requires
-    add-part-of
-    part-of-requires
-    returns-2)
+word-spec = tie.close (tie.spec (λ c. search steps) (λ c. search steps) (λ c. search steps) (λ c κs. search steps) (λ c. search steps) (λ c κs. search steps) (λ c. search steps))

@@ -27,51 +27,18 @@ module _ (s : List ℕ) (at : ℕ) where
 
 ruleset steps = (needs, no-length, too-short, there)
 
-slice-aggregate-result : tie.Need-slice-aggregate-result
-slice-aggregate-result c = search steps
-
-returns : tie.Need-returns
-returns c = search steps
-
-shared-slice-read-wide : tie.Need-shared-slice-read-wide
-shared-slice-read-wide c = search steps
-
-wide-requires : tie.Need-wide-requires
-wide-requires c κs = search steps
-
-add-b : tie.Need-add-b
-add-b c = search steps
-
-sub-if2 : tie.Need-sub-if2
-sub-if2 c = search steps
-
-slice-aggregate-result-2 : tie.Need-slice-aggregate-result-2
-slice-aggregate-result-2 c = search steps
-
-returns-2 : tie.Need-returns-2
-returns-2 c = search steps
-
-add-word : tie.Need-add-word
-add-word c = search steps
-
-word-requires : tie.Need-word-requires
-word-requires c κs = search steps
-
-returns-3 : tie.Need-returns-3
-returns-3 c = search steps
-
 pub word-after-spec : {M : Type 1} → statement M
 word-after-spec =
     tie.close
     (tie.spec
-    slice-aggregate-result
-    returns
-    shared-slice-read-wide
-    wide-requires
-    add-b
-    sub-if2
-    slice-aggregate-result-2
-    returns-2
-    add-word
-    word-requires
-    returns-3)
+    (λ c. search steps)
+    (λ c. search steps)
+    (λ c. search steps)
+    (λ c κs. search steps)
+    (λ c. search steps)
+    (λ c. search steps)
+    (λ c. search steps)
+    (λ c. search steps)
+    (λ c. search steps)
+    (λ c κs. search steps)
+    (λ c. search steps))

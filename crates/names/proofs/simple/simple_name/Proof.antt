@@ -17,21 +17,5 @@ from-start s r e =
 
 ruleset steps = (needs, from-start)
 
-simple-start-requires : tie.Need-simple-start-requires
-simple-start-requires c κs = search steps
-
-sub-result : tie.Need-sub-result
-sub-result c = search steps
-
-part-result-start : tie.Need-part-result-start
-part-result-start c = search steps
-
-part-result-end : tie.Need-part-result-end
-part-result-end c = search steps
-
-returns : tie.Need-returns
-returns c = search steps
-
 pub simple-name-spec : {M : Type 1} → statement M
-simple-name-spec =
-    tie.close (tie.spec simple-start-requires sub-result part-result-start part-result-end returns)
+simple-name-spec = tie.close (tie.spec (λ c κs. search steps) (λ c. search steps) (λ c. search steps) (λ c. search steps) (λ c. search steps))

@@ -51,61 +51,22 @@ Inv-loop s start₀ i₀ start i = (i ≤ length s) × (start ≤ length s) × (
 abbrev μ-loop : tie.MeasureT-loop
 μ-loop s start₀ i₀ start i = length s - i
 
-loop-holds : tie.Need-loop-holds Inv-loop μ-loop
-loop-holds c = search steps
-
-add-next : tie.Need-add-next Inv-loop μ-loop
-add-next c = search steps
-
-returns : tie.Need-returns Inv-loop μ-loop
-returns c = search steps
-
-shared-slice-read-if2 : tie.Need-shared-slice-read-if2 Inv-loop μ-loop
-shared-slice-read-if2 c = search steps
-
-loop-less : tie.Need-loop-less Inv-loop μ-loop
-loop-less c = search steps
-
-loop-again : tie.Need-loop-again Inv-loop μ-loop
-loop-again c = search steps
-
-shared-slice-read-if3 : tie.Need-shared-slice-read-if3 Inv-loop μ-loop
-shared-slice-read-if3 c = search steps
-
-loop-less-2 : tie.Need-loop-less-2 Inv-loop μ-loop
-loop-less-2 c = search steps
-
-loop-again-2 : tie.Need-loop-again-2 Inv-loop μ-loop
-loop-again-2 c = search steps
-
-add-start : tie.Need-add-start Inv-loop μ-loop
-add-start c = search steps
-
-loop-less-3 : tie.Need-loop-less-3 Inv-loop μ-loop
-loop-less-3 c = search steps
-
-loop-again-3 : tie.Need-loop-again-3 Inv-loop μ-loop
-loop-again-3 c = search steps
-
-returns-2 : tie.Need-returns-2 Inv-loop μ-loop
-returns-2 c = search steps
-
 pub simple-start-spec : {M : Type 1} → statement M
 simple-start-spec =
     tie.close
     (tie.spec
     Inv-loop
     μ-loop
-    loop-holds
-    add-next
-    returns
-    shared-slice-read-if2
-    loop-less
-    loop-again
-    shared-slice-read-if3
-    loop-less-2
-    loop-again-2
-    add-start
-    loop-less-3
-    loop-again-3
-    returns-2)
+    (λ c. search steps)
+    (λ c. search steps)
+    (λ c. search steps)
+    (λ c. search steps)
+    (λ c. search steps)
+    (λ c. search steps)
+    (λ c. search steps)
+    (λ c. search steps)
+    (λ c. search steps)
+    (λ c. search steps)
+    (λ c. search steps)
+    (λ c. search steps)
+    (λ c. search steps))

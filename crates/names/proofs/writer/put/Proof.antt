@@ -36,35 +36,19 @@ Inv-loop buf₀ at bytes i₀ buf i = (i ≤ length bytes) × (buf ≡ paste buf
 abbrev μ-loop : tie.MeasureT-loop
 μ-loop buf₀ at bytes i₀ buf i = length bytes - i
 
-loop-holds : tie.Need-loop-holds Inv-loop μ-loop
-loop-holds c = search steps
-
-shared-slice-read-buf : tie.Need-shared-slice-read-buf Inv-loop μ-loop
-shared-slice-read-buf c = search steps
-
-add-buf : tie.Need-add-buf Inv-loop μ-loop
-add-buf c = search steps
-
-slice-write-buf : tie.Need-slice-write-buf Inv-loop μ-loop
-slice-write-buf c = search steps
-
-add-i : tie.Need-add-i Inv-loop μ-loop
-add-i c = search steps
-
-loop-less : tie.Need-loop-less Inv-loop μ-loop
-loop-less c = search steps
-
-loop-again : tie.Need-loop-again Inv-loop μ-loop
-loop-again c = search steps
-
-add-result : tie.Need-add-result Inv-loop μ-loop
-add-result c = search steps
-
-same-length : tie.Need-same-length Inv-loop μ-loop
-same-length c = search steps
-
-returns : tie.Need-returns Inv-loop μ-loop
-returns c = search steps
-
 pub put-spec : {M : Type 1} → statement M
-put-spec = tie.close (tie.spec Inv-loop μ-loop loop-holds shared-slice-read-buf add-buf slice-write-buf add-i loop-less loop-again add-result same-length returns)
+put-spec =
+    tie.close
+    (tie.spec
+    Inv-loop
+    μ-loop
+    (λ c. search steps)
+    (λ c. search steps)
+    (λ c. search steps)
+    (λ c. search steps)
+    (λ c. search steps)
+    (λ c. search steps)
+    (λ c. search steps)
+    (λ c. search steps)
+    (λ c. search steps)
+    (λ c. search steps))

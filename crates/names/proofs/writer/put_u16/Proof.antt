@@ -11,27 +11,6 @@ use borrow.Author.Needs.{needs}
 use Rattle.names.proofs.writer.put_u16.Statement.{statement}
 use Rattle.names.proofs.writer.put_u16.Tie as tie
 
-cast-buf : tie.Need-cast-buf
-cast-buf c = search needs
-
-slice-write-buf : tie.Need-slice-write-buf
-slice-write-buf c = search needs
-
-cast-buf-2 : tie.Need-cast-buf-2
-cast-buf-2 c = search needs
-
-add-buf : tie.Need-add-buf
-add-buf c = search needs
-
-slice-write-buf-2 : tie.Need-slice-write-buf-2
-slice-write-buf-2 c = simp length-set (omega arith)
-
-add-result : tie.Need-add-result
-add-result c = search needs
-
-same-length : tie.Need-same-length
-same-length c = search needs
-
 returns : tie.Need-returns
 unfolding digits store
 returns c =
@@ -39,4 +18,14 @@ returns c =
     record { room = omega arith; next = refl; bytes = rw add-one (sets-eq (digits 2 (a .n)) (now (a .buf)) (a .at) (omega arith)) }
 
 pub put-u16-spec : {M : Type 1} → statement M
-put-u16-spec = tie.close (tie.spec cast-buf slice-write-buf cast-buf-2 add-buf slice-write-buf-2 add-result same-length returns)
+put-u16-spec =
+    tie.close
+    (tie.spec
+    (λ c. search needs)
+    (λ c. search needs)
+    (λ c. search needs)
+    (λ c. search needs)
+    (λ c. simp length-set (omega arith))
+    (λ c. search needs)
+    (λ c. search needs)
+    returns)

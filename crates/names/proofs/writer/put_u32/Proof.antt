@@ -11,45 +11,6 @@ use borrow.Author.Needs.{needs}
 use Rattle.names.proofs.writer.put_u32.Statement.{statement}
 use Rattle.names.proofs.writer.put_u32.Tie as tie
 
-cast-buf : tie.Need-cast-buf
-cast-buf c = search needs
-
-slice-write-buf : tie.Need-slice-write-buf
-slice-write-buf c = search needs
-
-cast-buf-2 : tie.Need-cast-buf-2
-cast-buf-2 c = search needs
-
-add-buf : tie.Need-add-buf
-add-buf c = search needs
-
-slice-write-buf-2 : tie.Need-slice-write-buf-2
-slice-write-buf-2 c = simp length-set (omega arith)
-
-cast-buf-3 : tie.Need-cast-buf-3
-cast-buf-3 c = search needs
-
-add-buf-2 : tie.Need-add-buf-2
-add-buf-2 c = search needs
-
-slice-write-buf-3 : tie.Need-slice-write-buf-3
-slice-write-buf-3 c = simp length-set (omega arith)
-
-cast-buf-4 : tie.Need-cast-buf-4
-cast-buf-4 c = search needs
-
-add-buf-3 : tie.Need-add-buf-3
-add-buf-3 c = search needs
-
-slice-write-buf-4 : tie.Need-slice-write-buf-4
-slice-write-buf-4 c = simp length-set (omega arith)
-
-add-result : tie.Need-add-result
-add-result c = search needs
-
-same-length : tie.Need-same-length
-same-length c = search needs
-
 returns : tie.Need-returns
 unfolding digits store
 returns c =
@@ -57,4 +18,20 @@ returns c =
     record { room = omega arith; next = refl; bytes = rw (add-one, add-two, add-three) (sets-eq (digits 4 (a .n)) (now (a .buf)) (a .at) (omega arith)) }
 
 pub put-u32-spec : {M : Type 1} → statement M
-put-u32-spec = tie.close (tie.spec cast-buf slice-write-buf cast-buf-2 add-buf slice-write-buf-2 cast-buf-3 add-buf-2 slice-write-buf-3 cast-buf-4 add-buf-3 slice-write-buf-4 add-result same-length returns)
+put-u32-spec =
+    tie.close
+    (tie.spec
+    (λ c. search needs)
+    (λ c. search needs)
+    (λ c. search needs)
+    (λ c. search needs)
+    (λ c. simp length-set (omega arith))
+    (λ c. search needs)
+    (λ c. search needs)
+    (λ c. simp length-set (omega arith))
+    (λ c. search needs)
+    (λ c. search needs)
+    (λ c. simp length-set (omega arith))
+    (λ c. search needs)
+    (λ c. search needs)
+    returns)

@@ -16,4 +16,20 @@ pub next-aggregate-spec : {M : Type 1} → statement M
 next-aggregate-spec =
     tie.close
     (tie.spec
-    Inv-loop μ-loop (λ c. search along-terms) (λ c κs. search along-terms) (λ c κs. search along-terms) (λ c κs. search along-terms) (λ c. search along-terms) (λ c. search along-terms) (λ c. search along-terms) (λ c. search along-terms) (λ c. search along-terms) (λ c. search along-terms) (λ c κs. search along-terms) (λ c. search along-terms) (λ c. search along-terms) (λ c. search along-terms) (λ c. search along-terms))
+    Inv-loop
+    μ-loop
+    (λ c. search along-terms)
+    (λ c κs. search along-terms)
+    (λ c κs. search along-terms)
+    (λ c κs. search along-terms)
+    (λ c. search along-terms)
+    (λ c. search along-terms)
+    (λ c. search along-terms)
+    (λ c. search along-terms)
+    (λ c. search along-terms)
+    (λ c. search along-terms)
+    (λ c κs. search along-terms)
+    (λ c. search along-terms)
+    (λ c. search along-terms)
+    (λ c. search along-terms)
+    (λ c. search along-terms))

@@ -7,4 +7,11 @@ use Rattle.nodes.proofs.offsets.first_part.Statement.{statement}
 use Rattle.nodes.proofs.offsets.first_part.Tie as tie
 
 pub first-part-spec : {M : Type 1} → statement M
-first-part-spec = tie.close (tie.spec (λ c. search inside-room) (λ c. omega (arith, condition-room _ _ (c .before .before .pre))) (λ c. search inside-room) (λ c. omega (arith, condition-room _ _ (c .before .before .pre))) (λ c. search inside-room))
+first-part-spec =
+    tie.close
+    (tie.spec
+    (λ c. search inside-room)
+    (λ c. omega (arith, condition-room _ _ (c .before .before .pre)))
+    (λ c. search inside-room)
+    (λ c. omega (arith, condition-room _ _ (c .before .before .pre)))
+    (λ c. search inside-room))

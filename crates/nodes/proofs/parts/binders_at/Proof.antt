@@ -4,7 +4,4 @@ use Rattle.nodes.proofs.parts.binders_at.Statement.{statement}
 use Rattle.nodes.proofs.parts.binders_at.Tie as tie
 
 pub binders-at-spec : {M : Type 1} → statement M
-binders-at-spec =
-    tie.close
-    (tie.spec
-    (λ c κs. search pieces) (λ c. search pieces) (λ c κs. search pieces) (λ c. search pieces) (λ c. search pieces) (λ c. search pieces))
+binders-at-spec = tie.close (tie.spec (λ c κs. search pieces) (λ c. search pieces) (λ c κs. search pieces) (λ c. search pieces) (λ c. search pieces) (λ c. search pieces))

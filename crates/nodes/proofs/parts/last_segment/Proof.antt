@@ -15,4 +15,14 @@ pub last-segment-spec : {M : Type 1} → statement M
 last-segment-spec =
     tie.close
     (tie.spec
-    Inv-loop μ-loop (λ c. omega (arith, segments-index _ _ (c .before .pre))) (λ c. search last-of-segments) (λ c κs. search last-of-segments) (λ c. search last-of-segments) (λ c κs. search last-of-segments) (λ c. search last-of-segments) (λ c. search last-of-segments) (λ c. search last-of-segments) (λ c. search last-of-segments))
+    Inv-loop
+    μ-loop
+    (λ c. omega (arith, segments-index _ _ (c .before .pre)))
+    (λ c. search last-of-segments)
+    (λ c κs. search last-of-segments)
+    (λ c. search last-of-segments)
+    (λ c κs. search last-of-segments)
+    (λ c. search last-of-segments)
+    (λ c. search last-of-segments)
+    (λ c. search last-of-segments)
+    (λ c. search last-of-segments))

@@ -16,4 +16,14 @@ pub past-strings-spec : {M : Type 1} → statement M
 past-strings-spec =
     tie.close
     (tie.spec
-    Inv-loop μ-loop (λ c. omega (arith, strings-index _ _ (c .before .pre))) (λ c. search along-strings) (λ c κs. search along-strings) (λ c. search along-strings) (λ c κs. search along-strings) (λ c. search along-strings) (λ c. search along-strings) (λ c. search along-strings) (λ c. search along-strings))
+    Inv-loop
+    μ-loop
+    (λ c. omega (arith, strings-index _ _ (c .before .pre)))
+    (λ c. search along-strings)
+    (λ c κs. search along-strings)
+    (λ c. search along-strings)
+    (λ c κs. search along-strings)
+    (λ c. search along-strings)
+    (λ c. search along-strings)
+    (λ c. search along-strings)
+    (λ c. search along-strings))

@@ -45,53 +45,20 @@ module _ (k : Kind) (s : List ℕ) where
 
 ruleset steps = (needs, start, met, later, sooner)
 
-loop-holds : tie.Need-loop-holds Inv-loop μ-loop
-loop-holds c = search steps
-
-sub-middle : tie.Need-sub-middle Inv-loop μ-loop
-sub-middle c = search steps
-
-add-middle : tie.Need-add-middle Inv-loop μ-loop
-add-middle c = search steps
-
-part-of-requires : tie.Need-part-of-requires Inv-loop μ-loop
-part-of-requires c κs = search steps
-
-number-of-requires : tie.Need-number-of-requires Inv-loop μ-loop
-number-of-requires c κs = search steps
-
-add-low : tie.Need-add-low Inv-loop μ-loop
-add-low c = search steps
-
-loop-less : tie.Need-loop-less Inv-loop μ-loop
-loop-less c = search steps
-
-loop-again : tie.Need-loop-again Inv-loop μ-loop
-loop-again c = search steps
-
-loop-less-2 : tie.Need-loop-less-2 Inv-loop μ-loop
-loop-less-2 c = search steps
-
-loop-again-2 : tie.Need-loop-again-2 Inv-loop μ-loop
-loop-again-2 c = search steps
-
-returns : tie.Need-returns Inv-loop μ-loop
-returns c = search steps
-
 pub place-of-spec : {M : Type 1} → statement M
 place-of-spec =
     tie.close
     (tie.spec
     Inv-loop
     μ-loop
-    loop-holds
-    sub-middle
-    add-middle
-    part-of-requires
-    number-of-requires
-    add-low
-    loop-less
-    loop-again
-    loop-less-2
-    loop-again-2
-    returns)
+    (λ c. search steps)
+    (λ c. search steps)
+    (λ c. search steps)
+    (λ c κs. search steps)
+    (λ c κs. search steps)
+    (λ c. search steps)
+    (λ c. search steps)
+    (λ c. search steps)
+    (λ c. search steps)
+    (λ c. search steps)
+    (λ c. search steps))

@@ -11,14 +11,4 @@ abbrev μ-loop : tie.MeasureT-loop
 μ-loop out count at₀ left₀ at left = left
 
 pub print-reports-spec : {M : Type 1} → statement M
-print-reports-spec =
-    tie.close
-    (tie.spec
-    Inv-loop
-    μ-loop
-    (λ c. search needs)
-    (λ c κs. search needs)
-    (λ c. search needs)
-    (λ c. search needs)
-    (λ c. search needs)
-    (λ c. search needs))
+print-reports-spec = tie.close (tie.spec Inv-loop μ-loop (λ c. search needs) (λ c κs. search needs) (λ c. search needs) (λ c. search needs) (λ c. search needs) (λ c. search needs))

@@ -20,17 +20,5 @@ module _ (n : ℕ) (m s : List ℕ) (is : m ≡ take n (drop 0 s)) where
 
 ruleset steps = (needs, short, pushed)
 
-part-of-requires : tie.Need-part-of-requires
-part-of-requires c κs = search steps
-
-push-report-requires : tie.Need-push-report-requires
-push-report-requires c κs = search steps
-
-same-length : tie.Need-same-length
-same-length c = search steps
-
-returns : tie.Need-returns
-returns c = search steps
-
 pub push-scratch-spec : {M : Type 1} → statement M
-push-scratch-spec = tie.close (tie.spec part-of-requires push-report-requires same-length returns)
+push-scratch-spec = tie.close (tie.spec (λ c κs. search steps) (λ c κs. search steps) (λ c. search steps) (λ c. search steps))

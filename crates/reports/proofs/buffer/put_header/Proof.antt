@@ -26,21 +26,5 @@ module _ (start end long : ℕ) {s s₁ : List ℕ} {at n₁ : ℕ} (h : at + (1
 
 ruleset steps = (needs, end-room, long-room, whole)
 
-put-u32-requires : tie.Need-put-u32-requires
-put-u32-requires c κs = search steps
-
-put-u32-requires-2 : tie.Need-put-u32-requires-2
-put-u32-requires-2 c κs = search steps
-
-put-u16-requires : tie.Need-put-u16-requires
-put-u16-requires c κs = search steps
-
-same-length : tie.Need-same-length
-same-length c = search steps
-
-returns : tie.Need-returns
-returns c = search steps
-
 pub put-header-spec : {M : Type 1} → statement M
-put-header-spec =
-    tie.close (tie.spec put-u32-requires put-u32-requires-2 put-u16-requires same-length returns)
+put-header-spec = tie.close (tie.spec (λ c κs. search steps) (λ c κs. search steps) (λ c κs. search steps) (λ c. search steps) (λ c. search steps))

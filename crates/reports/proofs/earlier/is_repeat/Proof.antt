@@ -33,43 +33,16 @@ module _ (s : List ℕ) (at : ℕ) (b : Breach) (n : ℕ) (starts : n ≡ number
 
 ruleset steps = (needs, other-start, message, other-length)
 
-u32-at-requires : tie.Need-u32-at-requires
-u32-at-requires c κs = search steps
-
-returns : tie.Need-returns
-returns c = search steps
-
-add-u16-at : tie.Need-add-u16-at
-add-u16-at c = search steps
-
-u16-at-requires : tie.Need-u16-at-requires
-u16-at-requires c κs = search steps
-
-returns-2 : tie.Need-returns-2
-returns-2 c = search steps
-
-add-part-of : tie.Need-add-part-of
-add-part-of c = search steps
-
-part-of-requires : tie.Need-part-of-requires
-part-of-requires c κs = search steps
-
-same-requires : tie.Need-same-requires
-same-requires c κs = search steps
-
-returns-3 : tie.Need-returns-3
-returns-3 c = search steps
-
 pub is-repeat-spec : {M : Type 1} → statement M
 is-repeat-spec =
     tie.close
     (tie.spec
-    u32-at-requires
-    returns
-    add-u16-at
-    u16-at-requires
-    returns-2
-    add-part-of
-    part-of-requires
-    same-requires
-    returns-3)
+    (λ c κs. search steps)
+    (λ c. search steps)
+    (λ c. search steps)
+    (λ c κs. search steps)
+    (λ c. search steps)
+    (λ c. search steps)
+    (λ c κs. search steps)
+    (λ c κs. search steps)
+    (λ c. search steps))

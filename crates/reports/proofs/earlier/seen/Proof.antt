@@ -81,53 +81,20 @@ in-fits : (c : tie.In-loop Inv-loop μ-loop)
     → c .before .loop .at + 10 + longAt (now (c .before .before .before .before .args .buf)) (c .before .loop .at) ≤ length (now (c .before .before .before .before .args .buf))
 in-fits c = fits (c .before .loop .inv) (omega arith)
 
-loop-holds : tie.Need-loop-holds Inv-loop μ-loop
-loop-holds c = search steps
-
-is-repeat-requires : tie.Need-is-repeat-requires Inv-loop μ-loop
-is-repeat-requires c κs = in-fits c
-
-returns : tie.Need-returns Inv-loop μ-loop
-returns c = search steps
-
-sub-left : tie.Need-sub-left Inv-loop μ-loop
-sub-left c = search steps
-
-add-at : tie.Need-add-at Inv-loop μ-loop
-add-at c = omega (arith, in-fits (c .before .before))
-
-add-u16-at : tie.Need-add-u16-at Inv-loop μ-loop
-add-u16-at c = search steps
-
-u16-at-requires : tie.Need-u16-at-requires Inv-loop μ-loop
-u16-at-requires c κs = search steps
-
-add-at-2 : tie.Need-add-at-2 Inv-loop μ-loop
-add-at-2 c = omega (arith, in-fits (c .before .before .before))
-
-loop-less : tie.Need-loop-less Inv-loop μ-loop
-loop-less c = search steps
-
-loop-again : tie.Need-loop-again Inv-loop μ-loop
-loop-again c = search steps
-
-returns-2 : tie.Need-returns-2 Inv-loop μ-loop
-returns-2 c = search steps
-
 pub seen-spec : {M : Type 1} → statement M
 seen-spec =
     tie.close
     (tie.spec
     Inv-loop
     μ-loop
-    loop-holds
-    is-repeat-requires
-    returns
-    sub-left
-    add-at
-    add-u16-at
-    u16-at-requires
-    add-at-2
-    loop-less
-    loop-again
-    returns-2)
+    (λ c. search steps)
+    (λ c κs. in-fits c)
+    (λ c. search steps)
+    (λ c. search steps)
+    (λ c. omega (arith, in-fits (c .before .before)))
+    (λ c. search steps)
+    (λ c κs. search steps)
+    (λ c. omega (arith, in-fits (c .before .before .before)))
+    (λ c. search steps)
+    (λ c. search steps)
+    (λ c. search steps))

@@ -30,21 +30,5 @@ module _ (m : Message) (i : ℕ) (inside : i ≤ words m) (n : ℕ) (is : n ≡ 
 
 ruleset steps = (needs, in-table, sum-fits, room, stored)
 
-first-piece-requires : tie.Need-first-piece-requires
-first-piece-requires c κs = search steps
-
-add-put-text : tie.Need-add-put-text
-add-put-text c = search steps
-
-put-text-requires : tie.Need-put-text-requires
-put-text-requires c κs = search steps
-
-same-length : tie.Need-same-length
-same-length c = search steps
-
-returns : tie.Need-returns
-returns c = search steps
-
 pub put-piece-spec : {M : Type 1} → statement M
-put-piece-spec =
-    tie.close (tie.spec first-piece-requires add-put-text put-text-requires same-length returns)
+put-piece-spec = tie.close (tie.spec (λ c κs. search steps) (λ c. search steps) (λ c κs. search steps) (λ c. search steps) (λ c. search steps))

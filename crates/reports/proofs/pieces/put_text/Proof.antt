@@ -24,27 +24,6 @@ at : (n : ℕ) → n < 29 → Entry table starts (λ k. getD pieces k []) n
 unfolding pieces parts gather right rightBelow same text
 at n h = entry table starts (λ k. getD pieces k []) 29 refl n h
 
-mul-from : tie.Need-mul-from
-mul-from c = search needs
-
-array-read-from : tie.Need-array-read-from
-array-read-from c = search needs
-
-add-to : tie.Need-add-to
-add-to c = search needs
-
-mul-to : tie.Need-mul-to
-mul-to c = search needs
-
-array-read-to : tie.Need-array-read-to
-array-read-to c = search needs
-
-sub-put : tie.Need-sub-put
-sub-put c = at (c .before .before .args .n) (c .before .before .pre .0) .start
-
-part-put-start : tie.Need-part-put-start
-part-put-start c = at (c .before .before .before .args .n) (c .before .before .before .pre .0) .start
-
 part-put-end : tie.Need-part-put-end
 unfolding text
 part-put-end c = at (c .before .before .before .args .n) (c .before .before .before .pre .0) .end
@@ -54,9 +33,6 @@ unfolding text
 put-requires c κs =
     let s = c .before .before .before .before in
     rw (at (s .args .n) (s .pre .0) .is) (s .pre .1)
-
-same-length : tie.Need-same-length
-same-length c = search needs
 
 returns : tie.Need-returns
 unfolding text
@@ -68,14 +44,14 @@ pub put-text-spec : {M : Type 1} → statement M
 put-text-spec =
     tie.close
     (tie.spec
-    mul-from
-    array-read-from
-    add-to
-    mul-to
-    array-read-to
-    sub-put
-    part-put-start
+    (λ c. search needs)
+    (λ c. search needs)
+    (λ c. search needs)
+    (λ c. search needs)
+    (λ c. search needs)
+    (λ c. at (c .before .before .args .n) (c .before .before .pre .0) .start)
+    (λ c. at (c .before .before .before .args .n) (c .before .before .before .pre .0) .start)
     part-put-end
     put-requires
-    same-length
+    (λ c. search needs)
     returns)

@@ -4,9 +4,4 @@ use Rattle.resolution.proofs.all.agreed.Statement.{statement}
 use Rattle.resolution.proofs.all.agreed.Tie as tie
 
 pub agreed-spec : {M : Type 1} → statement M
-agreed-spec =
-    tie.close
-    (tie.spec
-    (λ c κs. search joining)
-    (λ c. search joining)
-    (λ c. search joining))
+agreed-spec = tie.close (tie.spec (λ c κs. search joining) (λ c. search joining) (λ c. search joining))

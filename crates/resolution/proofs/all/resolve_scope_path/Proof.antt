@@ -4,10 +4,4 @@ use Rattle.resolution.proofs.all.resolve_scope_path.Statement.{statemen
 use Rattle.resolution.proofs.all.resolve_scope_path.Tie as tie
 
 pub resolve-scope-path-spec : {M : Type 1} → statement M
-resolve-scope-path-spec =
-    tie.close
-    (tie.spec
-    (λ c. search whole)
-    (λ c κs. search whole)
-    (λ c κs. search whole)
-    (λ c. search whole))
+resolve-scope-path-spec = tie.close (tie.spec (λ c. search whole) (λ c κs. search whole) (λ c κs. search whole) (λ c. search whole))

@@ -4,11 +4,4 @@ use Rattle.resolution.proofs.entity.without_attribute.Statement.{statem
 use Rattle.resolution.proofs.entity.without_attribute.Tie as tie
 
 pub without-attribute-spec : {M : Type 1} → statement M
-without-attribute-spec =
-    tie.close
-    (tie.spec
-    (λ c κs. search own)
-    (λ c κs. search own)
-    (λ c. search own)
-    (λ c. search own)
-    (λ c. search own))
+without-attribute-spec = tie.close (tie.spec (λ c κs. search own) (λ c κs. search own) (λ c. search own) (λ c. search own) (λ c. search own))

@@ -4,10 +4,4 @@ use Rattle.resolution.proofs.ordering.next_rendering.Statement.{stateme
 use Rattle.resolution.proofs.ordering.next_rendering.Tie as tie
 
 pub next-rendering-spec : {M : Type 1} → statement M
-next-rendering-spec =
-    tie.close
-    (tie.spec
-    (λ c. search pickingPath)
-    (λ c κs. search pickingPath)
-    (λ c κs. search pickingPath)
-    (λ c. search pickingPath))
+next-rendering-spec = tie.close (tie.spec (λ c. search pickingPath) (λ c κs. search pickingPath) (λ c κs. search pickingPath) (λ c. search pickingPath))

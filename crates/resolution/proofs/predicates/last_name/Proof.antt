@@ -13,37 +13,16 @@ Inv-loop c count start at₀ left₀ at left = (0 < left) × NamesLeft c (lastOf
 abbrev μ-loop : tie.MeasureT-loop
 μ-loop c count start at₀ left₀ at left = left
 
-loop-holds : tie.Need-loop-holds Inv-loop μ-loop
-loop-holds c = search last-of-names
-
-past-word-requires : tie.Need-past-word-requires Inv-loop μ-loop
-past-word-requires c κs = search last-of-names
-
-sub-left : tie.Need-sub-left Inv-loop μ-loop
-sub-left c = search last-of-names
-
-loop-less : tie.Need-loop-less Inv-loop μ-loop
-loop-less c = search last-of-names
-
-loop-again : tie.Need-loop-again Inv-loop μ-loop
-loop-again c = search last-of-names
-
-word-requires : tie.Need-word-requires Inv-loop μ-loop
-word-requires c κs = search last-of-names
-
-returns : tie.Need-returns Inv-loop μ-loop
-returns c = search last-of-names
-
 pub last-name-spec : {M : Type 1} → statement M
 last-name-spec =
     tie.close
     (tie.spec
     Inv-loop
     μ-loop
-    loop-holds
-    past-word-requires
-    sub-left
-    loop-less
-    loop-again
-    word-requires
-    returns)
+    (λ c. search last-of-names)
+    (λ c κs. search last-of-names)
+    (λ c. search last-of-names)
+    (λ c. search last-of-names)
+    (λ c. search last-of-names)
+    (λ c κs. search last-of-names)
+    (λ c. search last-of-names))

@@ -3,23 +3,5 @@ use Rattle.resolution.proofs.Namespaces.{named-action}
 use Rattle.resolution.proofs.predicates.predicate_action.Statement.{statement}
 use Rattle.resolution.proofs.predicates.predicate_action.Tie as tie
 
-namespace-of-requires : tie.Need-namespace-of-requires
-namespace-of-requires c κs = search named-action
-
-word-requires : tie.Need-word-requires
-word-requires c κs = search named-action
-
-action-among-requires : tie.Need-action-among-requires
-action-among-requires c κs = search named-action
-
-returns : tie.Need-returns
-returns c = search named-action
-
 pub predicate-action-spec : {M : Type 1} → statement M
-predicate-action-spec =
-    tie.close
-    (tie.spec
-    namespace-of-requires
-    word-requires
-    action-among-requires
-    returns)
+predicate-action-spec = tie.close (tie.spec (λ c κs. search named-action) (λ c κs. search named-action) (λ c κs. search named-action) (λ c. search named-action))

@@ -21,4 +21,17 @@ abbrev μ-loop : tie.MeasureT-loop
 μ-loop buf₀ schema condition targets env facts applied span now₀ left₀ at₀ buf now left at = left
 
 pub arguments-spec : {M : Type 1} → statement M
-arguments-spec = tie.close (tie.spec Inv-loop μ-loop (λ c. search arguing) (λ c κs. search arguing) (λ c κs. search arguing) (λ c κs. search arguing) (λ c. search arguing) (λ c. search arguing) (λ c. (omega (arith, c .before .before .report .kept .0, c .before .before .before .before .before .before .before .loop .inv .0), arguing-turn _ _ _ _ _ _ _ _ (c .before .before .before .before .before .before .before .loop .inv .1) _ (c .before .before .before .before .before .argument-at .ensures) (c .before .before .before .before .argument .ensures) (c .before .before .report .ensures))) (λ c. search arguing) (λ c. search arguing))
+arguments-spec =
+    tie.close
+    (tie.spec
+    Inv-loop
+    μ-loop
+    (λ c. search arguing)
+    (λ c κs. search arguing)
+    (λ c κs. search arguing)
+    (λ c κs. search arguing)
+    (λ c. search arguing)
+    (λ c. search arguing)
+    (λ c. (omega (arith, c .before .before .report .kept .0, c .before .before .before .before .before .before .before .loop .inv .0), arguing-turn _ _ _ _ _ _ _ _ (c .before .before .before .before .before .before .before .loop .inv .1) _ (c .before .before .before .before .before .argument-at .ensures) (c .before .before .before .before .argument .ensures) (c .before .before .report .ensures)))
+    (λ c. search arguing)
+    (λ c. search arguing))

@@ -4,4 +4,10 @@ use Rattle.rules.proofs.predicate.predicate.Statement.{statement}
 use Rattle.rules.proofs.predicate.predicate.Tie as tie
 
 pub predicate-spec : {M : Type 1} → statement M
-predicate-spec = tie.close (tie.spec (λ c κs. search of-predicate) (λ c κs. (search of-predicate, (search of-predicate, (search of-predicate, search of-predicate)))) (λ c. search of-predicate) (λ c. search of-predicate))
+predicate-spec =
+    tie.close
+    (tie.spec
+    (λ c κs. search of-predicate)
+    (λ c κs. (search of-predicate, (search of-predicate, (search of-predicate, search of-predicate))))
+    (λ c. search of-predicate)
+    (λ c. search of-predicate))

@@ -4,4 +4,26 @@ use Rattle.rules.proofs.report.said_of.Statement.{statement}
 use Rattle.rules.proofs.report.said_of.Tie as tie
 
 pub said-of-spec : {M : Type 1} → statement M
-said-of-spec = tie.close (tie.spec (λ c. search saying) (λ c. search saying) (λ c κs. search saying) (λ c. search saying) (λ c κs. search saying) (λ c. search saying) (λ c κs. search saying) (λ c. search saying) (λ c κs. search saying) (λ c. search saying) (λ c κs. search saying) (λ c. search saying) (λ c κs. search saying) (λ c. search saying) (λ c. search saying) (λ c. search saying) (λ c. search saying) (λ c. search saying) (λ c. search saying) (λ c. search saying))
+said-of-spec =
+    tie.close
+    (tie.spec
+    (λ c. search saying)
+    (λ c. search saying)
+    (λ c κs. search saying)
+    (λ c. search saying)
+    (λ c κs. search saying)
+    (λ c. search saying)
+    (λ c κs. search saying)
+    (λ c. search saying)
+    (λ c κs. search saying)
+    (λ c. search saying)
+    (λ c κs. search saying)
+    (λ c. search saying)
+    (λ c κs. search saying)
+    (λ c. search saying)
+    (λ c. search saying)
+    (λ c. search saying)
+    (λ c. search saying)
+    (λ c. search saying)
+    (λ c. search saying)
+    (λ c. search saying))

@@ -15,4 +15,13 @@ pub action-among-spec : {M : Type 1} → statement M
 action-among-spec =
     tie.close
     (tie.spec
-    Inv-loop μ-loop (λ c. search actionSearch) (λ c κs. search actionSearch) (λ c. search actionSearch) (λ c κs. search actionSearch) (λ c. search actionSearch) (λ c. search actionSearch) (λ c. search actionSearch) (λ c. search actionSearch))
+    Inv-loop
+    μ-loop
+    (λ c. search actionSearch)
+    (λ c κs. search actionSearch)
+    (λ c. search actionSearch)
+    (λ c κs. search actionSearch)
+    (λ c. search actionSearch)
+    (λ c. search actionSearch)
+    (λ c. search actionSearch)
+    (λ c. search actionSearch))

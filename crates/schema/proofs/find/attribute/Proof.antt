@@ -15,4 +15,17 @@ pub attribute-spec : {M : Type 1} → statement M
 attribute-spec =
     tie.close
     (tie.spec
-    Inv-loop μ-loop (λ c κs. search lookup) (λ c. search lookup) (λ c. search lookup) (λ c κs. search lookup) (λ c κs. search lookup) (λ c κs. search lookup) (λ c. search lookup) (λ c κs. search lookup) (λ c. search lookup) (λ c. search lookup) (λ c. search lookup) (λ c. search lookup))
+    Inv-loop
+    μ-loop
+    (λ c κs. search lookup)
+    (λ c. search lookup)
+    (λ c. search lookup)
+    (λ c κs. search lookup)
+    (λ c κs. search lookup)
+    (λ c κs. search lookup)
+    (λ c. search lookup)
+    (λ c κs. search lookup)
+    (λ c. search lookup)
+    (λ c. search lookup)
+    (λ c. search lookup)
+    (λ c. search lookup))

@@ -15,4 +15,15 @@ pub entity-spec : {M : Type 1} → statement M
 entity-spec =
     tie.close
     (tie.spec
-    Inv-loop μ-loop (λ c κs. search entities) (λ c. search entities) (λ c κs. search entities) (λ c κs. search entities) (λ c. search entities) (λ c κs. search entities) (λ c. search entities) (λ c. search entities) (λ c. search entities) (λ c. search entities))
+    Inv-loop
+    μ-loop
+    (λ c κs. search entities)
+    (λ c. search entities)
+    (λ c κs. search entities)
+    (λ c κs. search entities)
+    (λ c. search entities)
+    (λ c κs. search entities)
+    (λ c. search entities)
+    (λ c. search entities)
+    (λ c. search entities)
+    (λ c. search entities))

@@ -4,12 +4,4 @@ use Rattle.schema.proofs.find.is_action_type.Statement.{statement}
 use Rattle.schema.proofs.find.is_action_type.Tie as tie
 
 pub is-action-type-spec : {M : Type 1} → statement M
-is-action-type-spec =
-    tie.close
-    (tie.spec
-    (λ c. search forms)
-    (λ c κs. search forms)
-    (λ c. search forms)
-    (λ c κs. search forms)
-    (λ c. search forms)
-    (λ c. search forms))
+is-action-type-spec = tie.close (tie.spec (λ c. search forms) (λ c κs. search forms) (λ c. search forms) (λ c κs. search forms) (λ c. search forms) (λ c. search forms))

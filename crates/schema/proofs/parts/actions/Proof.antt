@@ -7,4 +7,11 @@ pub actions-spec : {M : Type 1} → statement M
 actions-spec =
     tie.close
     (tie.spec
-    (λ c κs. search actionRow) (λ c κs. search actionRow) (λ c κs. search actionRow) (λ c. search actionRow) (λ c. search actionRow) (λ c. search actionRow) (λ c κs. search actionRow) (λ c. search actionRow))
+    (λ c κs. search actionRow)
+    (λ c κs. search actionRow)
+    (λ c κs. search actionRow)
+    (λ c. search actionRow)
+    (λ c. search actionRow)
+    (λ c. search actionRow)
+    (λ c κs. search actionRow)
+    (λ c. search actionRow))

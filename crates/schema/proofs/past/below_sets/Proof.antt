@@ -13,4 +13,15 @@ abbrev μ-loop : tie.MeasureT-loop
 μ-loop s start at₀ kind₀ at kind = length s - at
 
 pub below-sets-spec : {M : Type 1} → statement M
-below-sets-spec = tie.close (tie.spec Inv-loop μ-loop (λ c κs. search belowSets) (λ c. search belowSets) (λ c. search belowSets) (λ c κs. search belowSets) (λ c. search belowSets) (λ c. search belowSets) (λ c. search belowSets))
+below-sets-spec =
+    tie.close
+    (tie.spec
+    Inv-loop
+    μ-loop
+    (λ c κs. search belowSets)
+    (λ c. search belowSets)
+    (λ c. search belowSets)
+    (λ c κs. search belowSets)
+    (λ c. search belowSets)
+    (λ c. search belowSets)
+    (λ c. search belowSets))

@@ -14,4 +14,16 @@ abbrev μ-loop : tie.MeasureT-loop
 μ-loop s left₀ at₀ left at = length s - at
 
 pub past-attributes-spec : {M : Type 1} → statement M
-past-attributes-spec = tie.close (tie.spec Inv-loop μ-loop (λ c. search along-fields) (λ c κs. search along-fields) (λ c κs. search along-fields) (λ c. search along-fields) (λ c. search along-fields) (λ c. search along-fields) (λ c. search along-fields) (λ c. search along-fields))
+past-attributes-spec =
+    tie.close
+    (tie.spec
+    Inv-loop
+    μ-loop
+    (λ c. search along-fields)
+    (λ c κs. search along-fields)
+    (λ c κs. search along-fields)
+    (λ c. search along-fields)
+    (λ c. search along-fields)
+    (λ c. search along-fields)
+    (λ c. search along-fields)
+    (λ c. search along-fields))

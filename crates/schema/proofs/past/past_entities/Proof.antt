@@ -14,4 +14,14 @@ abbrev μ-loop : tie.MeasureT-loop
 μ-loop s start count left₀ at₀ left at = left
 
 pub past-entities-spec : {M : Type 1} → statement M
-past-entities-spec = tie.close (tie.spec Inv-loop μ-loop (λ c. search along-entities) (λ c κs. search along-entities) (λ c. search along-entities) (λ c. search along-entities) (λ c. search along-entities) (λ c. search along-entities))
+past-entities-spec =
+    tie.close
+    (tie.spec
+    Inv-loop
+    μ-loop
+    (λ c. search along-entities)
+    (λ c κs. search along-entities)
+    (λ c. search along-entities)
+    (λ c. search along-entities)
+    (λ c. search along-entities)
+    (λ c. search along-entities))

@@ -14,4 +14,16 @@ abbrev μ-loop : tie.MeasureT-loop
 μ-loop s start left₀ at₀ left at = left
 
 pub past-names-spec : {M : Type 1} → statement M
-past-names-spec = tie.close (tie.spec Inv-loop μ-loop (λ c κs. search along-names) (λ c. search along-names) (λ c. search along-names) (λ c κs. search along-names) (λ c. search along-names) (λ c. search along-names) (λ c. search along-names) (λ c. search along-names))
+past-names-spec =
+    tie.close
+    (tie.spec
+    Inv-loop
+    μ-loop
+    (λ c κs. search along-names)
+    (λ c. search along-names)
+    (λ c. search along-names)
+    (λ c κs. search along-names)
+    (λ c. search along-names)
+    (λ c. search along-names)
+    (λ c. search along-names)
+    (λ c. search along-names))

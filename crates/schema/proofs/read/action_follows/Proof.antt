@@ -4,5 +4,4 @@ use Rattle.schema.proofs.read.action_follows.Statement.{statement}
 use Rattle.schema.proofs.read.action_follows.Tie as tie
 
 pub action-follows-spec : {M : Type 1} → statement M
-action-follows-spec =
-    tie.close (tie.spec (λ c. search actions) (λ c. search actions) (λ c κs. search actions) (λ c. search actions) (λ c. search actions))
+action-follows-spec = tie.close (tie.spec (λ c. search actions) (λ c. search actions) (λ c κs. search actions) (λ c. search actions) (λ c. search actions))

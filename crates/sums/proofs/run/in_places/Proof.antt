@@ -17,4 +17,16 @@ abbrev μ-loop : tie.MeasureT-loop
 μ-loop s places env buf₀ now₀ i₀ buf now i = length places - i
 
 pub in-places-spec : {M : Type 1} → statement M
-in-places-spec = tie.close (tie.spec Inv-loop μ-loop (λ c. search placing) (λ c κs. search placing) (λ c κs. search placing) (λ c. search placing) (λ c. search placing) (λ c. search placing) (λ c. search placing) (λ c. search placing))
+in-places-spec =
+    tie.close
+    (tie.spec
+    Inv-loop
+    μ-loop
+    (λ c. search placing)
+    (λ c κs. search placing)
+    (λ c κs. search placing)
+    (λ c. search placing)
+    (λ c. search placing)
+    (λ c. search placing)
+    (λ c. search placing)
+    (λ c. search placing))

@@ -4,4 +4,14 @@ use Rattle.sums.proofs.run.sums.Statement.{statement}
 use Rattle.sums.proofs.run.sums.Tie as tie
 
 pub sums-spec : {M : Type 1} → statement M
-sums-spec = tie.close (tie.spec (λ c κs. search running) (λ c. search running) (λ c κs. search running) (λ c. search running) (λ c κs. search running) (λ c. search running) (λ c. search running) (λ c. search running))
+sums-spec =
+    tie.close
+    (tie.spec
+    (λ c κs. search running)
+    (λ c. search running)
+    (λ c κs. search running)
+    (λ c. search running)
+    (λ c κs. search running)
+    (λ c. search running)
+    (λ c. search running)
+    (λ c. search running))

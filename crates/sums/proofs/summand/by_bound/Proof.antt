@@ -4,4 +4,14 @@ use Rattle.sums.proofs.summand.by_bound.Statement.{statement}
 use Rattle.sums.proofs.summand.by_bound.Tie as tie
 
 pub by-bound-spec : {M : Type 1} → statement M
-by-bound-spec = tie.close (tie.spec (λ c. search bounds) (λ c κs. search bounds) (λ c. search bounds) (λ c κs. search bounds) (λ c. search bounds) (λ c. search bounds) (λ c. search bounds) (λ c. search bounds))
+by-bound-spec =
+    tie.close
+    (tie.spec
+    (λ c. search bounds)
+    (λ c κs. search bounds)
+    (λ c. search bounds)
+    (λ c κs. search bounds)
+    (λ c. search bounds)
+    (λ c. search bounds)
+    (λ c. search bounds)
+    (λ c. search bounds))

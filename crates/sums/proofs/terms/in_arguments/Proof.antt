@@ -16,4 +16,16 @@ abbrev μ-loop : tie.MeasureT-loop
 μ-loop s env count first buf₀ now₀ at₀ rest₀ buf now at rest = rest
 
 pub in-arguments-spec : {M : Type 1} → statement M
-in-arguments-spec = tie.close (tie.spec Inv-loop μ-loop (λ c. search arguing) (λ c κs. search arguing) (λ c κs. search arguing) (λ c. search arguing) (λ c. search arguing) (λ c. search arguing) (λ c. search arguing) (λ c. search arguing))
+in-arguments-spec =
+    tie.close
+    (tie.spec
+    Inv-loop
+    μ-loop
+    (λ c. search arguing)
+    (λ c κs. search arguing)
+    (λ c κs. search arguing)
+    (λ c. search arguing)
+    (λ c. search arguing)
+    (λ c. search arguing)
+    (λ c. search arguing)
+    (λ c. search arguing))

@@ -4,4 +4,15 @@ use Rattle.sums.proofs.terms.in_condition.Statement.{statement}
 use Rattle.sums.proofs.terms.in_condition.Tie as tie
 
 pub in-condition-spec : {M : Type 1} → statement M
-in-condition-spec = tie.close (tie.spec (λ c κs. search nodes) (λ c κs. (search nodes, (search nodes, (search nodes, (search nodes, search nodes))))) (λ c. search nodes) (λ c. search nodes) (λ c κs. search nodes) (λ c κs. search nodes) (λ c. search nodes) (λ c. search nodes) (λ c. search nodes))
+in-condition-spec =
+    tie.close
+    (tie.spec
+    (λ c κs. search nodes)
+    (λ c κs. (search nodes, (search nodes, (search nodes, (search nodes, search nodes)))))
+    (λ c. search nodes)
+    (λ c. search nodes)
+    (λ c κs. search nodes)
+    (λ c κs. search nodes)
+    (λ c. search nodes)
+    (λ c. search nodes)
+    (λ c. search nodes))

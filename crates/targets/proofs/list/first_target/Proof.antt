@@ -3,14 +3,5 @@ use Rattle.targets.proofs.Accepted.{lists}
 use Rattle.targets.proofs.list.first_target.Statement.{statement}
 use Rattle.targets.proofs.list.first_target.Tie as tie
 
-list-at-requires : tie.Need-list-at-requires
-list-at-requires c κs = search lists
-
-add-result : tie.Need-add-result
-add-result c = search lists
-
-returns : tie.Need-returns
-returns c = search lists
-
 pub first-target-spec : {M : Type 1} → statement M
-first-target-spec = tie.close (tie.spec list-at-requires add-result returns)
+first-target-spec = tie.close (tie.spec (λ c κs. search lists) (λ c. search lists) (λ c. search lists))

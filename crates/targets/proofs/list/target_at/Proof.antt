@@ -11,45 +11,18 @@ Inv-loop s position at₀ rest₀ at rest = Ahead s (targetAt position (targetsI
 abbrev μ-loop : tie.MeasureT-loop
 μ-loop s position at₀ rest₀ at rest = rest
 
-count-requires : tie.Need-count-requires Inv-loop μ-loop
-count-requires c κs = search positions
-
-returns : tie.Need-returns Inv-loop μ-loop
-returns c = search positions
-
-first-target-requires : tie.Need-first-target-requires Inv-loop μ-loop
-first-target-requires c κs = search positions
-
-loop-holds : tie.Need-loop-holds Inv-loop μ-loop
-loop-holds c = search positions
-
-next-target-requires : tie.Need-next-target-requires Inv-loop μ-loop
-next-target-requires c κs = search positions
-
-sub-rest : tie.Need-sub-rest Inv-loop μ-loop
-sub-rest c = search positions
-
-loop-less : tie.Need-loop-less Inv-loop μ-loop
-loop-less c = search positions
-
-loop-again : tie.Need-loop-again Inv-loop μ-loop
-loop-again c = search positions
-
-returns-2 : tie.Need-returns-2 Inv-loop μ-loop
-returns-2 c = search positions
-
 pub target-at-spec : {M : Type 1} → statement M
 target-at-spec =
     tie.close
     (tie.spec
     Inv-loop
     μ-loop
-    count-requires
-    returns
-    first-target-requires
-    loop-holds
-    next-target-requires
-    sub-rest
-    loop-less
-    loop-again
-    returns-2)
+    (λ c κs. search positions)
+    (λ c. search positions)
+    (λ c κs. search positions)
+    (λ c. search positions)
+    (λ c κs. search positions)
+    (λ c. search positions)
+    (λ c. search positions)
+    (λ c. search positions)
+    (λ c. search positions))

@@ -3,8 +3,5 @@ use Rattle.targets.proofs.Asked.{query}
 use Rattle.targets.proofs.query.path_at.Statement.{statement}
 use Rattle.targets.proofs.query.path_at.Tie as tie
 
-returns : tie.Need-returns
-returns c = search query
-
 pub path-at-spec : {M : Type 1} → statement M
-path-at-spec = tie.close (tie.spec returns)
+path-at-spec = tie.close (tie.spec (λ c. search query))

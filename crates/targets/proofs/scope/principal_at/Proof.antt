@@ -3,8 +3,5 @@ use Rattle.targets.proofs.Accepted.{scopes}
 use Rattle.targets.proofs.scope.principal_at.Statement.{statement}
 use Rattle.targets.proofs.scope.principal_at.Tie as tie
 
-returns : tie.Need-returns
-returns c = search scopes
-
 pub principal-at-spec : {M : Type 1} → statement M
-principal-at-spec = tie.close (tie.spec returns)
+principal-at-spec = tie.close (tie.spec (λ c. search scopes))

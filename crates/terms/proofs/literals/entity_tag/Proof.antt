@@ -4,7 +4,4 @@ use Rattle.terms.proofs.literals.entity_tag.Statement.{statement}
 use Rattle.terms.proofs.literals.entity_tag.Tie as tie
 
 pub entity-tag-spec : {M : Type 1} → statement M
-entity-tag-spec = tie.close
-    (tie.spec
-    (λ c κs. search leaves)
-    (λ c. search leaves))
+entity-tag-spec = tie.close (tie.spec (λ c κs. search leaves) (λ c. search leaves))

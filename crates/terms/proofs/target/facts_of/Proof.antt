@@ -4,8 +4,4 @@ use Rattle.terms.proofs.target.facts_of.Statement.{statement}
 use Rattle.terms.proofs.target.facts_of.Tie as tie
 
 pub facts-of-spec : {M : Type 1} → statement M
-facts-of-spec = tie.close
-    (tie.spec
-    (λ c κs. search making)
-    (λ c κs. search making)
-    (λ c. search making))
+facts-of-spec = tie.close (tie.spec (λ c κs. search making) (λ c κs. search making) (λ c. search making))

@@ -4,12 +4,4 @@ use Rattle.terms.proofs.term.context_field_type.Statement.{statement}
 use Rattle.terms.proofs.term.context_field_type.Tie as tie
 
 pub context-field-type-spec : {M : Type 1} → statement M
-context-field-type-spec =
-    tie.close
-    (tie.spec
-    (λ c. search paths)
-    (λ c. search paths)
-    (λ c. search paths)
-    (λ c κs. search paths)
-    (λ c κs. search paths)
-    (λ c. search paths))
+context-field-type-spec = tie.close (tie.spec (λ c. search paths) (λ c. search paths) (λ c. search paths) (λ c κs. search paths) (λ c κs. search paths) (λ c. search paths))

@@ -22,4 +22,19 @@ abbrev μ-loop : tie.MeasureT-loop
 μ-loop buf₀ schema condition targets places env common now₀ rest₀ at₀ buf now rest at = rest
 
 pub all-targets-spec : {M : Type 1} → statement M
-all-targets-spec = tie.close (tie.spec Inv-loop μ-loop (λ c κs. search each-target) (λ c κs. search each-target) (λ c. search each-target) (λ c κs. search each-target) (λ c κs. search each-target) (λ c κs. targets-stand _ _ _ _ (c .before .before .before .before .before .before .loop .inv .1) (c .before .before .before .before .before .loop-test .taken)) (λ c. search needs) (λ c. search needs) (λ c. (omega (arith, c .before .before .before .under .kept .0, c .before .before .before .before .before .before .before .loop .inv .0), target-turn _ _ _ _ _ _ (c .before .before .before .before .before .under-target .ensures) _ (c .before .before .before .before .before .before .before .loop .inv .1) (c .before .before .before .before .before .before .loop-test .taken) (c .before .before .before .under .ensures) _ (c .next-target .ensures))) (λ c. search each-target) (λ c. search each-target))
+all-targets-spec =
+    tie.close
+    (tie.spec
+    Inv-loop
+    μ-loop
+    (λ c κs. search each-target)
+    (λ c κs. search each-target)
+    (λ c. search each-target)
+    (λ c κs. search each-target)
+    (λ c κs. search each-target)
+    (λ c κs. targets-stand _ _ _ _ (c .before .before .before .before .before .before .loop .inv .1) (c .before .before .before .before .before .loop-test .taken))
+    (λ c. search needs)
+    (λ c. search needs)
+    (λ c. (omega (arith, c .before .before .before .under .kept .0, c .before .before .before .before .before .before .before .loop .inv .0), target-turn _ _ _ _ _ _ (c .before .before .before .before .before .under-target .ensures) _ (c .before .before .before .before .before .before .before .loop .inv .1) (c .before .before .before .before .before .before .loop-test .taken) (c .before .before .before .under .ensures) _ (c .next-target .ensures)))
+    (λ c. search each-target)
+    (λ c. search each-target))

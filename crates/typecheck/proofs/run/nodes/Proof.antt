@@ -19,4 +19,16 @@ abbrev μ-loop : tie.MeasureT-loop
 μ-loop buf₀ schema condition targets places env facts now₀ i₀ buf now i = length places - i
 
 pub nodes-spec : {M : Type 1} → statement M
-nodes-spec = tie.close (tie.spec Inv-loop μ-loop (λ c. search each-node) (λ c κs. search each-node) (λ c κs. search each-node) (λ c. search each-node) (λ c. search each-node) (λ c. search each-node) (λ c. search each-node) (λ c. search each-node))
+nodes-spec =
+    tie.close
+    (tie.spec
+    Inv-loop
+    μ-loop
+    (λ c. search each-node)
+    (λ c κs. search each-node)
+    (λ c κs. search each-node)
+    (λ c. search each-node)
+    (λ c. search each-node)
+    (λ c. search each-node)
+    (λ c. search each-node)
+    (λ c. search each-node))

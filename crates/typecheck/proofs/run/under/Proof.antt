@@ -4,4 +4,12 @@ use Rattle.typecheck.proofs.run.under.Statement.{statement}
 use Rattle.typecheck.proofs.run.under.Tie as tie
 
 pub under-spec : {M : Type 1} → statement M
-under-spec = tie.close (tie.spec (λ c. search where-checked) (λ c. search where-checked) (λ c. search where-checked) (λ c κs. search where-checked) (λ c. search where-checked) (λ c. search where-checked))
+under-spec =
+    tie.close
+    (tie.spec
+    (λ c. search where-checked)
+    (λ c. search where-checked)
+    (λ c. search where-checked)
+    (λ c κs. search where-checked)
+    (λ c. search where-checked)
+    (λ c. search where-checked))

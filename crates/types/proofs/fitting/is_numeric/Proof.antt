@@ -6,12 +6,9 @@ use Rattle.types.proofs.fitting.is_numeric.Tie as tie
 
 ruleset steps = (needs)
 
-equal-requires : tie.Need-equal-requires
-equal-requires c κs = search steps
-
 returns : tie.Need-returns
 unfolding layered
 returns c = search steps
 
 pub is-numeric-spec : {M : Type 1} → statement M
-is-numeric-spec = tie.close (tie.spec equal-requires returns)
+is-numeric-spec = tie.close (tie.spec (λ c κs. search steps) returns)

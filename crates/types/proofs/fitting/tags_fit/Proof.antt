@@ -34,31 +34,5 @@ module _ (r : Test) (v w : List ℕ) (a : Bool) (rule : a ≡ anyTags r) where
 
 ruleset steps = (needs, any, alike)
 
-takes-any-tags-requires : tie.Need-takes-any-tags-requires
-takes-any-tags-requires c κs = search steps
-
-returns : tie.Need-returns
-returns c = search steps
-
-tag-bytes-requires : tie.Need-tag-bytes-requires
-tag-bytes-requires c κs = search steps
-
-tag-bytes-requires-2 : tie.Need-tag-bytes-requires-2
-tag-bytes-requires-2 c κs = search steps
-
-same-requires : tie.Need-same-requires
-same-requires c κs = search steps
-
-returns-2 : tie.Need-returns-2
-returns-2 c = search steps
-
 pub tags-fit-spec : {M : Type 1} → statement M
-tags-fit-spec =
-    tie.close
-    (tie.spec
-    takes-any-tags-requires
-    returns
-    tag-bytes-requires
-    tag-bytes-requires-2
-    same-requires
-    returns-2)
+tags-fit-spec = tie.close (tie.spec (λ c κs. search steps) (λ c. search steps) (λ c κs. search steps) (λ c κs. search steps) (λ c κs. search steps) (λ c. search steps))

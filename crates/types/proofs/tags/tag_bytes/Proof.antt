@@ -19,25 +19,5 @@ module _ (s c : List ℕ) (o : Source) (at n : ℕ) (p : List ℕ) where
 
 ruleset steps = (needs, of-schema, of-condition)
 
-enum-told : tie.Need-enum-told
-enum-told c = search steps
-
-part-of-requires : tie.Need-part-of-requires
-part-of-requires c κs = search steps
-
-enum-told-2 : tie.Need-enum-told-2
-enum-told-2 c = search steps
-
-part-of-requires-2 : tie.Need-part-of-requires-2
-part-of-requires-2 c κs = search steps
-
-returns : tie.Need-returns
-returns c = search steps
-
-returns-2 : tie.Need-returns-2
-returns-2 c = search steps
-
 pub tag-bytes-spec : {M : Type 1} → statement M
-tag-bytes-spec =
-    tie.close
-    (tie.spec enum-told part-of-requires enum-told-2 part-of-requires-2 returns returns-2)
+tag-bytes-spec = tie.close (tie.spec (λ c. search steps) (λ c κs. search steps) (λ c. search steps) (λ c κs. search steps) (λ c. search steps) (λ c. search steps))

@@ -28,31 +28,5 @@ module _ (a b : List ℕ) (f : Form) (x : Base) (s : List ℕ) (at : ℕ) (room 
 
 ruleset steps = (needs, below, word-room, tag-room, both)
 
-word-of-requires : tie.Need-word-of-requires
-word-of-requires c κs = search steps
-
-put-word-requires : tie.Need-put-word-requires
-put-word-requires c κs = search steps
-
-tag-part-requires : tie.Need-tag-part-requires
-tag-part-requires c κs = search steps
-
-put-requires : tie.Need-put-requires
-put-requires c κs = search steps
-
-same-length : tie.Need-same-length
-same-length c = search steps
-
-returns : tie.Need-returns
-returns c = search steps
-
 pub put-base-spec : {M : Type 1} → statement M
-put-base-spec =
-    tie.close
-    (tie.spec
-    word-of-requires
-    put-word-requires
-    tag-part-requires
-    put-requires
-    same-length
-    returns)
+put-base-spec = tie.close (tie.spec (λ c κs. search steps) (λ c κs. search steps) (λ c κs. search steps) (λ c κs. search steps) (λ c. search steps) (λ c. search steps))

@@ -31,22 +31,5 @@ module _ (f : Form) (n : ℕ) (b : Ty) (s : List ℕ) (at : ℕ) (room : at + le
 
 ruleset steps = (needs, open-room, base-room, close-room, all)
 
-put-words-requires : tie.Need-put-words-requires
-put-words-requires c κs = search steps
-
-put-base-requires : tie.Need-put-base-requires
-put-base-requires c κs = search steps
-
-put-words-requires-2 : tie.Need-put-words-requires-2
-put-words-requires-2 c κs = search steps
-
-same-length : tie.Need-same-length
-same-length c = search steps
-
-returns : tie.Need-returns
-returns c = search steps
-
 pub put-type-spec : {M : Type 1} → statement M
-put-type-spec =
-    tie.close
-    (tie.spec put-words-requires put-base-requires put-words-requires-2 same-length returns)
+put-type-spec = tie.close (tie.spec (λ c κs. search steps) (λ c κs. search steps) (λ c κs. search steps) (λ c. search steps) (λ c. search steps))

@@ -23,27 +23,6 @@ module _ (k : ℕ) (h : k < 15) where
 
 ruleset steps = (needs, rises, ends, room, put-there)
 
-mul-start : tie.Need-mul-start
-mul-start c = search steps
-
-array-read-start : tie.Need-array-read-start
-array-read-start c = search steps
-
-add-end : tie.Need-add-end
-add-end c = search steps
-
-mul-end : tie.Need-mul-end
-mul-end c = search steps
-
-array-read-end : tie.Need-array-read-end
-array-read-end c = search steps
-
-sub-put : tie.Need-sub-put
-sub-put c = search steps
-
-part-put-start : tie.Need-part-put-start
-part-put-start c = search steps
-
 part-put-end : tie.Need-part-put-end
 unfolding text
 part-put-end c = search steps
@@ -51,9 +30,6 @@ part-put-end c = search steps
 put-requires : tie.Need-put-requires
 unfolding text
 put-requires c κs = search steps
-
-same-length : tie.Need-same-length
-same-length c = search steps
 
 returns : tie.Need-returns
 unfolding text
@@ -63,14 +39,14 @@ pub put-word-spec : {M : Type 1} → statement M
 put-word-spec =
     tie.close
     (tie.spec
-    mul-start
-    array-read-start
-    add-end
-    mul-end
-    array-read-end
-    sub-put
-    part-put-start
+    (λ c. search steps)
+    (λ c. search steps)
+    (λ c. search steps)
+    (λ c. search steps)
+    (λ c. search steps)
+    (λ c. search steps)
+    (λ c. search steps)
     part-put-end
     put-requires
-    same-length
+    (λ c. search steps)
     returns)

@@ -39,37 +39,16 @@ Inv-loop buf₀ at k n next₀ i₀ buf next i = (i ≤ n) × Stored buf₀ at (
 abbrev μ-loop : tie.MeasureT-loop
 μ-loop buf₀ at k n next₀ i₀ buf next i = n - i
 
-loop-holds : tie.Need-loop-holds Inv-loop μ-loop
-loop-holds c = search steps
-
-put-word-requires : tie.Need-put-word-requires Inv-loop μ-loop
-put-word-requires c κs = search steps
-
-add-i : tie.Need-add-i Inv-loop μ-loop
-add-i c = search steps
-
-loop-less : tie.Need-loop-less Inv-loop μ-loop
-loop-less c = search steps
-
-loop-again : tie.Need-loop-again Inv-loop μ-loop
-loop-again c = search steps
-
-same-length : tie.Need-same-length Inv-loop μ-loop
-same-length c = search steps
-
-returns : tie.Need-returns Inv-loop μ-loop
-returns c = search steps
-
 pub put-words-spec : {M : Type 1} → statement M
 put-words-spec =
     tie.close
     (tie.spec
     Inv-loop
     μ-loop
-    loop-holds
-    put-word-requires
-    add-i
-    loop-less
-    loop-again
-    same-length
-    returns)
+    (λ c. search steps)
+    (λ c κs. search steps)
+    (λ c. search steps)
+    (λ c. search steps)
+    (λ c. search steps)
+    (λ c. search steps)
+    (λ c. search steps))

@@ -30,35 +30,14 @@ module _ (a b : List ℕ) (f : Form) (n : ℕ) (x : Base) (k : ℕ) (is : k ≡ 
 
 ruleset steps = (needs, below, sum, layers-room, base-room, all-room)
 
-word-of-requires : tie.Need-word-of-requires
-word-of-requires c κs = search steps
-
-word-length-requires : tie.Need-word-length-requires
-word-length-requires c κs = search steps
-
-tag-part-requires : tie.Need-tag-part-requires
-tag-part-requires c κs = search steps
-
-mul-result : tie.Need-mul-result
-mul-result c = search steps
-
-add-result : tie.Need-add-result
-add-result c = search steps
-
-add-result-2 : tie.Need-add-result-2
-add-result-2 c = search steps
-
-returns : tie.Need-returns
-returns c = search steps
-
 pub text-length-spec : {M : Type 1} → statement M
 text-length-spec =
     tie.close
     (tie.spec
-    word-of-requires
-    word-length-requires
-    tag-part-requires
-    mul-result
-    add-result
-    add-result-2
-    returns)
+    (λ c κs. search steps)
+    (λ c κs. search steps)
+    (λ c κs. search steps)
+    (λ c. search steps)
+    (λ c. search steps)
+    (λ c. search steps)
+    (λ c. search steps))

@@ -19,35 +19,5 @@ module _ (k : ℕ) (h : k < 15) where
 
 ruleset steps = (needs, rises, between)
 
-add-result : tie.Need-add-result
-add-result c = search steps
-
-mul-result : tie.Need-mul-result
-mul-result c = search steps
-
-array-read-result : tie.Need-array-read-result
-array-read-result c = search steps
-
-mul-result-2 : tie.Need-mul-result-2
-mul-result-2 c = search steps
-
-array-read-result-2 : tie.Need-array-read-result-2
-array-read-result-2 c = search steps
-
-sub-result : tie.Need-sub-result
-sub-result c = search steps
-
-returns : tie.Need-returns
-returns c = search steps
-
 pub word-length-spec : {M : Type 1} → statement M
-word-length-spec =
-    tie.close
-    (tie.spec
-    add-result
-    mul-result
-    array-read-result
-    mul-result-2
-    array-read-result-2
-    sub-result
-    returns)
+word-length-spec = tie.close (tie.spec (λ c. search steps) (λ c. search steps) (λ c. search steps) (λ c. search steps) (λ c. search steps) (λ c. search steps) (λ c. search steps))

@@ -4,4 +4,14 @@ use Rattle.walk.proofs.flat.bound_in.Statement.{statement}
 use Rattle.walk.proofs.flat.bound_in.Tie as tie
 
 pub bound-in-spec : {M : Type 1} → statement M
-bound-in-spec = tie.close (tie.spec (λ c κs. search finding) (λ c. search finding) (λ c. search finding) (λ c κs. search finding) (λ c κs. search finding) (λ c κs. search finding) (λ c. search finding) (λ c. search finding))
+bound-in-spec =
+    tie.close
+    (tie.spec
+    (λ c κs. search finding)
+    (λ c. search finding)
+    (λ c. search finding)
+    (λ c κs. search finding)
+    (λ c κs. search finding)
+    (λ c κs. search finding)
+    (λ c. search finding)
+    (λ c. search finding))

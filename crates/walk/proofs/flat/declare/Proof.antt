@@ -4,4 +4,11 @@ use Rattle.walk.proofs.flat.declare.Statement.{statement}
 use Rattle.walk.proofs.flat.declare.Tie as tie
 
 pub declare-spec : {M : Type 1} → statement M
-declare-spec = tie.close (tie.spec (λ c κs. search declaring-one) (λ c κs. (search declaring-one, (search declaring-one, search declaring-one))) (λ c. search declaring-one) (λ c. search declaring-one) (λ c. search declaring-one))
+declare-spec =
+    tie.close
+    (tie.spec
+    (λ c κs. search declaring-one)
+    (λ c κs. (search declaring-one, (search declaring-one, search declaring-one)))
+    (λ c. search declaring-one)
+    (λ c. search declaring-one)
+    (λ c. search declaring-one))

@@ -4,4 +4,12 @@ use Rattle.walk.proofs.flat.declare_aggregate.Statement.{statement}
 use Rattle.walk.proofs.flat.declare_aggregate.Tie as tie
 
 pub declare-aggregate-spec : {M : Type 1} → statement M
-declare-aggregate-spec = tie.close (tie.spec (λ c κs. search declaring-aggregate) (λ c. search declaring-aggregate) (λ c κs. search declaring-aggregate) (λ c κs. search declaring-aggregate) (λ c. search declaring-aggregate) (λ c. search declaring-aggregate))
+declare-aggregate-spec =
+    tie.close
+    (tie.spec
+    (λ c κs. search declaring-aggregate)
+    (λ c. search declaring-aggregate)
+    (λ c κs. search declaring-aggregate)
+    (λ c κs. search declaring-aggregate)
+    (λ c. search declaring-aggregate)
+    (λ c. search declaring-aggregate))

@@ -12,4 +12,19 @@ abbrev μ-loop : tie.MeasureT-loop
 μ-loop s table₀ n start so-far₀ at₀ rest₀ table so-far at rest = rest
 
 pub declare-all-spec : {M : Type 1} → statement M
-declare-all-spec = tie.close (tie.spec Inv-loop μ-loop (λ c. omega (arith, binders-index _ _ (c .before .before .pre .0))) (λ c. search declaring-row) (λ c κs. search declaring-row) (λ c. search declaring-row) (λ c κs. search declaring-row) (λ c κs. search declaring-row) (λ c. search declaring-row) (λ c. search declaring-row) (λ c. search declaring-row) (λ c. search declaring-row) (λ c. search declaring-row))
+declare-all-spec =
+    tie.close
+    (tie.spec
+    Inv-loop
+    μ-loop
+    (λ c. omega (arith, binders-index _ _ (c .before .before .pre .0)))
+    (λ c. search declaring-row)
+    (λ c κs. search declaring-row)
+    (λ c. search declaring-row)
+    (λ c κs. search declaring-row)
+    (λ c κs. search declaring-row)
+    (λ c. search declaring-row)
+    (λ c. search declaring-row)
+    (λ c. search declaring-row)
+    (λ c. search declaring-row)
+    (λ c. search declaring-row))

@@ -4,4 +4,15 @@ use Rattle.walk.proofs.flat.declare_node.Statement.{statement}
 use Rattle.walk.proofs.flat.declare_node.Tie as tie
 
 pub declare-node-spec : {M : Type 1} → statement M
-declare-node-spec = tie.close (tie.spec (λ c κs. search declaring-node) (λ c κs. search declaring-node) (λ c κs. search declaring-node) (λ c. search declaring-node) (λ c. search declaring-node) (λ c κs. search declaring-node) (λ c. search declaring-node) (λ c. search declaring-node) (λ c. search declaring-node))
+declare-node-spec =
+    tie.close
+    (tie.spec
+    (λ c κs. search declaring-node)
+    (λ c κs. search declaring-node)
+    (λ c κs. search declaring-node)
+    (λ c. search declaring-node)
+    (λ c. search declaring-node)
+    (λ c κs. search declaring-node)
+    (λ c. search declaring-node)
+    (λ c. search declaring-node)
+    (λ c. search declaring-node))

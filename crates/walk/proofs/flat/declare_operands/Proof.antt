@@ -14,4 +14,18 @@ abbrev μ-loop : tie.MeasureT-loop
 μ-loop s table₀ n at so-far₀ left₀ table so-far left = length (aggregatesIn s (left .count) (left .first))
 
 pub declare-operands-spec : {M : Type 1} → statement M
-declare-operands-spec = tie.close (tie.spec Inv-loop μ-loop (λ c κs. search declaring-operands) (λ c. search declaring-operands) (λ c κs. search declaring-operands) (λ c. search declaring-operands) (λ c. search declaring-operands) (λ c. search declaring-operands) (λ c. search declaring-operands) (λ c κs. search declaring-operands) (λ c. search declaring-operands) (λ c. search declaring-operands))
+declare-operands-spec =
+    tie.close
+    (tie.spec
+    Inv-loop
+    μ-loop
+    (λ c κs. search declaring-operands)
+    (λ c. search declaring-operands)
+    (λ c κs. search declaring-operands)
+    (λ c. search declaring-operands)
+    (λ c. search declaring-operands)
+    (λ c. search declaring-operands)
+    (λ c. search declaring-operands)
+    (λ c κs. search declaring-operands)
+    (λ c. search declaring-operands)
+    (λ c. search declaring-operands))

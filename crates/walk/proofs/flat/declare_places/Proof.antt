@@ -12,4 +12,16 @@ abbrev μ-loop : tie.MeasureT-loop
 μ-loop s places table₀ n so-far₀ i₀ table so-far i = length places - i
 
 pub declare-places-spec : {M : Type 1} → statement M
-declare-places-spec = tie.close (tie.spec Inv-loop μ-loop (λ c. search declaring-nodes) (λ c κs. search declaring-nodes) (λ c κs. search declaring-nodes) (λ c. search declaring-nodes) (λ c. search declaring-nodes) (λ c. search declaring-nodes) (λ c. search declaring-nodes) (λ c. search declaring-nodes))
+declare-places-spec =
+    tie.close
+    (tie.spec
+    Inv-loop
+    μ-loop
+    (λ c. search declaring-nodes)
+    (λ c κs. search declaring-nodes)
+    (λ c κs. search declaring-nodes)
+    (λ c. search declaring-nodes)
+    (λ c. search declaring-nodes)
+    (λ c. search declaring-nodes)
+    (λ c. search declaring-nodes)
+    (λ c. search declaring-nodes))

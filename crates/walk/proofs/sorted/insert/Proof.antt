@@ -10,4 +10,22 @@ abbrev μ-loop : tie.MeasureT-loop
 μ-loop table₀ n at place i₀ table i = i
 
 pub insert-spec : {M : Type 1} → statement M
-insert-spec = tie.close (tie.spec Inv-loop μ-loop (λ c. search shifting) (λ c. search shifting) (λ c. search shifting) (λ c. search shifting) (λ c. search shifting) (λ c. search shifting) (λ c. search shifting) (λ c. search shifting) (λ c. search shifting) (λ c. search shifting) (λ c. search shifting) (λ c. search shifting) (λ c. search shifting) (λ c. search shifting))
+insert-spec =
+    tie.close
+    (tie.spec
+    Inv-loop
+    μ-loop
+    (λ c. search shifting)
+    (λ c. search shifting)
+    (λ c. search shifting)
+    (λ c. search shifting)
+    (λ c. search shifting)
+    (λ c. search shifting)
+    (λ c. search shifting)
+    (λ c. search shifting)
+    (λ c. search shifting)
+    (λ c. search shifting)
+    (λ c. search shifting)
+    (λ c. search shifting)
+    (λ c. search shifting)
+    (λ c. search shifting))

@@ -11,4 +11,18 @@ abbrev μ-loop : tie.MeasureT-loop
 μ-loop s table name low₀ high₀ low high = high - low
 
 pub spot-spec : {M : Type 1} → statement M
-spot-spec = tie.close (tie.spec Inv-loop μ-loop (λ c. search halving) (λ c κs. search halving) (λ c κs. search halving) (λ c. search halving) (λ c. search halving) (λ c. search halving) (λ c. search halving) (λ c. search halving) (λ c. search halving) (λ c. search halving))
+spot-spec =
+    tie.close
+    (tie.spec
+    Inv-loop
+    μ-loop
+    (λ c. search halving)
+    (λ c κs. search halving)
+    (λ c κs. search halving)
+    (λ c. search halving)
+    (λ c. search halving)
+    (λ c. search halving)
+    (λ c. search halving)
+    (λ c. search halving)
+    (λ c. search halving)
+    (λ c. search halving))
