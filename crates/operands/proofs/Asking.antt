@@ -35,7 +35,7 @@ use Rattle.terms.specs.Facts.{factsIn, Known, FactsOf}
 use Rattle.terms.specs.Answers.{TypeOf}
 use Rattle.terms.specs.declared.Common.{Common}
 use Rattle.terms.specs.declared.Facts.{Facts}
-use Rattle.terms.proofs.Under.{facts-mean}
+use Rattle.terms.specs.Laws.Facts.{facts-mean}
 use Rattle.operands.specs.Operands.{operandIn, shown, answered, underTarget, atPosition, operandType}
 use Rattle.operands.specs.Answers.{outcomeOf, placeOf, Records}
 use Rattle.operands.specs.declared.Operand.{Operand}

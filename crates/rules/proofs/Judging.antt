@@ -8,7 +8,7 @@ use borrow.Author.Needs.{needs}
 use lib.Dec.{lit<}
 use Rattle.names.specs.Read.{wordAt}
 use Rattle.types.specs.Types as types
-use Rattle.types.specs.Types.{Ty, scalar, isNumeric, accepts, compatible, sameType}
+use Rattle.types.specs.Types.{Ty, scalar, isNumeric, areOrdered, accepts, compatible, sameType}
 use Rattle.types.specs.Laws.Texts.{Small}
 use Rattle.types.specs.Meaning.{richOf}
 use Rattle.types.specs.declared.Rich.{Rich}
@@ -29,14 +29,6 @@ module _ (s c : List ℕ) (q : Bool) (m : List ℕ) (b : Bool) (is : b ≡ q) wh
 
   broken : b ≡ false → (f : Finding) → SaidStands s c (saidOf f) → ((at : Span) → saidBreaches s c (saidOf f) at ≡ breachIf true m at) → Finds s c (breachIf (not q) m) f
   broken e f stands breach = rw (← is, e) (record { is = breach; stands = stands })
-
--- both are numbers
-module _ (b d : Bool) where
-  pub both-numeric : (x y : Bool) → x ≡ b → x ≡ true → y ≡ d → y ≡ (b && d)
-  both-numeric x y e h g = rw (← e, h) g
-
-  pub not-both-numeric : (x : Bool) → x ≡ b → x ≡ false → false ≡ (b && d)
-  not-both-numeric x e h = rw (← e, h)
 
 -- a term has a type, which is small; or none
 module _ (s c : List ℕ) (typed : Typed) where
@@ -66,7 +58,7 @@ module _ (s c : List ℕ) where
     leaf-other t e b is h small = rw e (broken s c _ _ b is h (NotLong t) (record { first = small; second = tt; third = tt; fourth = tt; below = lit< tt }) (λ at. refl))
 
   -- two operands
-  pub numbers-passed : (x y : Ty) (b : Bool) → b ≡ (isNumeric x && isNumeric y) → b ≡ true → Finds s c (numericBreaches x y) Clean
+  pub numbers-passed : (x y : Ty) (b : Bool) → b ≡ areOrdered x y → b ≡ true → Finds s c (numericBreaches x y) Clean
   unfolding numericBreaches
   numbers-passed x y b is h = passed s c _ _ b is h
 
@@ -75,7 +67,7 @@ module _ (s c : List ℕ) where
   like-passed x y b is h = passed s c _ _ b is h
 
   module _ (l r : Rich) (small-l : Small (richOf s c l)) (small-r : Small (richOf s c r)) (b : Bool) where
-    pub numbers-broken : b ≡ (isNumeric (richOf s c l) && isNumeric (richOf s c r)) → b ≡ false → Finds s c (numericBreaches (richOf s c l) (richOf s c r)) (NotNumeric l r)
+    pub numbers-broken : b ≡ areOrdered (richOf s c l) (richOf s c r) → b ≡ false → Finds s c (numericBreaches (richOf s c l) (richOf s c r)) (NotNumeric l r)
     unfolding numericBreaches quoted
     numbers-broken is h = broken s c _ _ b is h (NotNumeric l r) (record { first = small-l; second = small-r; third = tt; fourth = tt; below = lit< tt }) (λ at. refl)
 
@@ -124,7 +116,7 @@ module _ (s c : List ℕ) where
 
 pub ruleset leaf = (needs, typed-as, untyped, known-small, leaf-untyped, leaf-long, leaf-other)
 
-pub ruleset numbers = (needs, both-numeric, not-both-numeric, numbers-passed, numbers-broken)
+pub ruleset numbers = (needs, numbers-passed, numbers-broken)
 
 pub ruleset likes = (needs, like-passed, like-broken)
 

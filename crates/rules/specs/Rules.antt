@@ -6,7 +6,7 @@ use mathlib.Core.Option.{Option, none, some}
 use Rattle.names.specs.Names.{same, simpleName, joined}
 use Rattle.names.specs.Text.{text}
 use Rattle.types.specs.Types as types
-use Rattle.types.specs.Types.{Ty, scalar, isNumeric, accepts, compatible}
+use Rattle.types.specs.Types.{Ty, scalar, isNumeric, areOrdered, accepts, compatible}
 use Rattle.schema.specs.Schema.{Schema, Action}
 use Rattle.schema.specs.Find.{findAction}
 use Rattle.resolution.specs.Resolution.{contextType, predicateAction}
@@ -50,7 +50,7 @@ argumentBreach param name expected actual = breachIf (not (accepts expected actu
 
 -- the types of two operands, by whether the operator wants numbers
 unfoldable pub numericBreaches : Ty → Ty → Rule
-numericBreaches l r = breachIf (not (isNumeric l && isNumeric r)) (notNumeric l r)
+numericBreaches l r = breachIf (not (areOrdered l r)) (notNumeric l r)
 
 unfoldable pub likeBreaches : Ty → Ty → Rule
 likeBreaches l r = breachIf (not (compatible l r)) (unlikeTypes l r)

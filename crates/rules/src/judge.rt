@@ -3,9 +3,7 @@ use crate::Finding;
 use resolution::Typed;
 use types::Rich;
 ghost use mathlib.Core.Path.{_≡_};
-ghost use mathlib.Core.Bool.{_&&_};
 ghost use Rattle.names.specs.Read.{wordAt};
-ghost use Rattle.types.specs.Types.{isNumeric};
 ghost use Rattle.types.specs.Laws.Texts.{Small};
 ghost use Rattle.types.specs.Meaning.{richOf};
 ghost use Rattle.resolution.specs.Places.{typedOf, smallType};
@@ -26,23 +24,13 @@ pub fn not_long<'a>(schema: &'a [u8], condition: &'a [u8], typed: Typed) -> Find
     Finding::NotLong(t)
 }
 
-// Both are numbers.
-fn are_numeric<'a>(schema: &'a [u8], condition: &'a [u8], l: Rich, r: Rich) -> bool
-    ensures { λ b. ⌜ b ≡ isNumeric (richOf (now (schema .entry)) (now (condition .entry)) l) && isNumeric (richOf (now (schema .entry)) (now (condition .entry)) r) ⌝ }
-{
-    if types::is_numeric(schema, condition, l) {
-        return types::is_numeric(schema, condition, r);
-    }
-    false
-}
-
 // Two operands of an operator that wants numbers.
 fn not_numeric<'a>(schema: &'a [u8], condition: &'a [u8], l: Rich, r: Rich) -> Finding
     requires { ⌜ Small (richOf (now schema) (now condition) l) ⌝ }
     requires { ⌜ Small (richOf (now schema) (now condition) r) ⌝ }
     ensures { λ f. ⌜ Finds (now (schema .entry)) (now (condition .entry)) (numericBreaches (richOf (now (schema .entry)) (now (condition .entry)) l) (richOf (now (schema .entry)) (now (condition .entry)) r)) f ⌝ }
 {
-    if are_numeric(schema, condition, l, r) {
+    if types::are_ordered(schema, condition, l, r) {
         return Finding::Clean;
     }
     Finding::NotNumeric(l, r)

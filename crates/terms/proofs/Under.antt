@@ -51,10 +51,6 @@ facts-made n found common p r e f = record { action = refl; shared = refl; scope
 
 pub ruleset making = (needs, facts-made)
 
--- what they are in the definitions
-pub facts-mean : (s c n : List ℕ) (found : Found) (common : Common) (f : Facts) → FactsOf n found common f → factsIn s c n f ≡ factsOf (schemaIn s) (recordIn c) (targetsIn n .scope) (foundIn (actionIn s) found)
-facts-mean s c n found common f k = λ i. record { schema = schemaIn s; scope = k .scope i; action = foundIn (actionIn s) (k .action i); binders = binders (recordIn c) }
-
 -- Under a declared action, and under none.
 module _ (s c : List ℕ) (at : ℕ) where
   pub context-undeclared : (action : Found) → action ≡ Found.Absent → TypeOf s c (contextType (foundIn (actionIn s) action) (pathIn c at)) Nothing

@@ -3,3 +3,4 @@ pub mod Facts
 pub mod Bounds
 pub mod Literals
 pub mod Answers
+pub mod Laws

@@ -40,7 +40,7 @@ use Rattle.terms.specs.declared.Common.{Common}
 use Rattle.terms.specs.declared.Facts.{Facts}
 use Rattle.terms.specs.Terms.{factsOf}
 use Rattle.terms.specs.Facts.{factsIn, Known, FactsOf}
-use Rattle.terms.proofs.Under.{facts-mean}
+use Rattle.terms.specs.Laws.Facts.{facts-mean}
 use Rattle.rules.specs.Rules.{nodeBreaches}
 use Rattle.typecheck.specs.Check.{breachesUnder, checked, check}
 use Rattle.typecheck.specs.Ready.{Ready, underBreaches, UnderKnown, UnderHere}

@@ -1,6 +1,6 @@
 -- The types that the checks compare, and their two tests and two renderings.
 use Prim.Native.Nat.{ℕ}
-use mathlib.Core.Bool.{Bool, true, false}
+use mathlib.Core.Bool.{Bool, true, false, _&&_}
 use mathlib.Core.List.{List, _++_}
 use mathlib.Core.Option.{Option, none, some}
 use lib.Dec.{eqb}
@@ -83,9 +83,13 @@ accepts = fits tagFits true
 abbrev pub compatible : Ty → Ty → Bool
 compatible = fits (λ e f. true) true
 
--- only Long is
+-- what arithmetic wants of an operand: only Long is a number
 abbrev pub isNumeric : Ty → Bool
 isNumeric t = sameType t (scalar long)
+
+-- what order wants of its two sides: two numbers
+abbrev pub areOrdered : Ty → Ty → Bool
+areOrdered l r = isNumeric l && isNumeric r
 
 abbrev pub word : Scalar → List ℕ
 word long = text "int"

@@ -7,7 +7,7 @@ use crate::Test;
 use crate::tags::tag_bytes;
 ghost use mathlib.Core.Path.{_≡_};
 ghost use mathlib.Core.Option.{some};
-ghost use Rattle.types.specs.Types.{rank, scalar, entity, timepoint, sameType, accepts, compatible, isNumeric};
+ghost use Rattle.types.specs.Types.{rank, scalar, entity, timepoint, sameType, accepts, compatible, isNumeric, areOrdered};
 ghost use Rattle.types.specs.Meaning.{scalarOf, tagOf, baseOf, richOf};
 ghost use Rattle.types.specs.Rules.{anyTags, loose, tagsBy, fitsBy, plainFits, untaggedFits, anyArrayFits, mixedArrayFits, unknownFits};
 
@@ -193,6 +193,16 @@ pub fn is_numeric<'a>(schema: &'a [u8], condition: &'a [u8], t: Rich) -> bool
         base: Base::Plain(Scalar::Long),
     };
     equal(schema, condition, t, long)
+}
+
+// Whether two types may stand on the sides of an order.
+pub fn are_ordered<'a>(schema: &'a [u8], condition: &'a [u8], l: Rich, r: Rich) -> bool
+    ensures { λ b. ⌜ b ≡ areOrdered (richOf (now (schema .entry)) (now (condition .entry)) l) (richOf (now (schema .entry)) (now (condition .entry)) r) ⌝ }
+{
+    if is_numeric(schema, condition, l) {
+        return is_numeric(schema, condition, r);
+    }
+    false
 }
 
 pub fn is_timepoint<'a>(schema: &'a [u8], condition: &'a [u8], t: Rich) -> bool

@@ -4,6 +4,7 @@ mod tags;
 mod texts;
 
 pub use fitting::accepts;
+pub use fitting::are_ordered;
 pub use fitting::compatible;
 pub use fitting::equal;
 pub use fitting::is_numeric;
