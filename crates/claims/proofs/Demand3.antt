@@ -18,9 +18,9 @@ use Rattle.targets.specs.Targets.{Target, Targets, Scope}
 use Rattle.resolution.specs.Resolution.{admitsAnyEnv}
 use Rattle.reports.specs.Reports.{Breach, Outcome, once, reported}
 use Rattle.reports.specs.Answers.{outcomeOf}
-use Rattle.reports.specs.Reports.Laws as laws
-use Rattle.reports.specs.Once.{both, both-in, both-nodup}
-use Rattle.reports.specs.Sets.{in-left, in-right, in-append, length-same}
+use Rattle.reports.specs.Laws.Reports as laws
+use Rattle.reports.specs.Laws.Once.{both, both-in, both-nodup}
+use Rattle.reports.specs.Laws.Sets.{in-left, in-right, in-append, length-same}
 use Rattle.reports.specs.Pairs.{_∈_, NoDup, Same, Pair, pairOf, pairs, space}
 use Rattle.terms.specs.Terms.{factsOf}
 use Rattle.rules.specs.Rules.{nodeBreaches}

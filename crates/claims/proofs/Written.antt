@@ -19,7 +19,7 @@ use Rattle.names.specs.Laws.Names.{same-eq, same-refl}
 use Rattle.names.specs.Laws.Readers.{split, held, u8-view, u8-got, bytes-view, bytes-got, got-value, got-place, whole-read}
 use Rattle.targets.specs.Targets.{Narrowing, any, isType, uid, Target, Targets, Scope, narrowings, narrowing, target, targetRecord}
 use Rattle.reports.specs.Pairs.{_∈_}
-use Rattle.reports.specs.Sets.{in-left, in-right}
+use Rattle.reports.specs.Laws.Sets.{in-left, in-right}
 use Rattle.claims.specs.Written as written
 use Rattle.claims.specs.Written.{ofString, ofNarrowing, ofTarget, written}
 

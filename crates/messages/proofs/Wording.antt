@@ -23,7 +23,7 @@ use Rattle.types.specs.declared.Rich.{Rich}
 use Rattle.types.specs.declared.Form.the-variants as Form
 use Rattle.nodes.specs.Parts.{segmentsIn, SegmentsHere}
 use Rattle.reports.specs.Messages.{part, words, textSize, message}
-use Rattle.reports.specs.Messages.Laws.{Composing, composing-begins, composing-room, composing-turn, last-room, composing-over, words-few, text-most, message-length}
+use Rattle.reports.specs.Laws.Messages.{Composing, composing-begins, composing-room, composing-turn, last-room, composing-over, words-few, text-most, message-length}
 use Rattle.reports.specs.Pairs.{sumOf}
 use Rattle.messages.specs.Joined.{Sized}
 use Rattle.messages.specs.Words.{wordText, wordsOf, wordOf, quoted, textOf, WordStands, Stands}

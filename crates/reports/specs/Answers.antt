@@ -6,7 +6,7 @@ use Rattle.reports.specs.declared.Answer.{Answer}
 use Rattle.reports.specs.declared.State.{State}
 use Rattle.reports.specs.Reports.{Breach, once, Outcome, refusal, reported}
 use Rattle.reports.specs.Sink.{sink, none, Pushed, Appended, outcome}
-use Rattle.reports.specs.Sink.Laws.{pushAll-reported, appendAll-reported}
+use Rattle.reports.specs.Laws.Sinks.{pushAll-reported, appendAll-reported}
 
 -- what the code answers and leaves in the buffer, as an outcome
 unfoldable pub outcomeOf : Answer → List ℕ → Outcome

@@ -2,9 +2,9 @@ pub mod Reports
 pub mod Decode
 pub mod Kept
 pub mod Sink
+pub mod Slots
 pub mod Pairs
-pub mod Sets
-pub mod Once
 pub mod Answers
 pub mod Messages
 pub mod Examples
+pub mod Laws

@@ -6,7 +6,6 @@ use lib.ListN.{getD, drop}
 use Rattle.names.specs.Text.{text}
 use Rattle.reports.specs.declared.Message.{Message}
 use Rattle.reports.specs.declared.Message.the-variants.{WrongArgument, WrongTimepoint, NotNumeric, UnlikeTypes, WildcardInside, NotLong, CannotSum, CannotSumTimepoint, CannotSumDecimal}
-pub mod Laws
 
 unfoldable pub parts : Message → List (List ℕ)
 parts WrongArgument =

@@ -12,7 +12,6 @@ use Rattle.reports.specs.declared.State.{State}
 use Rattle.reports.specs.Reports.{Breach, samePair, encoded, Answer, Outcome}
 use Rattle.reports.specs.Decode.{width, reports}
 use Rattle.reports.specs.Kept.{fold, Log}
-pub mod Laws
 
 pub record Sink : Type 0 where
   pub bytes : List ℕ

@@ -12,7 +12,7 @@ ghost use Rattle.reports.specs.Decode.{longAt, report, reports, Whole};
 
 // Whether the report at a place has this start and this message: the start is tested first, then the length, then the bytes.
 // (A pair has no end: any end in its place says the same.)
-fn is_repeat(buf: &[u8], at: usize, start: u32, message: &[u8]) -> bool
+pub fn is_repeat(buf: &[u8], at: usize, start: u32, message: &[u8]) -> bool
     requires { ⌜ at + 10 + longAt (now buf) at ≤ length (now buf) ⌝ }
     ensures { λ r. ⌜ r ≡ samePair (record { start = start; end = 0; message = now (message .entry) }) (report (drop at (now (buf .entry)))) ⌝ }
 {

@@ -2,6 +2,8 @@
 mod buffer;
 mod earlier;
 mod pieces;
+mod slots;
+mod tabled;
 
 pub use buffer::answer_of;
 pub use buffer::append_report;
@@ -15,6 +17,7 @@ pub use buffer::stopped;
 pub use pieces::put_piece;
 pub use pieces::text_size;
 pub use pieces::word_count;
+pub use tabled::push_tabled;
 
 // What the buffer holds: the bytes used, the reports in them, and whether one did not fit.
 pub struct State {
@@ -42,4 +45,10 @@ pub enum Message {
     CannotSum,
     CannotSumTimepoint,
     CannotSumDecimal,
+}
+
+// What the search for a report in the table says: it is there, or the slot that it is put into.
+pub enum Slot {
+    Seen,
+    Free(usize),
 }

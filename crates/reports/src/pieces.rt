@@ -7,7 +7,7 @@ ghost use Prim.Native.Nat.{_+_, _<_, _≤_};
 ghost use lib.ListN.{length, getD};
 ghost use Rattle.names.specs.Writer.{Stored};
 ghost use Rattle.reports.specs.Messages.{part, textSize, words};
-ghost use Rattle.reports.specs.Messages.Laws.{firstOf, pieces};
+ghost use Rattle.reports.specs.Laws.Messages.{firstOf, pieces};
 
 // The texts between the words that a message quotes, message by message, one behind the other, and where each begins and the last one ends.
 const PIECES: [u8; 899] =

@@ -27,7 +27,7 @@ use Rattle.terms.specs.Terms.{Facts, termType}
 use Rattle.terms.specs.Answers.{TypeOf}
 use Rattle.reports.specs.declared.State.{State}
 use Rattle.reports.specs.Sink.{Sink, sink, Sound, pushAll, Pushed}
-use Rattle.reports.specs.Sink.Laws.{recorded-more}
+use Rattle.reports.specs.Laws.Sinks.{recorded-more}
 use Rattle.reports.specs.Kept.{fold}
 use Rattle.reports.specs.Reports.{Breach}
 use Rattle.terms.specs.Facts.{factsIn}

@@ -26,7 +26,7 @@ use Rattle.resolution.specs.Places.{typedOf}
 use Rattle.resolution.specs.declared.Typed.{Typed}
 use Rattle.reports.specs.declared.State.{State}
 use Rattle.reports.specs.Sink.{sink, Sound, Pushed}
-use Rattle.reports.specs.Sink.Laws.{recorded-none, recorded-then}
+use Rattle.reports.specs.Laws.Sinks.{recorded-none, recorded-then}
 use Rattle.terms.specs.Terms.{Facts, termType, varType}
 use Rattle.terms.specs.Answers.{TypeOf}
 use Rattle.terms.specs.Facts.{factsIn, NameTyped}

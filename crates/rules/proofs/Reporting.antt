@@ -10,7 +10,7 @@ use Rattle.names.specs.Writer.{Stored}
 use Rattle.types.specs.declared.Rich.{Rich}
 use Rattle.reports.specs.declared.State.{State}
 use Rattle.reports.specs.Sink.{sink, Sound, push, Pushed}
-use Rattle.reports.specs.Sink.Laws.{recorded-none, pushed-composed}
+use Rattle.reports.specs.Laws.Sinks.{recorded-none, pushed-composed}
 use Rattle.nodes.specs.declared.Ends.{Ends}
 use Rattle.messages.specs.Words.{textOf, Stands, most, saidBreaches, SaidStands, spanIn}
 use Rattle.messages.specs.Laws.Lengths.{Bytes, text-within}

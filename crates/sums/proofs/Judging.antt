@@ -27,7 +27,7 @@ use Rattle.reports.specs.declared.Message.the-variants.{CannotSum, CannotSumTim
 use Rattle.reports.specs.declared.State.{State}
 use Rattle.reports.specs.Decode.{header}
 use Rattle.reports.specs.Sink.{sink, more, stopped, roomFor, Sound, Appended}
-use Rattle.reports.specs.Sink.Laws.{header-room, message-room, count-room, append-stored, append-stopped, recorded-none, appended-one}
+use Rattle.reports.specs.Laws.Sinks.{header-room, message-room, count-room, append-stored, append-stopped, recorded-none, appended-one}
 use Rattle.messages.specs.declared.Word.the-variants as Word
 use Rattle.messages.specs.declared.Word.the-variants.{Name, Joined}
 use Rattle.messages.specs.declared.Sentence.{Sentence}

@@ -16,7 +16,7 @@ use Rattle.condition.specs.Places.{nowhere, isRecord, recordIn}
 use Rattle.condition.specs.Laws.Records.{record-small}
 use Rattle.reports.specs.declared.Answer.{Answer}
 use Rattle.reports.specs.Reports.{refusal, reported}
-use Rattle.reports.specs.Sink.Laws.{sound-start}
+use Rattle.reports.specs.Laws.Sinks.{sound-start}
 use Rattle.reports.specs.Answers.{outcomeOf, Refuses, appended}
 use Rattle.sums.specs.Sums.{breaches, sums}
 

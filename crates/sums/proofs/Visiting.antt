@@ -31,7 +31,7 @@ use Rattle.reports.specs.Reports.{Breach}
 use Rattle.reports.specs.declared.State.{State}
 use Rattle.reports.specs.Kept.{fold}
 use Rattle.reports.specs.Sink.{Sink, sink, Sound, append, appendAll, Appended}
-use Rattle.reports.specs.Sink.Laws.{recorded-none, recorded-more, recorded-then, Reporting, reporting-begins, reporting-next, reporting-over}
+use Rattle.reports.specs.Laws.Sinks.{recorded-none, recorded-more, recorded-then, Reporting, reporting-begins, reporting-next, reporting-over}
 use Rattle.sums.specs.Sums.{aggregateBreaches, termBreaches, termsBreaches, argumentsBreaches, conditionBreaches, breaches}
 
 -- ---- an array holds no aggregate, however deep

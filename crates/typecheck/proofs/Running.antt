@@ -34,7 +34,7 @@ use Rattle.reports.specs.declared.State.{State}
 use Rattle.reports.specs.declared.Answer.{Answer}
 use Rattle.reports.specs.Sink as sinks
 use Rattle.reports.specs.Sink.{Sink, sink, Sound, push, pushAll, Pushed}
-use Rattle.reports.specs.Sink.Laws.{Reporting, reporting-begins, reporting-next, reporting-over, recorded-none, sound-start}
+use Rattle.reports.specs.Laws.Sinks.{Reporting, reporting-begins, reporting-next, reporting-over, recorded-none, sound-start}
 use Rattle.reports.specs.Answers.{outcomeOf, Answers, Refuses, pushed}
 use Rattle.terms.specs.declared.Common.{Common}
 use Rattle.terms.specs.declared.Facts.{Facts}

@@ -17,7 +17,7 @@ use Rattle.types.specs.declared.Rich.{Rich}
 use Rattle.types.specs.declared.Form.the-variants as Form
 use Rattle.nodes.specs.Parts.{segmentsIn, SegmentsHere}
 use Rattle.reports.specs.Messages.{words}
-use Rattle.reports.specs.Messages.Laws.{words-few, message-length}
+use Rattle.reports.specs.Laws.Messages.{words-few, message-length}
 use Rattle.reports.specs.Pairs.{sumOf}
 use Rattle.messages.specs.Words.{wordText, wordsOf, wordOf, quoted, textOf, WordStands, Stands, wordMost, most}
 use Rattle.messages.specs.Laws.Segments.{joined-most}

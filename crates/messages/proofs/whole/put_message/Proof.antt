@@ -2,7 +2,7 @@
 use mathlib.Core.Path.{_≡_}
 use Prim.Native.Nat.{_-_}
 use lib.ListN.{length}
-use Rattle.reports.specs.Messages.Laws.{Composing}
+use Rattle.reports.specs.Laws.Messages.{Composing}
 use Rattle.messages.specs.Words.{quoted}
 use Rattle.messages.proofs.Wording.{writing}
 use Rattle.messages.proofs.whole.put_message.Statement.{statement}

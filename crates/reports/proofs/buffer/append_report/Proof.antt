@@ -1,5 +1,5 @@
 -- `reports::buffer::append_report` meets its contract: its branches are those of `append`. Assumes nothing.
-use Rattle.reports.specs.Sink.Laws.{header-room, message-room, count-room, append-stored, append-stopped}
+use Rattle.reports.specs.Laws.Sinks.{header-room, message-room, count-room, append-stored, append-stopped}
 use borrow.Author.Needs.{needs}
 use Rattle.reports.proofs.buffer.append_report.Statement.{statement}
 use Rattle.reports.proofs.buffer.append_report.Tie as tie

@@ -1,6 +1,6 @@
 -- `reports::buffer::has_room` meets its contract: its branches are those of `roomFor`. Assumes nothing.
 use borrow.Author.Needs.{needs}
-use Rattle.reports.specs.Sink.Laws.{room-full, room-over, room-left}
+use Rattle.reports.specs.Laws.Sinks.{room-full, room-over, room-left}
 use Rattle.reports.proofs.buffer.has_room.Statement.{statement}
 use Rattle.reports.proofs.buffer.has_room.Tie as tie
 

@@ -1,5 +1,5 @@
 -- `reports::buffer::push_report` meets its contract: its branches are those of `push`. Assumes nothing.
-use Rattle.reports.specs.Sink.Laws.{push-full, push-old, push-new, sound-whole}
+use Rattle.reports.specs.Laws.Sinks.{push-full, push-old, push-new, sound-whole}
 use borrow.Author.Needs.{needs}
 use Rattle.reports.proofs.buffer.push_report.Statement.{statement}
 use Rattle.reports.proofs.buffer.push_report.Tie as tie

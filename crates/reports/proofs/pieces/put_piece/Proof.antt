@@ -7,7 +7,7 @@ use lib.ListN.{length, getD}
 use Rattle.names.specs.Writer.{Stored}
 use Rattle.reports.specs.declared.Message.{Message}
 use Rattle.reports.specs.Messages.{part, words}
-use Rattle.reports.specs.Messages.Laws.{firstOf, pieces, pieces-last, piece-is}
+use Rattle.reports.specs.Laws.Messages.{firstOf, pieces, pieces-last, piece-is}
 use mir.Syntax.{w64}
 use mir.Val.{Fits}
 use borrow.Author.Needs.{needs, fits-under}

@@ -9,7 +9,7 @@ use Rattle.names.specs.Names.{same}
 use Rattle.names.specs.Text.{text}
 use Rattle.names.specs.Laws.Tables.{Entry, right, rightBelow, entry}
 use Rattle.reports.specs.Messages.{parts}
-use Rattle.reports.specs.Messages.Laws.{pieces}
+use Rattle.reports.specs.Laws.Messages.{pieces}
 use borrow.Author.Needs.{needs}
 use Rattle.reports.proofs.pieces.put_text.Statement.{statement}
 use Rattle.reports.proofs.pieces.put_text.Tie as tie

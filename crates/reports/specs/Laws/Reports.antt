@@ -22,9 +22,9 @@ use Rattle.reports.specs.Reports.{Breach, samePair, once, encoded, fitti
 use Rattle.reports.specs.Decode.{width-is, size, reports, reports-encoded}
 use Rattle.reports.specs.Kept.{size-nil, size-cons, fitting-all, fitting-less}
 use Rattle.reports.specs.Pairs.{_∈_, NoDup, Same, Pair, pairOf, pairs, sumOf, space}
-use Rattle.reports.specs.Sets.{length-same, sum-same}
-use Rattle.reports.specs.Once.{both, exactly, once-nodup, length-pairs, both-in, both-nodup, length-joined, first-once, once-from, once-append, once-same}
-use Rattle.reports.specs.Once as O
+use Rattle.reports.specs.Laws.Sets.{length-same, sum-same}
+use Rattle.reports.specs.Laws.Once.{both, exactly, once-nodup, length-pairs, both-in, both-nodup, length-joined, first-once, once-from, once-append, once-same}
+use Rattle.reports.specs.Laws.Once as O
 
 -- ---- the reports of a list of breaches
 

@@ -30,7 +30,7 @@ pub log-written : (old : List ℕ) (l : Log) → logOf (written old l) ≡ l
 unfolding written
 log-written old l = λ i. record { kept = reports-encoded (l .kept) (drop (length (gather encoded (l .kept))) old) i; full = l .full }
 
-length-written : (old : List ℕ) (rs : List Breach) → size rs ≤ length old → length (gather encoded rs ++ drop (length (gather encoded rs)) old) ≡ length old
+pub length-written : (old : List ℕ) (rs : List Breach) → size rs ≤ length old → length (gather encoded rs ++ drop (length (gather encoded rs)) old) ≡ length old
 unfolding size
 length-written old rs h = simp (length-append, length-drop) (omega arith)
 
@@ -52,7 +52,7 @@ append-at old rs b h false true e = rw (length-written, e) λ i. record {
 }
 append-at old rs b h false false e = rw (length-written, e)
 
-append-written : (old : List ℕ) (l : Log) (b : Breach) → size (l .kept) ≤ length old
+pub append-written : (old : List ℕ) (l : Log) (b : Breach) → size (l .kept) ≤ length old
     → append (written old l) b ≡ written old (step (length old) l b)
 append-written old l b h = append-at old (l .kept) b h (l .full) (leb (size (l .kept) + width b) (length old)) refl
 
@@ -89,7 +89,7 @@ fits-at L rs b h true room e = h
 fits-at L rs b h false true e = rw (e, size-snoc) (leb-true _ _ e)
 fits-at L rs b h false false e = rw e h
 
-step-fits : (L : ℕ) (l : Log) (b : Breach) → size (l .kept) ≤ L → size (step L l b .kept) ≤ L
+pub step-fits : (L : ℕ) (l : Log) (b : Breach) → size (l .kept) ≤ L → size (step L l b .kept) ≤ L
 step-fits L l b h = fits-at L (l .kept) b h (l .full) (leb (size (l .kept) + width b) L) refl
 
 stepOnce-fits : (L : ℕ) (l : Log) (b : Breach) → size (l .kept) ≤ L → size (stepOnce L l b .kept) ≤ L

@@ -1,0 +1,407 @@
+-- Laws of the table of slots: what a search knows on its way, and what one entry more changes. Assumes nothing.
+use mathlib.Core.Path.{_≡_, refl, sym, ap, subst, _∙_}
+use mathlib.Core.Logic.{_⊎_, inl, inr, ⊎-elim}
+use mathlib.Core.Bool.{Bool, true, false, cond, _&&_, _||_, true≢false, false≢true}
+use mathlib.Core.List.{List, [], _∷_, _++_, append-assoc}
+use Prim.Native.Nat.{ℕ, zero, suc, _+_, _-_, _/_, _%_, _≤_, _<_}
+use native.Mathlib.Omega.{arith}
+use native.Mathlib.Nat.{mod-lt, eq-or-lt-of-le}
+use lib.ListN.{length, getD, set, take, drop, length-append, length-set, length-drop}
+use lib.Seq.{drop-append-seam, drop-drop, getD-set-same, getD-set-other}
+use lib.Dec.{ltb, leb, eqb}
+use borrow.Author.Count.{below-more}
+use borrow.Author.Tests.{ltb-true, ltb-false, lt-ltb, le-ltb, eqb-true, eqb-false, eq-eqb, ne-eqb}
+use Rattle.names.specs.Lists.{anyOf, gather}
+use Rattle.names.specs.Laws.Lists.{any-append, gather-append}
+use Rattle.names.specs.Names.{same}
+use Rattle.names.specs.Laws.Names.{same-eq, and-left, and-right}
+use Rattle.reports.specs.declared.State.{State}
+use Rattle.reports.specs.Reports.{Breach, samePair, encoded}
+use Rattle.reports.specs.Decode.{width, size, reports, long, longAt, report, report-encoded, fits-encoded}
+use Rattle.reports.specs.Kept.{Log, step}
+use Rattle.reports.specs.Sink.{Sink, sink, held, append, Sound, written, logOf, start}
+use Rattle.reports.specs.Laws.Sinks.{log-written, length-written, append-written, step-fits, sound-size}
+use Rattle.reports.specs.Slots.{hashed, firstSlot, slotAt, Met, taken, EntryOf, Tabled, FreeFor, Finds, room, isOpen, Filed}
+
+-- ---- the reports of a sound buffer, by the size of those before them
+
+module _ (s : Sink) (p : Sound s) (before : List Breach) (b : Breach) (after : List Breach) (split : held s ≡ before ++ (b ∷ after)) where
+  abbrev behind : List ℕ
+  behind = gather encoded after ++ drop (length (gather encoded (held s))) (s .bytes)
+
+  bytes-split : s .bytes ≡ gather encoded before ++ (encoded b ++ behind)
+  unfolding written gather
+  bytes-split =
+      ap (λ (t : Sink). t .bytes) (p .is)
+      ∙ ap (λ (bs : List Breach). gather encoded bs ++ drop (length (gather encoded (held s))) (s .bytes)) split
+      ∙ rw (gather-append, append-assoc, append-assoc)
+
+  stands : drop (size before) (s .bytes) ≡ encoded b ++ behind
+  unfolding size
+  stands = ap (drop (size before)) bytes-split ∙ drop-append-seam (gather encoded before) (encoded b ++ behind)
+
+  pub report-at : report (drop (size before) (s .bytes)) ≡ b
+  report-at = ap report stands ∙ report-encoded b behind
+
+  pub report-whole : size before + 10 + longAt (s .bytes) (size before) ≤ length (s .bytes)
+  unfolding size
+  report-whole =
+      let fits : 10 + long (drop (size before) (s .bytes)) ≤ length (drop (size before) (s .bytes)) = rw stands (fits-encoded b behind) in
+      omega (arith, simp (drop-drop, length-drop) at fits, simp length-append at (ap length bytes-split))
+
+-- ---- tests of all of a list, by its parts
+
+module _ (q : Breach → Bool) where
+  pub any-there : (bs before : List Breach) (b : Breach) (after : List Breach) → bs ≡ before ++ (b ∷ after) → q b ≡ true → anyOf q bs ≡ true
+  unfolding anyOf
+  any-there bs before b after e h = rw (e, any-append, h) (or-true (anyOf q before))
+    where
+      or-true : (t : Bool) → (t || true) ≡ true
+      or-true true = refl
+      or-true false = refl
+
+  pub any-nowhere : (bs : List Breach) → ((before : List Breach) (b : Breach) (after : List Breach) → bs ≡ before ++ (b ∷ after) → q b ≡ false) → anyOf q bs ≡ false
+  unfolding anyOf
+  any-nowhere [] h = refl
+  any-nowhere (b ∷ bs) h = rw (h [] b bs refl, any-nowhere bs (λ before c after e. h (b ∷ before) c after (ap (λ (l : List Breach). b ∷ l) e)))
+
+-- ---- the search
+
+pub first-within : (m : ℕ) (b : Breach) → 0 < m → firstSlot m b < m
+first-within m b h = mod-lt (hashed (b .start) (b .message)) h
+
+-- a slot of the table, and each slot comes within as many steps as there are slots
+module _ (m first : ℕ) (h : first < m) where
+  pub slot-within : (k : ℕ) → k < m → slotAt m first k < m
+  slot-within k l = go (ltb (first + k) m) refl
+    where
+      go : (t : Bool) → ltb (first + k) m ≡ t → slotAt m first k < m
+      go true e = rw e (ltb-true (first + k) m e)
+      go false e =
+          let over : m ≤ first + k = ltb-false (first + k) m e in
+          rw e (omega arith)
+
+  -- how many steps a slot is away
+  abbrev away : ℕ → ℕ
+  away j = cond (ltb j first) (j + m - first) (j - first)
+
+  away-within : (j : ℕ) → j < m → away j < m
+  away-within j l = go (ltb j first) refl
+    where
+      go : (t : Bool) → ltb j first ≡ t → away j < m
+      go true e =
+          let under : j < first = ltb-true j first e in
+          rw e (omega arith)
+      go false e = rw e (omega arith)
+
+  away-slot : (j : ℕ) → j < m → slotAt m first (away j) ≡ j
+  away-slot j l = go (ltb j first) refl
+    where
+      go : (t : Bool) → ltb j first ≡ t → slotAt m first (away j) ≡ j
+      go true e =
+          let under : j < first = ltb-true j first e in
+          let over : ltb (first + (j + m - first)) m ≡ false = le-ltb (first + (j + m - first)) m (omega arith) in
+          rw (e, over) (omega arith)
+      go false e =
+          let under : first ≤ j = ltb-false j first e in
+          let over : ltb (first + (j - first)) m ≡ true = lt-ltb (first + (j - first)) m (omega arith) in
+          rw (e, over) (omega arith)
+
+-- where no slot is free, all are taken
+pub all-taken : (table : List ℕ) → ((j : ℕ) → j < length table → 0 < getD table j 0) → taken table ≡ length table
+unfolding taken
+all-taken [] h = refl
+all-taken (e ∷ es) h = rw (ne-eqb e 0 (λ z. omega (arith, h 0 (omega arith)))) (ap suc (all-taken es (λ j l. h (suc j) (omega arith))))
+
+-- one slot more is taken
+taken-under : (x : ℕ) (xs ys : List ℕ) → taken xs ≡ taken ys + 1 → taken (x ∷ xs) ≡ taken (x ∷ ys) + 1
+unfolding taken
+taken-under x xs ys q = go (eqb x 0)
+  where
+    go : (t : Bool) → cond t (taken xs) (suc (taken xs)) ≡ cond t (taken ys) (suc (taken ys)) + 1
+    go true = q
+    go false = omega arith
+
+pub taken-set : (table : List ℕ) (j e : ℕ) → j < length table → getD table j 0 ≡ 0 → 0 < e → taken (set table j e) ≡ taken table + 1
+unfolding taken
+taken-set [] j e h f p = absurd (omega arith)
+taken-set (x ∷ xs) zero e h f p = rw (ne-eqb e 0 (λ z. omega arith), eq-eqb x 0 f) (omega arith)
+taken-set (x ∷ xs) (suc j) e h f p = taken-under x (set xs j e) xs (taken-set xs j e (omega arith) f p)
+
+-- what a search for the pair b knows after k steps: each slot passed has a report, and not this one
+pub record Searched (s table : List ℕ) (b : Breach) (k : ℕ) : Type 0 where
+  pub passed : (i : ℕ) → i < k → 0 < getD table (slotAt (length table) (firstSlot (length table) b) i) 0
+  pub other : (i : ℕ) → i < k → samePair b (report (drop (getD table (slotAt (length table) (firstSlot (length table) b) i) 0 - 1) s)) ≡ false
+
+pub searched-none : (s table : List ℕ) (b : Breach) → Searched s table b 0
+searched-none s table b = record { passed = λ i h. absurd (omega arith); other = λ i h. absurd (omega arith) }
+
+-- the slot of the next step
+module _ (s table : List ℕ) (b : Breach) (k entry : ℕ) (before : Searched s table b k) (at : ℕ) (is : at ≡ slotAt (length table) (firstSlot (length table) b) k) (here : entry ≡ getD table at 0) where
+  pub searched-more : (entry ≡ 0 → ⊥) → samePair b (report (drop (entry - 1) s)) ≡ false → Searched s table b (k + 1)
+  searched-more full unlike = record {
+    passed = λ i h. below-more (λ n. 0 < getD table (slotAt (length table) (firstSlot (length table) b) n) 0) k (before .passed) (rw (← is, ← here) (omega arith)) i h;
+    other = λ i h. below-more (λ n. samePair b (report (drop (getD table (slotAt (length table) (firstSlot (length table) b) n) 0 - 1) s)) ≡ false) k (before .other) (rw (← is, ← here) unlike) i h;
+  }
+
+-- pairs that are alike are looked for from the same slot
+same-first : (m : ℕ) (a b : Breach) → samePair a b ≡ true → firstSlot m b ≡ firstSlot m a
+same-first m a b h =
+    let starts : a .start ≡ b .start = eqb-true (a .start) (b .start) (and-left (eqb (a .start) (b .start)) (same (a .message) (b .message)) h) in
+    let messages : a .message ≡ b .message = same-eq (a .message) (b .message) (and-right (eqb (a .start) (b .start)) (same (a .message) (b .message)) h) in
+    rw (starts, messages)
+
+module _ (sink : Sink) (p : Sound sink) (table : List ℕ) (tabled : Tabled (held sink) table) (b : Breach) where
+  -- an entry's report, and that it is whole
+  pub entry-whole : (j : ℕ) → 0 < getD table j 0 → (getD table j 0 - 1) + 10 + longAt (sink .bytes) (getD table j 0 - 1) ≤ length (sink .bytes)
+  entry-whole j h =
+      let e = tabled .entries j h in
+      let at : getD table j 0 - 1 ≡ size (e .before) = omega (arith, e .place) in
+      rw at (report-whole sink p (e .before) (e .here) (e .after) (e .split))
+
+  pub entry-seen : (j : ℕ) → 0 < getD table j 0 → samePair b (report (drop (getD table j 0 - 1) (sink .bytes))) ≡ true → anyOf (samePair b) (held sink) ≡ true
+  entry-seen j h q =
+      let e = tabled .entries j h in
+      let at : getD table j 0 - 1 ≡ size (e .before) = omega (arith, e .place) in
+      any-there (samePair b) (held sink) (e .before) (e .here) (e .after) (e .split) (rw (at, report-at sink p (e .before) (e .here) (e .after) (e .split)) at q)
+
+  -- a free slot after k steps: none of the reports is the pair
+  module _ (k : ℕ) (searched : Searched (sink .bytes) table b k) (free : getD table (slotAt (length table) (firstSlot (length table) b) k) 0 ≡ 0) where
+    -- a report that is the pair would have been met: before, at, or behind the free slot
+    module _ (before : List Breach) (c : Breach) (after : List Breach) (e : held sink ≡ before ++ (c ∷ after)) (q : samePair b c ≡ true) where
+      its-slot : Met table (firstSlot (length table) b) (size before + 1)
+      its-slot = subst (λ f. Met table f (size before + 1)) (same-first (length table) b c q) (tabled .met before c after e)
+
+      met-before : its-slot .steps < k → ⊥
+      met-before l =
+          let at : getD table (slotAt (length table) (firstSlot (length table) b) (its-slot .steps)) 0 - 1 ≡ size before = omega (arith, its-slot .here) in
+          let other : samePair b c ≡ false = rw (at, report-at sink p before c after e) at (searched .other (its-slot .steps) l) in
+          true≢false (sym q ∙ other)
+
+      met-behind : k ≤ its-slot .steps → ⊥
+      met-behind l = ⊎-elim (λ same. omega (arith, its-slot .here, free, ap (λ n. getD table (slotAt (length table) (firstSlot (length table) b) n) 0) same)) (λ less. omega (arith, its-slot .passed k less)) (eq-or-lt-of-le l)
+
+      not-met : ⊥
+      not-met = go (ltb (its-slot .steps) k) refl
+        where
+          go : (t : Bool) → ltb (its-slot .steps) k ≡ t → ⊥
+          go true l = met-before (ltb-true (its-slot .steps) k l)
+          go false l = met-behind (ltb-false (its-slot .steps) k l)
+
+    pub free-new : anyOf (samePair b) (held sink) ≡ false
+    free-new = any-nowhere (samePair b) (held sink) (λ before c after e. go before c after e (samePair b c) refl)
+      where
+        go : (before : List Breach) (c : Breach) (after : List Breach) → held sink ≡ before ++ (c ∷ after) → (t : Bool) → samePair b c ≡ t → samePair b c ≡ false
+        go before c after e true q = absurd (not-met before c after e q)
+        go before c after e false q = q
+
+  -- and one is free while the table has fewer reports than slots
+  pub some-free : (k : ℕ) → length table ≤ k → Searched (sink .bytes) table b k → length (held sink) < length table → ⊥
+  some-free k over searched fewer =
+      let m : ℕ = length table in
+      let within = first-within m b (omega arith) in
+      let all = all-taken table (λ j l. subst (λ n. 0 < getD table n 0) (away-slot m (firstSlot m b) within j l) (searched .passed (away m (firstSlot m b) within j) (omega (arith, away-within m (firstSlot m b) within j l)))) in
+      omega (arith, all, tabled .number)
+
+-- ---- one report more
+
+-- a part of a list with one more at its end: that one, or a part of the list
+module _ (x : Breach) where
+  data Part (xs before : List Breach) (b : Breach) : Type 0 where
+    last : before ≡ xs → b ≡ x → Part xs before b
+    within : (rest : List Breach) → xs ≡ before ++ (b ∷ rest) → Part xs before b
+
+  part-under : (y : Breach) {xs before : List Breach} {b : Breach} → Part xs before b → Part (y ∷ xs) (y ∷ before) b
+  part-under y (last e q) = last (ap (λ (l : List Breach). y ∷ l) e) q
+  part-under y (within rest e) = within rest (ap (λ (l : List Breach). y ∷ l) e)
+
+  part-of-snoc : (xs before : List Breach) (b : Breach) (after : List Breach) → xs ++ (x ∷ []) ≡ before ++ (b ∷ after) → Part xs before b
+  part-of-snoc [] [] b after e = last refl (cc)
+  part-of-snoc [] (c ∷ before) b after e = absurd (omega (arith, simp length-append at (ap length e)))
+  part-of-snoc (y ∷ xs) [] b after e = within xs (cc)
+  part-of-snoc (y ∷ xs) (c ∷ before) b after e =
+      let heads : y ≡ c = cc in
+      let tails : xs ++ (x ∷ []) ≡ before ++ (b ∷ after) = cc in
+      subst (λ d. Part (y ∷ xs) (d ∷ before) b) heads (part-under y (part-of-snoc xs before b after tails))
+
+-- an entry of the table stays where a free slot is taken
+module _ (table : List ℕ) (j e : ℕ) (h : j < length table) (free : getD table j 0 ≡ 0) (p : 0 < e) where
+  kept : (i : ℕ) → 0 < getD table i 0 → getD (set table j e) i 0 ≡ getD table i 0
+  kept i l = getD-set-other table j i e 0 (λ q. omega (arith, ap (λ n. getD table n 0) q, free))
+
+  still : (i : ℕ) → 0 < getD table i 0 → 0 < getD (set table j e) i 0
+  still i l = rw (kept i l) l
+
+  met-still : (first entry : ℕ) → 0 < entry → Met table first entry → Met (set table j e) first entry
+  met-still first entry some m = record {
+    steps = m .steps;
+    within = rw length-set (m .within);
+    here = rw length-set (kept (slotAt (length table) first (m .steps)) (rw (m .here) some) ∙ m .here);
+    passed = λ k l. rw length-set (still (slotAt (length table) first k) (m .passed k l));
+  }
+
+-- the entry of one of the reports is that of one of more
+entry-more : (bs : List Breach) (b : Breach) {entry : ℕ} → EntryOf bs entry → EntryOf (bs ++ (b ∷ [])) entry
+entry-more bs b x = record {
+  before = x .before;
+  here = x .here;
+  after = x .after ++ (b ∷ []);
+  split = ap (λ (l : List Breach). l ++ (b ∷ [])) (x .split) ∙ append-assoc (x .before) (x .here ∷ x .after) (b ∷ []);
+  place = x .place;
+}
+
+-- the slot that a search gave takes the report
+module _ (bs : List Breach) (table : List ℕ) (tabled : Tabled bs table) (b : Breach) (j : ℕ) (slot : FreeFor bs table (record { start = b .start; end = 0; message = b .message }) j) where
+  abbrev entry : ℕ
+  entry = size bs + 1
+
+  slot-inside : j < length table
+  slot-inside = rw (slot .is) (slot-within (length table) (firstSlot (length table) b) (first-within (length table) b (omega (arith, slot .within))) (slot .steps) (slot .within))
+
+  here-now : getD (set table j entry) j 0 ≡ entry
+  here-now = getD-set-same table j entry 0 slot-inside
+
+  met-new : Met (set table j entry) (firstSlot (length (set table j entry)) b) entry
+  met-new = record {
+    steps = slot .steps;
+    within = rw length-set (slot .within);
+    here = rw (length-set, ← slot .is) here-now;
+    passed = λ k l. rw length-set (still table j entry slot-inside (slot .free) (omega arith) (slotAt (length table) (firstSlot (length table) b) k) (slot .passed k l));
+  }
+
+  met-all : (before : List Breach) (c : Breach) → Part b bs before c → Met (set table j entry) (firstSlot (length (set table j entry)) c) (size before + 1)
+  met-all before c (last e q) = rw (e, q) met-new
+  met-all before c (within rest e) = rw length-set (met-still table j entry slot-inside (slot .free) (omega arith) (firstSlot (length table) c) (size before + 1) (omega arith) (tabled .met before c rest e))
+
+  entries-all : (i : ℕ) → 0 < getD (set table j entry) i 0 → EntryOf (bs ++ (b ∷ [])) (getD (set table j entry) i 0)
+  entries-all i l = go (eqb i j) refl
+    where
+      go : (t : Bool) → eqb i j ≡ t → EntryOf (bs ++ (b ∷ [])) (getD (set table j entry) i 0)
+      go true e = rw (eqb-true i j e, here-now) (record { before = bs; here = b; after = []; split = refl; place = refl })
+      go false e =
+          let other : getD (set table j entry) i 0 ≡ getD table i 0 = getD-set-other table j i entry 0 (eqb-false i j e) in
+          rw other (entry-more bs b (tabled .entries i (rw other at l)))
+
+  pub tabled-more : Tabled (bs ++ (b ∷ [])) (set table j entry)
+  tabled-more = record {
+    number = taken-set table j entry slot-inside (slot .free) (omega arith) ∙ rw (tabled .number) (sym (length-append bs (b ∷ [])));
+    entries = entries-all;
+    met = λ before c after e. met-all before c (part-of-snoc b bs before c after e);
+  }
+
+-- no report is in a table of free slots
+pub taken-none : (table : List ℕ) → ((j : ℕ) → getD table j 0 ≡ 0) → taken table ≡ 0
+unfolding taken
+taken-none [] h = refl
+taken-none (e ∷ es) h = rw (eq-eqb e 0 (h 0)) (taken-none es (λ j. h (suc j)))
+
+pub tabled-none : (table : List ℕ) → ((j : ℕ) → getD table j 0 ≡ 0) → Tabled [] table
+tabled-none table free = record {
+  number = taken-none table free;
+  entries = λ j l. absurd (omega (arith, free j));
+  met = λ before b after e. absurd (omega (arith, simp length-append at (ap length e)));
+}
+
+-- ---- a buffer and its table
+
+module _ (s : Sink) (p : Sound s) where
+  held-count : length (held s) ≡ s .state .count
+  unfolding written
+  held-count = sym (ap (λ (t : Sink). t .state .count) (p .is))
+
+  held-used : s .state .used ≡ size (held s)
+  unfolding written size
+  held-used = ap (λ (t : Sink). t .state .used) (p .is)
+
+  -- one report more, or one that does not fit
+  module _ (b : Breach) where
+    log-append : logOf (append s b) ≡ step (length (s .bytes)) (logOf s) b
+    log-append =
+        ap logOf (ap (λ (t : Sink). append t b) (p .is) ∙ append-written (s .bytes) (logOf s) b (sound-size s p))
+        ∙ log-written (s .bytes) (step (length (s .bytes)) (logOf s) b)
+
+    fits-step : (full fits : Bool) → s .state .full ≡ full → leb (size (held s) + width b) (length (s .bytes)) ≡ fits → append s b .state .full ≡ false → held (append s b) ≡ held s ++ (b ∷ [])
+    unfolding step
+    fits-step true fits e g h = absurd (true≢false (sym (ap (λ (l : Log). l .full) log-append ∙ rw e) ∙ h))
+    fits-step false true e g h = ap (λ (l : Log). l .kept) log-append ∙ rw (e, g)
+    fits-step false false e g h = absurd (true≢false (sym (ap (λ (l : Log). l .full) log-append ∙ rw (e, g)) ∙ h))
+
+    pub held-more : append s b .state .full ≡ false → held (append s b) ≡ held s ++ (b ∷ [])
+    held-more = fits-step (s .state .full) (leb (size (held s) + width b) (length (s .bytes))) refl refl
+
+    stops-step : (full fits : Bool) → s .state .full ≡ full → leb (size (held s) + width b) (length (s .bytes)) ≡ fits → append s b .state .full ≡ true → held (append s b) ≡ held s
+    unfolding step
+    stops-step true fits e g h = ap (λ (l : Log). l .kept) log-append ∙ rw e
+    stops-step false true e g h = absurd (true≢false (sym h ∙ ap (λ (l : Log). l .full) log-append ∙ rw (e, g)))
+    stops-step false false e g h = ap (λ (l : Log). l .kept) log-append ∙ rw (e, g)
+
+    pub held-still : append s b .state .full ≡ true → held (append s b) ≡ held s
+    held-still = stops-step (s .state .full) (leb (size (held s) + width b) (length (s .bytes))) refl refl
+
+    append-length : length (append s b .bytes) ≡ length (s .bytes)
+    unfolding written
+    append-length =
+        ap (λ (t : Sink). length (t .bytes)) (ap (λ (t : Sink). append t b) (p .is) ∙ append-written (s .bytes) (logOf s) b (sound-size s p))
+        ∙ length-written (s .bytes) (step (length (s .bytes)) (logOf s) b .kept) (step-fits (length (s .bytes)) (logOf s) b (sound-size s p))
+
+-- the table at the start of a run
+pub filed-start : (old table : List ℕ) → ((j : ℕ) → getD table j 0 ≡ 0) → Filed (start old) table
+unfolding reports
+filed-start old table free = record { tabled = λ few short. tabled-none table free }
+
+-- the code's answer t, whether the table is of use: it takes one more, and every place fits a slot
+module _ (s : List ℕ) (st : State) (table : List ℕ) (p : Sound (sink s st)) (filed : Filed (sink s st) table) where
+  abbrev before : Sink
+  before = sink s st
+
+  module _ {t : Bool} (is : t ≡ isOpen before table) where
+    few-open : t ≡ true → st .count < room (length table)
+    few-open e = ltb-true (st .count) (room (length table)) (and-left (ltb (st .count) (room (length table))) (ltb (length s) 4294967295) (sym is ∙ e))
+
+    open-short : t ≡ true → length s < 4294967295
+    open-short e = ltb-true (length s) 4294967295 (and-right (ltb (st .count) (room (length table))) (ltb (length s) 4294967295) (sym is ∙ e))
+
+    pub open-tabled : t ≡ true → Tabled (held before) table
+    open-tabled e = filed .tabled (omega (arith, few-open e, held-count before p)) (open-short e)
+
+    -- the slot that was found, and the place that is put into it
+    pub free-within : t ≡ true → (b : Breach) (j : ℕ) → FreeFor (held before) table b j → j < length table
+    free-within e b j slot =
+        rw (slot .is) (slot-within (length table) (firstSlot (length table) b) (first-within (length table) b (omega (arith, slot .within))) (slot .steps) (slot .within))
+
+    pub place-fits : t ≡ true → st .used < 4294967295
+    place-fits e = omega (arith, open-short e, p .within)
+
+    pub open-room : t ≡ true → length (held before) < length table
+    open-room e = omega (arith, few-open e, held-count before p)
+
+  -- a report that the search did not find
+  module _ (b : Breach) {after : Sink} (is : after ≡ append before b) where
+    pub filed-more : Tabled (held before) table → (j : ℕ) → FreeFor (held before) table (record { start = b .start; end = 0; message = b .message }) j
+        → after .state .full ≡ false → (table′ : List ℕ) → table′ ≡ set table j (st .used + 1) → Filed after table′
+    filed-more tabled j slot kept′ table′ e = record {
+      tabled = λ few short. rw (is, held-more before p b (ap (λ (x : Sink). x .state .full) (sym is) ∙ kept′), e, held-used before p) (tabled-more (held before) table tabled b j slot);
+    }
+
+    pub filed-still : after .state .full ≡ true → Filed after table
+    filed-still full = record {
+      tabled = λ few short.
+          let same : held after ≡ held before = ap held is ∙ held-still before p b (ap (λ (x : Sink). x .state .full) (sym is) ∙ full) in
+          let long : length (after .bytes) ≡ length s = ap (λ (x : Sink). length (x .bytes)) is ∙ append-length before p b in
+          rw same (filed .tabled (rw same at few) (omega arith));
+    }
+
+    -- where the table takes no more
+    pub filed-beyond : {t : Bool} → t ≡ isOpen before table → t ≡ false → Filed after table
+    filed-beyond {t} known e = go (after .state .full) refl
+      where
+        go : (full : Bool) → after .state .full ≡ full → Filed after table
+        go true f = filed-still f
+        go false f = record {
+          tabled = λ few short.
+              let more : held after ≡ held before ++ (b ∷ []) = ap held is ∙ held-more before p b (ap (λ (x : Sink). x .state .full) (sym is) ∙ f) in
+              let long : length (after .bytes) ≡ length s = ap (λ (x : Sink). length (x .bytes)) is ∙ append-length before p b in
+              let fewer : st .count < room (length table) = omega (arith, simp length-append at (rw more at few), held-count before p) in
+              let shorter : length s < 4294967295 = omega arith in
+              absurd (true≢false (sym (known ∙ rw (lt-ltb (st .count) (room (length table)) fewer, lt-ltb (length s) 4294967295 shorter)) ∙ e));
+        }

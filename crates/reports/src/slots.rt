@@ -1,0 +1,120 @@
+// The table of the reports so far, by a number made of their start and message: a repeat is found without asking all reports.
+use crate::Slot;
+use crate::State;
+use crate::earlier::is_repeat;
+use names::u32_at;
+use names::wide;
+ghost use mathlib.Core.Path.{_≡_};
+ghost use Prim.Native.Nat.{_+_, _*_, _<_, _≤_};
+ghost use lib.ListN.{length, getD, set, drop};
+ghost use Rattle.reports.specs.Sink.{sink, Sound, held};
+ghost use Rattle.reports.specs.Slots.{mixed, mixedBytes, mixedWords, hashed, slotAt, Tabled, Finds, isOpen};
+
+fn from_u32(n: u32) -> usize
+    ensures { λ r. ⌜ r ≡ n ⌝ }
+    ensures { λ r. ⌜ r < 4294967296 ⌝ }
+{
+    n as usize
+}
+
+// One number more in a hash.
+fn mix(h: usize, n: usize) -> usize
+    requires { ⌜ (h < 4294967296) × (n < 4294967296) ⌝ }
+    ensures { λ r. ⌜ r ≡ mixed h n ⌝ }
+    ensures { λ r. ⌜ r < 4294967296 ⌝ }
+{
+    (h * 2654435761 + n) % 4294967296
+}
+
+// The bytes of a message from a place on.
+fn mix_bytes(h: usize, message: &[u8], from: usize) -> usize
+    requires { ⌜ (h < 4294967296) × (from ≤ length (now message)) ⌝ }
+    ensures { λ r. ⌜ r ≡ mixedBytes h (drop from (now (message .entry))) ⌝ }
+{
+    let mut mixed = h;
+    let mut at = from;
+    while at < message.len() {
+        mixed = mix(mixed, wide(message[at]));
+        at += 1;
+    }
+    mixed
+}
+
+// The number of a start and a message.
+fn hash(start: u32, message: &[u8]) -> usize
+    ensures { λ r. ⌜ r ≡ hashed start (now (message .entry)) ⌝ }
+{
+    let mut mixed = from_u32(start);
+    let mut at = 0;
+    let mut left = message.len() / 4;
+    while 0 < left {
+        mixed = mix(mixed, from_u32(u32_at(message, at)));
+        at += 4;
+        left -= 1;
+    }
+    mix_bytes(mixed, message, at)
+}
+
+// The slot that is k behind the first of a search.
+fn slot_at(size: usize, first: usize, k: usize) -> usize
+    requires { ⌜ (first < size) × (k < size) ⌝ }
+    ensures { λ r. ⌜ r ≡ slotAt size first k ⌝ }
+    ensures { λ r. ⌜ r < size ⌝ }
+{
+    let behind = size - first;
+    if k < behind {
+        return first + k;
+    }
+    k - behind
+}
+
+fn entry_at(table: &[u32], at: usize) -> usize
+    requires { ⌜ at < length (now table) ⌝ }
+    ensures { λ r. ⌜ r ≡ getD (now (table .entry)) at 0 ⌝ }
+{
+    from_u32(table[at])
+}
+
+// Whether a report with this start and message is in the table, or the slot that it is put into: the first free one from its own slot on.
+pub fn find(buf: &[u8], state: State, table: &[u32], start: u32, message: &[u8]) -> Slot
+    requires { ⌜ Sound (sink (now buf) state) ⌝ }
+    requires { ⌜ Tabled (held (sink (now buf) state)) (now table) ⌝ }
+    requires { ⌜ length (held (sink (now buf) state)) < length (now table) ⌝ }
+    ensures { λ r. ⌜ Finds (held (sink (now (buf .entry)) state)) (now (table .entry)) (record { start = start; end = 0; message = now (message .entry) }) r ⌝ }
+{
+    let size = table.len();
+    let first = hash(start, message) % size;
+    let mut k = 0;
+    while k < size {
+        let at = slot_at(size, first, k);
+        let entry = entry_at(table, at);
+        if entry == 0 {
+            return Slot::Free(at);
+        }
+        if is_repeat(buf, entry - 1, start, message) {
+            return Slot::Seen;
+        }
+        k += 1;
+    }
+    Slot::Seen
+}
+
+// A report that stands at a place is put into a slot.
+pub fn file(table: &mut [u32], slot: usize, place: usize)
+    requires { ⌜ (slot < length (now table)) × (place < 4294967295) ⌝ }
+    ensures { λ r. ⌜ now (table .exit) ≡ set (now (table .entry)) slot (place + 1) ⌝ }
+{
+    table[slot] = (place + 1) as u32;
+}
+
+// Whether the table takes one more report of this buffer.
+pub fn is_open(buf: &[u8], table: &[u32], state: State) -> bool
+    requires { ⌜ Sound (sink (now buf) state) ⌝ }
+    ensures { λ r. ⌜ r ≡ isOpen (sink (now (buf .entry)) state) (now (table .entry)) ⌝ }
+{
+    let size = table.len();
+    if state.count < size - size / 4 {
+        return buf.len() < 4294967295;
+    }
+    false
+}
