@@ -19,6 +19,7 @@ use Rattle.reports.specs.Reports.{Breach}
 use Rattle.messages.specs.Words.{Rule, spanIn}
 use Rattle.rules.specs.Rules.{both, ordering, operandsBy, argumentBreach, argumentBreaches, leafBreaches, arithmeticBreaches, timepointBreaches, nodeBreaches}
 use Rattle.rules.specs.declared.Compared.{Compared}
+use Rattle.rules.specs.declared.Operand.{Operand}
 use Rattle.rules.specs.declared.Applied.{Applied}
 
 module _ (s c n : List ℕ) (f : Facts) where
@@ -33,6 +34,13 @@ module _ (s c n : List ℕ) (f : Facts) where
 
   abbrev pub arithmeticAt : ℕ → Rule
   arithmeticAt at = arithmeticBreaches (factsIn s c n f) (termIn c at)
+
+  -- an operand: its leaves, and those that are inspected
+  abbrev pub leavesOf : Operand → List Breach
+  leavesOf p = leafAt (p .at) (spanIn (p .span))
+
+  abbrev pub arithmeticOf : Operand → List Breach
+  arithmeticOf p = arithmeticAt (p .at) (spanIn (p .span))
 
   abbrev pub timepointAt : ℕ → Rule
   timepointAt at = timepointBreaches (factsIn s c n f) (slotIn c at)

@@ -11,9 +11,8 @@ ghost use Rattle.nodes.specs.Open.{TermOpened};
 ghost use Rattle.condition.specs.Places.{isTerm};
 ghost use Rattle.reports.specs.Sink.{sink, Sound, Pushed};
 ghost use Rattle.terms.specs.Facts.{Known};
-ghost use Rattle.messages.specs.Words.{spanIn};
 ghost use Rattle.rules.specs.Findings.{Finds};
-ghost use Rattle.rules.specs.Places.{leafAt, arithmeticAt};
+ghost use Rattle.rules.specs.Places.{leafAt, leavesOf, arithmeticOf};
 
 // A leaf, by its kind: a wildcard, or a term that is not Long.
 fn leaf<'a>(
@@ -58,7 +57,7 @@ fn leaves<'a>(
     requires { ⌜ Sound (sink (now buf) state) ⌝ }
     requires { ⌜ Known (now schema) (now condition) (now env) facts ⌝ }
     requires { ⌜ isTerm (now condition) (term .at) ≡ true ⌝ }
-    ensures { λ after. ⌜ Pushed (now (buf .entry)) state (leafAt (now (schema .entry)) (now (condition .entry)) (now (targets .entry)) facts (term .at) (spanIn (term .span))) (now (buf .exit)) after ⌝ }
+    ensures { λ after. ⌜ Pushed (now (buf .entry)) state (leavesOf (now (schema .entry)) (now (condition .entry)) (now (targets .entry)) facts term) (now (buf .exit)) after ⌝ }
 {
     let at = term.at;
     let span = term.span;
@@ -94,7 +93,7 @@ pub fn arithmetic<'a>(
     requires { ⌜ Sound (sink (now buf) state) ⌝ }
     requires { ⌜ Known (now schema) (now condition) (now env) facts ⌝ }
     requires { ⌜ isTerm (now condition) (operand .at) ≡ true ⌝ }
-    ensures { λ after. ⌜ Pushed (now (buf .entry)) state (arithmeticAt (now (schema .entry)) (now (condition .entry)) (now (targets .entry)) facts (operand .at) (spanIn (operand .span))) (now (buf .exit)) after ⌝ }
+    ensures { λ after. ⌜ Pushed (now (buf .entry)) state (arithmeticOf (now (schema .entry)) (now (condition .entry)) (now (targets .entry)) facts operand) (now (buf .exit)) after ⌝ }
 {
     if nodes::term_kind_at(condition, operand.at) == 12 {
         return leaves(buf, state, schema, condition, targets, env, facts, operand);

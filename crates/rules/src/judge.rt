@@ -7,13 +7,13 @@ ghost use Rattle.names.specs.Read.{wordAt};
 ghost use Rattle.types.specs.Laws.Texts.{Small};
 ghost use Rattle.types.specs.Meaning.{richOf};
 ghost use Rattle.resolution.specs.Places.{typedOf, smallType};
-ghost use Rattle.rules.specs.Rules.{both, notLongHere, numericBreaches, likeBreaches, operandsBy, argumentBreach, timepointBreach};
-ghost use Rattle.rules.specs.Findings.{Finds};
+ghost use Rattle.rules.specs.Rules.{notLongHere, numericBreaches, likeBreaches, operandsBy, argumentBreach, timepointBreach};
+ghost use Rattle.rules.specs.Findings.{FindsOf, FindsBoth, FindsTwo};
 
 // An operand of arithmetic: Long, or without a type.
 pub fn not_long<'a>(schema: &'a [u8], condition: &'a [u8], typed: Typed) -> Finding
     requires { ⌜ smallType (typedOf (now schema) (now condition) typed) ⌝ }
-    ensures { λ r. ⌜ Finds (now (schema .entry)) (now (condition .entry)) (notLongHere (typedOf (now (schema .entry)) (now (condition .entry)) typed)) r ⌝ }
+    ensures { λ r. ⌜ FindsOf (now (schema .entry)) (now (condition .entry)) notLongHere typed r ⌝ }
 {
     let Typed::As(t) = typed else {
         return Finding::Clean;
@@ -28,7 +28,7 @@ pub fn not_long<'a>(schema: &'a [u8], condition: &'a [u8], typed: Typed) -> Find
 fn not_numeric<'a>(schema: &'a [u8], condition: &'a [u8], l: Rich, r: Rich) -> Finding
     requires { ⌜ Small (richOf (now schema) (now condition) l) ⌝ }
     requires { ⌜ Small (richOf (now schema) (now condition) r) ⌝ }
-    ensures { λ f. ⌜ Finds (now (schema .entry)) (now (condition .entry)) (numericBreaches (richOf (now (schema .entry)) (now (condition .entry)) l) (richOf (now (schema .entry)) (now (condition .entry)) r)) f ⌝ }
+    ensures { λ f. ⌜ FindsTwo (now (schema .entry)) (now (condition .entry)) numericBreaches l r f ⌝ }
 {
     if types::are_ordered(schema, condition, l, r) {
         return Finding::Clean;
@@ -40,7 +40,7 @@ fn not_numeric<'a>(schema: &'a [u8], condition: &'a [u8], l: Rich, r: Rich) -> F
 fn unlike<'a>(schema: &'a [u8], condition: &'a [u8], l: Rich, r: Rich) -> Finding
     requires { ⌜ Small (richOf (now schema) (now condition) l) ⌝ }
     requires { ⌜ Small (richOf (now schema) (now condition) r) ⌝ }
-    ensures { λ f. ⌜ Finds (now (schema .entry)) (now (condition .entry)) (likeBreaches (richOf (now (schema .entry)) (now (condition .entry)) l) (richOf (now (schema .entry)) (now (condition .entry)) r)) f ⌝ }
+    ensures { λ f. ⌜ FindsTwo (now (schema .entry)) (now (condition .entry)) likeBreaches l r f ⌝ }
 {
     if types::compatible(schema, condition, l, r) {
         return Finding::Clean;
@@ -58,7 +58,7 @@ pub fn operands<'a>(
 ) -> Finding
     requires { ⌜ smallType (typedOf (now schema) (now condition) left) ⌝ }
     requires { ⌜ smallType (typedOf (now schema) (now condition) right) ⌝ }
-    ensures { λ r. ⌜ Finds (now (schema .entry)) (now (condition .entry)) (both (typedOf (now (schema .entry)) (now (condition .entry)) left) (typedOf (now (schema .entry)) (now (condition .entry)) right) (operandsBy ordering)) r ⌝ }
+    ensures { λ r. ⌜ FindsBoth (now (schema .entry)) (now (condition .entry)) (operandsBy ordering) left right r ⌝ }
 {
     let Typed::As(l) = left else {
         return Finding::Clean;
@@ -83,7 +83,7 @@ pub fn wrong_argument<'a>(
 ) -> Finding
     requires { ⌜ smallType (typedOf (now schema) (now condition) expected) ⌝ }
     requires { ⌜ smallType (typedOf (now schema) (now condition) actual) ⌝ }
-    ensures { λ r. ⌜ Finds (now (schema .entry)) (now (condition .entry)) (both (typedOf (now (schema .entry)) (now (condition .entry)) expected) (typedOf (now (schema .entry)) (now (condition .entry)) actual) (argumentBreach (wordAt (now (condition .entry)) name) (wordAt (now (condition .entry)) action))) r ⌝ }
+    ensures { λ r. ⌜ FindsBoth (now (schema .entry)) (now (condition .entry)) (argumentBreach (wordAt (now (condition .entry)) name) (wordAt (now (condition .entry)) action)) expected actual r ⌝ }
 {
     let Typed::As(e) = expected else {
         return Finding::Clean;
@@ -105,7 +105,7 @@ pub fn wrong_timepoint<'a>(
     typed: Typed,
 ) -> Finding
     requires { ⌜ smallType (typedOf (now schema) (now condition) typed) ⌝ }
-    ensures { λ r. ⌜ Finds (now (schema .entry)) (now (condition .entry)) (timepointBreach (wordAt (now (condition .entry)) name) (typedOf (now (schema .entry)) (now (condition .entry)) typed)) r ⌝ }
+    ensures { λ r. ⌜ FindsOf (now (schema .entry)) (now (condition .entry)) (timepointBreach (wordAt (now (condition .entry)) name)) typed r ⌝ }
 {
     let Typed::As(t) = typed else {
         return Finding::Clean;

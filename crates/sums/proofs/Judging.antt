@@ -116,21 +116,21 @@ pub ruleset appending = (needs, header-room, count-room, said-nothing, message-s
 
 -- The summand's slot.
 module _ (s : List ℕ) (at p : ℕ) (h : SummandHere s at p) (x : SlotAt) (i : slotIn s p ≡ slotOf s x) (old : List ℕ) (st : State) where
-  pub slot-param : x ≡ ParamRef → Sound (sink old st) → Appended old st (aggregateBreaches (recordIn s) (aggregateIn s at)) old st
+  pub slot-param : x ≡ ParamRef → Sound (sink old st) → Appended old st (aggregateBreaches (binders (recordIn s)) (aggregateIn s at)) old st
   unfolding aggregateBreaches
   slot-param e k = rw (h .value, i, e) (recorded-none old st k)
 
-  pub slot-binder : x ≡ BinderRef → Sound (sink old st) → Appended old st (aggregateBreaches (recordIn s) (aggregateIn s at)) old st
+  pub slot-binder : x ≡ BinderRef → Sound (sink old st) → Appended old st (aggregateBreaches (binders (recordIn s)) (aggregateIn s at)) old st
   unfolding aggregateBreaches
   slot-binder e k = rw (h .value, i, e) (recorded-none old st k)
 
   module _ (q : ℕ) (e : x ≡ Named q) (w : List ℕ) (is : w ≡ wordAt s q) (b : Bound) (says : Says s (lastNamed w (binders (recordIn s))) b) (ends : Ends) (spans : Spans (aggregateSpanOf (aggregateIn s at)) ends) where
-    pub slot-named : (said : Said) → Tells s s (summandBreach (wordAt s q) (boundIn s b)) said → (new : List ℕ) (r : State) → Appended old st (saidBreaches s s said (spanIn ends)) new r → Appended old st (aggregateBreaches (recordIn s) (aggregateIn s at)) new r
+    pub slot-named : (said : Said) → Tells s s (summandBreach (wordAt s q) (boundIn s b)) said → (new : List ℕ) (r : State) → Appended old st (saidBreaches s s said (spanIn ends)) new r → Appended old st (aggregateBreaches (binders (recordIn s)) (aggregateIn s at)) new r
     unfolding aggregateBreaches
     slot-named said tells new r j =
         let span : spanIn ends ≡ aggregateSpanOf (aggregateIn s at) = λ k. record { start = spans .start k; end = spans .end k } in
-        let v : aggregateBreaches (recordIn s) (aggregateIn s at) ≡ summandBreach (wordAt s q) (lastNamed (wordAt s q) (binders (recordIn s))) (aggregateSpanOf (aggregateIn s at)) =
-        ap (aggregateBreaches (recordIn s)) (h .value) ∙ ap (λ (l : Slot). aggregateBreaches (recordIn s) (sum (aggregateSpanOf (aggregateIn s at)) l (h .declared) (h .body))) (i ∙ ap (slotOf s) e) in
+        let v : aggregateBreaches (binders (recordIn s)) (aggregateIn s at) ≡ summandBreach (wordAt s q) (lastNamed (wordAt s q) (binders (recordIn s))) (aggregateSpanOf (aggregateIn s at)) =
+        ap (aggregateBreaches (binders (recordIn s))) (h .value) ∙ ap (λ (l : Slot). aggregateBreaches (binders (recordIn s)) (sum (aggregateSpanOf (aggregateIn s at)) l (h .declared) (h .body))) (i ∙ ap (slotOf s) e) in
         rw (v, ← is, ← says .value, is, ← span, ← tells .is (spanIn ends)) j
 
 pub ruleset slots = (needs, summand-inside, summand-slot, slot-param, slot-binder, slot-named)

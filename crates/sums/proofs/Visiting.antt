@@ -16,7 +16,8 @@ use Rattle.nodes.specs.declared.Operands.{Operands}
 use Rattle.nodes.specs.declared.ComparisonAt.{ComparisonAt}
 use Rattle.nodes.specs.declared.PredicateAt.{PredicateAt}
 use Rattle.nodes.specs.declared.ArgumentAt.{ArgumentAt}
-use Rattle.condition.specs.Condition.{Condition, Term, Terms, Aggregate, Arguments, one, two, predicate, comparison, exists, tp, opaque, entity, literal, contextField, scopeField, var, wildcard, array, aggregate, sigil, sum, count, call, integer, decimal, string, bool, elements, elementList, arithOf, termKinds, tooDeep, conditionAt, termAt}
+use Rattle.condition.specs.Condition.{Binder, Condition, Term, Terms, Aggregate, Arguments, one, two, predicate, comparison, exists, tp, opaque, entity, literal, contextField, scopeField, var, wildcard, array, aggregate, sigil, sum, count, call, integer, decimal, string, bool, elements, elementList, arithOf, termKinds, tooDeep, conditionAt, termAt}
+use Rattle.condition.specs.Walk.{binders}
 use Rattle.condition.specs.Condition as tree
 use Rattle.nodes.specs.Kinds.{kindOf, termKindOf, aggregateKindOf}
 use Rattle.condition.specs.Places.{recordIn, conditionIn, isTerm, termIn, aggregateIn, isArguments, argumentsIn}
@@ -45,35 +46,35 @@ made : {A : Type 0} (g : Got A) (make : A → Term) {t : Term} {n : ℕ} → nex
 made g make e = let a = split g _ e in record { part = a .value; whole = sym (got-value (a .rest)) }
 
 -- what is read without an aggregate has no report
-module _ (root : Condition) where
-  part-free : {A : Type 0} (g : Got A) (make : A → Term) {x : Term} {n : ℕ} → ((a : A) → termBreaches root (make a) ≡ []) → next g (λ a m. got (make a) m) ≡ got x n → termBreaches root x ≡ []
-  part-free g make i j = let v = made g make j in ap (termBreaches root) (v .whole) ∙ i (v .part)
+module _ (bs : List Binder) where
+  part-free : {A : Type 0} (g : Got A) (make : A → Term) {x : Term} {n : ℕ} → ((a : A) → termBreaches bs (make a) ≡ []) → next g (λ a m. got (make a) m) ≡ got x n → termBreaches bs x ≡ []
+  part-free g make i j = let v = made g make j in ap (termBreaches bs) (v .whole) ∙ i (v .part)
 
-  module _ (f : Reader Condition) (t : Bool → Reader Term) (free : (s : List ℕ) (at : ℕ) (x : Term) (n : ℕ) → t true s at ≡ got x n → termBreaches root x ≡ []) where
-    elements-free : (k : ℕ) (s : List ℕ) (at : ℕ) {l : Terms} {n : ℕ} → elements f t k s at ≡ got l n → termsBreaches root l ≡ []
+  module _ (f : Reader Condition) (t : Bool → Reader Term) (free : (s : List ℕ) (at : ℕ) (x : Term) (n : ℕ) → t true s at ≡ got x n → termBreaches bs x ≡ []) where
+    elements-free : (k : ℕ) (s : List ℕ) (at : ℕ) {l : Terms} {n : ℕ} → elements f t k s at ≡ got l n → termsBreaches bs l ≡ []
     unfolding elements termsBreaches
-    elements-free zero s at e = ap (termsBreaches root) (sym (got-value e))
+    elements-free zero s at e = ap (termsBreaches bs) (sym (got-value e))
     elements-free (suc k) s at e =
         let a = split (t true s at) _ e in
         let b = split (elements f t k s (a .place)) _ (a .rest) in
-        ap (termsBreaches root) (sym (got-value (b .rest))) ∙ rw (free s at (a .value) (a .place) (a .first), elements-free k s (a .place) (b .first))
+        ap (termsBreaches bs) (sym (got-value (b .rest))) ∙ rw (free s at (a .value) (a .place) (a .first), elements-free k s (a .place) (b .first))
 
-    list-free : (s : List ℕ) (at : ℕ) {l : Terms} {n : ℕ} → elementList f t s at ≡ got l n → termsBreaches root l ≡ []
+    list-free : (s : List ℕ) (at : ℕ) {l : Terms} {n : ℕ} → elementList f t s at ≡ got l n → termsBreaches bs l ≡ []
     unfolding elementList
     list-free s at e = let a = split (u8 s at) _ e in elements-free (a .value) s (a .place) (a .rest)
 
-    kinds-free : (k : ℕ) (s : List ℕ) (at : ℕ) {x : Term} {n : ℕ} → choose k (termKinds f t true) s at ≡ got x n → termBreaches root x ≡ []
+    kinds-free : (k : ℕ) (s : List ℕ) (at : ℕ) {x : Term} {n : ℕ} → choose k (termKinds f t true) s at ≡ got x n → termBreaches bs x ≡ []
     unfolding choose termKinds Each keysUpTo termBreaches arithOf
     kinds-free k s at {x} {n} e =
-        let own : (u : Term) → termBreaches root u ≡ [] → got u at ≡ got x n → termBreaches root x ≡ [] = λ u i j. ap (termBreaches root) (sym (got-value j)) ∙ i in
-        let arrays : next (elementList f t s at) (λ a m. got (array a) m) ≡ got x n → termBreaches root x ≡ [] =
-        λ j. let a = split (elementList f t s at) _ j in ap (termBreaches root) (sym (got-value (a .rest))) ∙ list-free s at (a .first) in
-        let sums : arithOf f t true s at ≡ got x n → termBreaches root x ≡ [] =
+        let own : (u : Term) → termBreaches bs u ≡ [] → got u at ≡ got x n → termBreaches bs x ≡ [] = λ u i j. ap (termBreaches bs) (sym (got-value j)) ∙ i in
+        let arrays : next (elementList f t s at) (λ a m. got (array a) m) ≡ got x n → termBreaches bs x ≡ [] =
+        λ j. let a = split (elementList f t s at) _ j in ap (termBreaches bs) (sym (got-value (a .rest))) ∙ list-free s at (a .first) in
+        let sums : arithOf f t true s at ≡ got x n → termBreaches bs x ≡ [] =
         λ j.
         let a = split (t true s at) _ j in
         let b = split (t true s (a .place)) _ (a .rest) in
-        ap (termBreaches root) (sym (got-value (b .rest))) ∙ rw (free s at (a .value) (a .place) (a .first), free s (a .place) (b .value) (b .place) (b .first)) in
-        by-kind s at 14 (termKinds f t true) refl (λ _. termBreaches root x ≡ [])
+        ap (termBreaches bs) (sym (got-value (b .rest))) ∙ rw (free s at (a .value) (a .place) (a .first), free s (a .place) (b .value) (b .place) (b .first)) in
+        by-kind s at 14 (termKinds f t true) refl (λ _. termBreaches bs x ≡ [])
         (((((((((((((((tt, no-value), part-free (stringOf pathName s at) entity (λ _. refl)), own (literal integer) refl), own (literal decimal) refl), own (literal string) refl), own (literal bool) refl), part-free (pathOf s at) contextField (λ _. refl)), part-free (pathOf s at) scopeField (λ _. refl)), part-free (stringOf plain s at) var (λ _. refl)), own wildcard refl), arrays), no-value), sums), own sigil refl), own sigil refl)
         k e
 
@@ -87,19 +88,19 @@ module _ (root : Condition) where
       go true p i = no-value i
       go false p i = no-value i
 
-  term-free : (l : ℕ) (s : List ℕ) (at : ℕ) (x : Term) (n : ℕ) → termAt l true s at ≡ got x n → termBreaches root x ≡ []
+  term-free : (l : ℕ) (s : List ℕ) (at : ℕ) (x : Term) (n : ℕ) → termAt l true s at ≡ got x n → termBreaches bs x ≡ []
   unfolding termAt
   term-free zero s at x n e = too-deep 14 s at e
   term-free (suc l) s at x n e = let a = split (u8 s at) _ e in kinds-free (conditionAt l) (λ b. termAt l b) (term-free l) (a .value) s (a .place) (a .rest)
 
-  array-free : (s : List ℕ) (at : ℕ) → isTerm s at ≡ true → termKindOf (termIn s at) ≡ 10 → termBreaches root (termIn s at) ≡ []
+  array-free : (s : List ℕ) (at : ℕ) → isTerm s at ≡ true → termKindOf (termIn s at) ≡ 10 → termBreaches bs (termIn s at) ≡ []
   unfolding termBreaches
   array-free s at acc is =
       let v = array-view s at (term-stands s at acc .read) (raw-term s at acc 10 (λ i. omega arith) is) in
-      ap (termBreaches root) (v .whole) ∙ list-free (conditionAt levels) (λ b. termAt levels b) (term-free levels) s (at + 1) (v .reads)
+      ap (termBreaches bs) (v .whole) ∙ list-free (conditionAt levels) (λ b. termAt levels b) (term-free levels) s (at + 1) (v .reads)
 
   -- a term of any kind but an aggregate, an arithmetic and an array
-  leaf-free : (x : Term) → (termKindOf x ≡ 12 → ⊥) → (termKindOf x ≡ 11 → ⊥) → (termKindOf x ≡ 10 → ⊥) → termBreaches root x ≡ []
+  leaf-free : (x : Term) → (termKindOf x ≡ 12 → ⊥) → (termKindOf x ≡ 11 → ⊥) → (termKindOf x ≡ 10 → ⊥) → termBreaches bs x ≡ []
   unfolding termBreaches
   leaf-free (entity n) a b c = refl
   leaf-free (literal l) a b c = refl
@@ -112,13 +113,13 @@ module _ (root : Condition) where
   leaf-free (tree.arith l r) a b c = absurd (a refl)
   leaf-free sigil a b c = refl
 
-  other-free : (x : Aggregate) → (aggregateKindOf x ≡ 1 → ⊥) → aggregateBreaches root x ≡ []
+  other-free : (x : Aggregate) → (aggregateKindOf x ≡ 1 → ⊥) → aggregateBreaches bs x ≡ []
   unfolding aggregateBreaches
   other-free (sum span s bs body) h = absurd (h refl)
   other-free (count span bs body) h = refl
   other-free (call span) h = refl
 
-  condition-free : (x : Condition) → (kindOf x ≡ 8 → ⊥) → (kindOf x ≡ 7 → ⊥) → conditionBreaches root x ≡ []
+  condition-free : (x : Condition) → (kindOf x ≡ 8 → ⊥) → (kindOf x ≡ 7 → ⊥) → conditionBreaches bs x ≡ []
   unfolding conditionBreaches
   condition-free (one k span c) a b = refl
   condition-free (two k span l r) a b = refl
@@ -134,26 +135,26 @@ no-report old st p bs e = rw e (recorded-none old st p)
 -- ---- a term
 
 module _ (s : List ℕ) (at : ℕ) {old : List ℕ} {st : State} where
-  pub arith-visited : (p : Operands) → ArithHere s at p → {mid new : List ℕ} {st′ r : State} → Appended old st (termBreaches (recordIn s) (termIn s (p .left))) mid st′
-      → Appended mid st′ (termBreaches (recordIn s) (termIn s (p .right))) new r → Appended old st (termBreaches (recordIn s) (termIn s at)) new r
+  pub arith-visited : (p : Operands) → ArithHere s at p → {mid new : List ℕ} {st′ r : State} → Appended old st (termBreaches (binders (recordIn s)) (termIn s (p .left))) mid st′
+      → Appended mid st′ (termBreaches (binders (recordIn s)) (termIn s (p .right))) new r → Appended old st (termBreaches (binders (recordIn s)) (termIn s at)) new r
   unfolding termBreaches
   arith-visited p h first second = rw (h .value) (recorded-then first second)
 
   module _ (p : ℕ) (h : AggregateHere s at p) where
-    pub sum-visited : {new : List ℕ} {r : State} → Appended old st (aggregateBreaches (recordIn s) (aggregateIn s p)) new r → Appended old st (termBreaches (recordIn s) (termIn s at)) new r
+    pub sum-visited : {new : List ℕ} {r : State} → Appended old st (aggregateBreaches (binders (recordIn s)) (aggregateIn s p)) new r → Appended old st (termBreaches (binders (recordIn s)) (termIn s at)) new r
     unfolding termBreaches
     sum-visited e = rw (h .value) e
 
-    pub other-visited : (k : ℕ) → AggregateOpened s p k → (k ≡ 1 → ⊥) → Sound (sink old st) → Appended old st (termBreaches (recordIn s) (termIn s at)) old st
+    pub other-visited : (k : ℕ) → AggregateOpened s p k → (k ≡ 1 → ⊥) → Sound (sink old st) → Appended old st (termBreaches (binders (recordIn s)) (termIn s at)) old st
     unfolding termBreaches
-    other-visited k o i q = rw (h .value) (no-report old st q _ (other-free (recordIn s) (aggregateIn s p) (λ e. i (o .kind ∙ e))))
+    other-visited k o i q = rw (h .value) (no-report old st q _ (other-free (binders (recordIn s)) (aggregateIn s p) (λ e. i (o .kind ∙ e))))
 
-  pub leaf-visited : isTerm s at ≡ true → (k : ℕ) → TermOpened s at k → (k ≡ 12 → ⊥) → (k ≡ 11 → ⊥) → Sound (sink old st) → Appended old st (termBreaches (recordIn s) (termIn s at)) old st
+  pub leaf-visited : isTerm s at ≡ true → (k : ℕ) → TermOpened s at k → (k ≡ 12 → ⊥) → (k ≡ 11 → ⊥) → Sound (sink old st) → Appended old st (termBreaches (binders (recordIn s)) (termIn s at)) old st
   leaf-visited acc k o h i p = no-report old st p _ (go (eqb (termKindOf (termIn s at)) 10) refl)
     where
-      go : (b : Bool) → eqb (termKindOf (termIn s at)) 10 ≡ b → termBreaches (recordIn s) (termIn s at) ≡ []
-      go true e = array-free (recordIn s) s at acc (eqb-true _ _ e)
-      go false e = leaf-free (recordIn s) (termIn s at) (λ q. h (o .kind ∙ q)) (λ q. i (o .kind ∙ q)) (eqb-false _ _ e)
+      go : (b : Bool) → eqb (termKindOf (termIn s at)) 10 ≡ b → termBreaches (binders (recordIn s)) (termIn s at) ≡ []
+      go true e = array-free (binders (recordIn s)) s at acc (eqb-true _ _ e)
+      go false e = leaf-free (binders (recordIn s)) (termIn s at) (λ q. h (o .kind ∙ q)) (λ q. i (o .kind ∙ q)) (eqb-false _ _ e)
 
 pub is-sum : (s : List ℕ) (p k : ℕ) → AggregateOpened s p k → k ≡ 1 → aggregateKindOf (aggregateIn s p) ≡ 1
 is-sum s p k o e = sym (o .kind) ∙ e
@@ -165,10 +166,10 @@ pub ruleset visits = (needs, is-sum, aggregate-first, aggregate-inside, arith-vi
 pub record ArgumentsLeft (s : List ℕ) (whole now : Sink) (n at : ℕ) : Type 0 where
   pub stands : isArguments s n at ≡ true
   pub sound : Sound now
-  pub same : appendAll now (argumentsBreaches (recordIn s) (argumentsIn s n at)) ≡ whole
+  pub same : appendAll now (argumentsBreaches (binders (recordIn s)) (argumentsIn s n at)) ≡ whole
 
 module _ (s : List ℕ) where
-  pub arguments-begin : (n at : ℕ) (a : Sink) → isArguments s n at ≡ true → Sound a → ArgumentsLeft s (appendAll a (argumentsBreaches (recordIn s) (argumentsIn s n at))) a n at
+  pub arguments-begin : (n at : ℕ) (a : Sink) → isArguments s n at ≡ true → Sound a → ArgumentsLeft s (appendAll a (argumentsBreaches (binders (recordIn s)) (argumentsIn s n at))) a n at
   arguments-begin n at a h k = record { stands = h; sound = k; same = refl }
 
   module _ (n at : ℕ) where
@@ -177,7 +178,7 @@ module _ (s : List ℕ) where
     arguments-done l h = record { sound = l .sound; is = rw (arguments-over s n at h) at (l .same) }
 
     pub arguments-turn : {whole : Sink} {now next : List ℕ} {st r : State} → ArgumentsLeft s whole (sink now st) n at → (p : ArgumentAt) → ArgumentHere s n at p
-        → Appended now st (termBreaches (recordIn s) (termIn s (p .term))) next r → ArgumentsLeft s whole (sink next r) (n - 1) (p .next)
+        → Appended now st (termBreaches (binders (recordIn s)) (termIn s (p .term))) next r → ArgumentsLeft s whole (sink next r) (n - 1) (p .next)
     unfolding argumentsBreaches
     arguments-turn l p h e = record { stands = h .rest; sound = e .sound; same = recorded-more e _ ∙ (rw (h .value) at (l .same)) }
 
@@ -186,18 +187,18 @@ pub ruleset arguing = (needs, arguments-begin, arguments-done, arguments-turn)
 -- ---- a reached condition
 
 module _ (s : List ℕ) (at : ℕ) {old : List ℕ} {st : State} where
-  pub comparison-visited : (p : ComparisonAt) → ComparisonHere s at p → {mid new : List ℕ} {st′ r : State} → Appended old st (termBreaches (recordIn s) (termIn s (p .left))) mid st′
-      → Appended mid st′ (termBreaches (recordIn s) (termIn s (p .right))) new r → Appended old st (conditionBreaches (recordIn s) (conditionIn s at)) new r
+  pub comparison-visited : (p : ComparisonAt) → ComparisonHere s at p → {mid new : List ℕ} {st′ r : State} → Appended old st (termBreaches (binders (recordIn s)) (termIn s (p .left))) mid st′
+      → Appended mid st′ (termBreaches (binders (recordIn s)) (termIn s (p .right))) new r → Appended old st (conditionBreaches (binders (recordIn s)) (conditionIn s at)) new r
   unfolding conditionBreaches
-  comparison-visited p h first second = let e : conditionBreaches (recordIn s) (conditionIn s at) ≡ _ = ap (conditionBreaches (recordIn s)) (h .value) in rw e (recorded-then first second)
+  comparison-visited p h first second = let e : conditionBreaches (binders (recordIn s)) (conditionIn s at) ≡ _ = ap (conditionBreaches (binders (recordIn s))) (h .value) in rw e (recorded-then first second)
 
-  pub predicate-visited : (p : PredicateAt) → PredicateHere s at p → {new : List ℕ} {r : State} → Appended old st (argumentsBreaches (recordIn s) (argumentsIn s (p .count) (p .first))) new r
-      → Appended old st (conditionBreaches (recordIn s) (conditionIn s at)) new r
+  pub predicate-visited : (p : PredicateAt) → PredicateHere s at p → {new : List ℕ} {r : State} → Appended old st (argumentsBreaches (binders (recordIn s)) (argumentsIn s (p .count) (p .first))) new r
+      → Appended old st (conditionBreaches (binders (recordIn s)) (conditionIn s at)) new r
   unfolding conditionBreaches
-  predicate-visited p h k = let e : conditionBreaches (recordIn s) (conditionIn s at) ≡ _ = ap (conditionBreaches (recordIn s)) (h .value) in rw e k
+  predicate-visited p h k = let e : conditionBreaches (binders (recordIn s)) (conditionIn s at) ≡ _ = ap (conditionBreaches (binders (recordIn s))) (h .value) in rw e k
 
-  pub others-visited : (k : ℕ) → Opened s at k → (k ≡ 8 → ⊥) → (k ≡ 7 → ⊥) → Sound (sink old st) → Appended old st (conditionBreaches (recordIn s) (conditionIn s at)) old st
-  others-visited k o h i p = no-report old st p _ (condition-free (recordIn s) (conditionIn s at) (λ q. h (o .kind ∙ q)) (λ q. i (o .kind ∙ q)))
+  pub others-visited : (k : ℕ) → Opened s at k → (k ≡ 8 → ⊥) → (k ≡ 7 → ⊥) → Sound (sink old st) → Appended old st (conditionBreaches (binders (recordIn s)) (conditionIn s at)) old st
+  others-visited k o h i p = no-report old st p _ (condition-free (binders (recordIn s)) (conditionIn s at) (λ q. h (o .kind ∙ q)) (λ q. i (o .kind ∙ q)))
 
 pub is-comparison : (s : List ℕ) (at k : ℕ) → Opened s at k → k ≡ 8 → kindOf (conditionIn s at) ≡ 8
 is-comparison s at k o e = sym (o .kind) ∙ e
@@ -207,20 +208,20 @@ pub ruleset nodes = (needs, is-comparison, comparison-visited, predicate-visited
 -- ---- all of them
 
 abbrev pub PlacesLeft : List ℕ → Sink → Sink → ℕ → Type 0
-PlacesLeft s whole now i = Reporting append (conditionBreaches (recordIn s)) whole now (drop i (nodesOf s))
+PlacesLeft s whole now i = Reporting append (conditionBreaches (binders (recordIn s))) whole now (drop i (nodesOf s))
 
 module _ (s : List ℕ) where
   pub places-begin : (a : Sink) → Sound a → PlacesLeft s (appendAll a (breaches (recordIn s))) a 0
   unfolding breaches
-  places-begin a k = reporting-begins append (conditionBreaches (recordIn s)) a (nodesOf s) k
+  places-begin a k = reporting-begins append (conditionBreaches (binders (recordIn s))) a (nodesOf s) k
 
   pub places-done : {old now : List ℕ} {st₀ st : State} {bs : List Breach} (i : ℕ) → PlacesLeft s (appendAll (sink old st₀) bs) (sink now st) i → (places : List ℕ) → Index s places → length places ≤ i → Appended old st₀ bs now st
   places-done i l places h k =
       let over : length (nodesOf s) ≤ i = omega (arith, h .size) in
       let e : drop i (nodesOf s) ≡ [] = drop-of-length-le (nodesOf s) over in
-      reporting-over append (conditionBreaches (recordIn s)) (rw e at l)
+      reporting-over append (conditionBreaches (binders (recordIn s))) (rw e at l)
 
-  pub places-turn : {whole : Sink} {now next : List ℕ} {st r : State} (i : ℕ) → PlacesLeft s whole (sink now st) i → (at : ℕ) → Reached s i at → Appended now st (conditionBreaches (recordIn s) (conditionIn s at)) next r → PlacesLeft s whole (sink next r) (i + 1)
-  places-turn i l at h e = reporting-next append (conditionBreaches (recordIn s)) (rw (h .rest) at l) e
+  pub places-turn : {whole : Sink} {now next : List ℕ} {st r : State} (i : ℕ) → PlacesLeft s whole (sink now st) i → (at : ℕ) → Reached s i at → Appended now st (conditionBreaches (binders (recordIn s)) (conditionIn s at)) next r → PlacesLeft s whole (sink next r) (i + 1)
+  places-turn i l at h e = reporting-next append (conditionBreaches (binders (recordIn s))) (rw (h .rest) at l) e
 
 pub ruleset placing = (needs, places-begin, places-done, places-turn)

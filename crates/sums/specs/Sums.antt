@@ -7,7 +7,7 @@ use Rattle.names.specs.Lists.{gather}
 use Rattle.names.specs.Fields.{either, whole}
 use Rattle.names.specs.Names.{same, joined, lastOf}
 use Rattle.names.specs.Text.{text}
-use Rattle.condition.specs.Condition.{Condition, Term, Terms, Aggregate, Arguments, named, paramRef, binderRef, Annotation, timepoint, path, one, two, predicate, comparison, exists, tp, opaque, noArgument, argument, entity, literal, contextField, scopeField, var, wildcard, array, aggregate, arith, sigil, nil, cons, sum, count, call, conditionRecord}
+use Rattle.condition.specs.Condition.{Binder, Condition, Term, Terms, Aggregate, Arguments, named, paramRef, binderRef, Annotation, timepoint, path, one, two, predicate, comparison, exists, tp, opaque, noArgument, argument, entity, literal, contextField, scopeField, var, wildcard, array, aggregate, arith, sigil, nil, cons, sum, count, call, conditionRecord}
 use Rattle.condition.specs.Walk.{binders, reached, lastNamed}
 use Rattle.reports.specs.Messages.{message}
 use Rattle.reports.specs.declared.Message.the-variants.{CannotSum, CannotSumTimepoint, CannotSumDecimal}
@@ -30,13 +30,13 @@ summandBreach name (some (path segments)) at =
     (report (message CannotSumDecimal (name ∷ name ∷ [])) at)
     (report (message CannotSum (name ∷ name ∷ joined segments ∷ [])) at))
 
--- `check_sum_summands` of a whole condition, the root; what its binders declare, the last of a name in walk order, is `collect_declared_binder_types`
-module _ (root : Condition) where
+-- `check_sum_summands` under the binders of a whole condition; what they declare, the last of a name in walk order, is `collect_declared_binder_types`
+module _ (bs : List Binder) where
   unfoldable pub aggregateBreaches : Aggregate → List Breach
-  aggregateBreaches (sum at (named name) bs body) = summandBreach name (lastNamed name (binders root)) at
-  aggregateBreaches (sum at paramRef bs body) = []
-  aggregateBreaches (sum at binderRef bs body) = []
-  aggregateBreaches (count at bs body) = []
+  aggregateBreaches (sum at (named name) own body) = summandBreach name (lastNamed name bs) at
+  aggregateBreaches (sum at paramRef own body) = []
+  aggregateBreaches (sum at binderRef own body) = []
+  aggregateBreaches (count at own body) = []
   aggregateBreaches (call at) = []
 
   -- `visit_term`: the aggregates of a term, into arithmetic and arrays (which hold none), and not into the aggregates' bodies
@@ -74,7 +74,7 @@ module _ (root : Condition) where
 
 -- the reports of a condition, in the order of the walk; repeats stay
 unfoldable pub breaches : Condition → List Breach
-breaches c = gather (conditionBreaches c) (reached c)
+breaches c = gather (conditionBreaches (binders c)) (reached c)
 
 -- Sums: record 2 is read; its refusal, or the reports in the buffer
 unfoldable pub sums : List ℕ → List ℕ → Outcome

@@ -92,7 +92,7 @@ pub fn in_sum(s: &[u8], env: &[u16], at: usize, buf: &mut [u8], state: State) ->
     requires { ⌜ Environment (now s) (binders (recordIn (now s))) (now env) ⌝ }
     requires { ⌜ length (now s) ≤ 32768 ⌝ }
     requires { ⌜ Sound (sink (now buf) state) ⌝ }
-    ensures { λ r. ⌜ Appended (now (buf .entry)) state (aggregateBreaches (recordIn (now (s .entry))) (aggregateIn (now (s .entry)) at)) (now (buf .exit)) r ⌝ }
+    ensures { λ r. ⌜ Appended (now (buf .entry)) state (aggregateBreaches (binders (recordIn (now (s .entry)))) (aggregateIn (now (s .entry)) at)) (now (buf .exit)) r ⌝ }
 {
     let slot = nodes::slot_at(s, nodes::aggregate_part(s, at));
     match slot {

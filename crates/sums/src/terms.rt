@@ -18,7 +18,7 @@ fn in_term(s: &[u8], env: &[u16], at: usize, buf: &mut [u8], state: State) -> St
     requires { ⌜ Environment (now s) (binders (recordIn (now s))) (now env) ⌝ }
     requires { ⌜ length (now s) ≤ 32768 ⌝ }
     requires { ⌜ Sound (sink (now buf) state) ⌝ }
-    ensures { λ r. ⌜ Appended (now (buf .entry)) state (termBreaches (recordIn (now (s .entry))) (termIn (now (s .entry)) at)) (now (buf .exit)) r ⌝ }
+    ensures { λ r. ⌜ Appended (now (buf .entry)) state (termBreaches (binders (recordIn (now (s .entry)))) (termIn (now (s .entry)) at)) (now (buf .exit)) r ⌝ }
 {
     let kind = nodes::term_kind_at(s, at);
     if kind == 12 {
@@ -50,7 +50,7 @@ fn in_arguments(
     requires { ⌜ Environment (now s) (binders (recordIn (now s))) (now env) ⌝ }
     requires { ⌜ length (now s) ≤ 32768 ⌝ }
     requires { ⌜ Sound (sink (now buf) state) ⌝ }
-    ensures { λ r. ⌜ Appended (now (buf .entry)) state (argumentsBreaches (recordIn (now (s .entry))) (argumentsIn (now (s .entry)) count first)) (now (buf .exit)) r ⌝ }
+    ensures { λ r. ⌜ Appended (now (buf .entry)) state (argumentsBreaches (binders (recordIn (now (s .entry)))) (argumentsIn (now (s .entry)) count first)) (now (buf .exit)) r ⌝ }
 {
     let mut now = state;
     let mut at = first;
@@ -72,7 +72,7 @@ fn in_comparison(s: &[u8], env: &[u16], at: usize, buf: &mut [u8], state: State)
     requires { ⌜ Environment (now s) (binders (recordIn (now s))) (now env) ⌝ }
     requires { ⌜ length (now s) ≤ 32768 ⌝ }
     requires { ⌜ Sound (sink (now buf) state) ⌝ }
-    ensures { λ r. ⌜ Appended (now (buf .entry)) state (conditionBreaches (recordIn (now (s .entry))) (conditionIn (now (s .entry)) at)) (now (buf .exit)) r ⌝ }
+    ensures { λ r. ⌜ Appended (now (buf .entry)) state (conditionBreaches (binders (recordIn (now (s .entry)))) (conditionIn (now (s .entry)) at)) (now (buf .exit)) r ⌝ }
 {
     let p = nodes::comparison_at(s, at);
     let left = p.left;
@@ -87,7 +87,7 @@ pub fn in_condition(s: &[u8], env: &[u16], at: usize, buf: &mut [u8], state: Sta
     requires { ⌜ Environment (now s) (binders (recordIn (now s))) (now env) ⌝ }
     requires { ⌜ length (now s) ≤ 32768 ⌝ }
     requires { ⌜ Sound (sink (now buf) state) ⌝ }
-    ensures { λ r. ⌜ Appended (now (buf .entry)) state (conditionBreaches (recordIn (now (s .entry))) (conditionIn (now (s .entry)) at)) (now (buf .exit)) r ⌝ }
+    ensures { λ r. ⌜ Appended (now (buf .entry)) state (conditionBreaches (binders (recordIn (now (s .entry)))) (conditionIn (now (s .entry)) at)) (now (buf .exit)) r ⌝ }
 {
     let kind = nodes::kind_at(s, at);
     if kind == 8 {

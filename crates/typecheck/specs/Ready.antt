@@ -40,3 +40,7 @@ UnderKnown s c env (Checked f) = Known s c env f
 pub record UnderHere (s n : List ℕ) (common : Common) (at : ℕ) (r : Under) : Type 0 where
   pub known : (c places env : List ℕ) → Ready s c n places env common → UnderKnown s c env r
   pub value : (c : List ℕ) → underBreaches s c n r ≡ breachesUnder (schemaIn s) (recordIn c) (targetsIn n .scope) (targetIn n at)
+
+-- the breaches under all targets
+abbrev pub allBreaches : List ℕ → List ℕ → List ℕ → List Breach
+allBreaches s c n = gather (breachesUnder (schemaIn s) (recordIn c) (targetsIn n .scope)) (targetsIn n .list)

@@ -10,7 +10,7 @@ use terms::Common;
 use terms::Facts;
 ghost use mathlib.Core.Path.{_≡_};
 ghost use mathlib.Core.Bool.{true};
-ghost use Rattle.names.specs.Lists.{gather, maybe};
+ghost use Rattle.names.specs.Lists.{maybe};
 ghost use Rattle.schema.specs.Places.{isSchema, schemaIn, isAction, actionIn, foundIn, foundStands, ActionsOf};
 ghost use Rattle.targets.specs.Places.{areTargets, targetsIn, isTarget};
 ghost use Rattle.condition.specs.Places.{isRecord, recordIn};
@@ -19,8 +19,8 @@ ghost use Rattle.resolution.specs.Resolution.{admitsAnyEnv};
 ghost use Rattle.reports.specs.Sink.{sink, Sound, Pushed};
 ghost use Rattle.reports.specs.Answers.{outcomeOf};
 ghost use Rattle.terms.specs.Facts.{Known};
-ghost use Rattle.typecheck.specs.Check.{breachesUnder, checked, check};
-ghost use Rattle.typecheck.specs.Ready.{Ready, underBreaches, UnderKnown, UnderHere};
+ghost use Rattle.typecheck.specs.Check.{checked, check};
+ghost use Rattle.typecheck.specs.Ready.{Ready, underBreaches, UnderKnown, UnderHere, allBreaches};
 
 // The reached nodes under the facts of a target.
 fn nodes<'a>(
@@ -117,7 +117,7 @@ fn all_targets<'a>(
 ) -> State
     requires { ⌜ Sound (sink (now buf) state) ⌝ }
     requires { ⌜ Ready (now schema) (now condition) (now targets) (now places) (now env) common ⌝ }
-    ensures { λ after. ⌜ Pushed (now (buf .entry)) state (gather (breachesUnder (schemaIn (now (schema .entry))) (recordIn (now (condition .entry))) (targetsIn (now (targets .entry)) .scope)) (targetsIn (now (targets .entry)) .list)) (now (buf .exit)) after ⌝ }
+    ensures { λ after. ⌜ Pushed (now (buf .entry)) state (allBreaches (now (schema .entry)) (now (condition .entry)) (now (targets .entry))) (now (buf .exit)) after ⌝ }
 {
     let mut now = state;
     let mut rest = targets::count(targets);

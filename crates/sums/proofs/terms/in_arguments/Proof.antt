@@ -2,6 +2,7 @@
 use mathlib.Core.Path.{_≡_}
 use lib.ListN.{length}
 use Rattle.condition.specs.Places.{recordIn, argumentsIn}
+use Rattle.condition.specs.Walk.{binders}
 use Rattle.reports.specs.Sink.{sink, appendAll}
 use Rattle.sums.specs.Sums.{argumentsBreaches}
 use Rattle.sums.proofs.Visiting.{ArgumentsLeft, arguing}
@@ -10,7 +11,7 @@ use Rattle.sums.proofs.terms.in_arguments.Tie as tie
 
 abbrev Inv-loop : tie.InvT-loop
 Inv-loop s env count first buf₀ now₀ at₀ rest₀ buf now at rest =
-    (length buf ≡ length buf₀) × ArgumentsLeft s (appendAll (sink buf₀ now₀) (argumentsBreaches (recordIn s) (argumentsIn s count first))) (sink buf now) rest at
+    (length buf ≡ length buf₀) × ArgumentsLeft s (appendAll (sink buf₀ now₀) (argumentsBreaches (binders (recordIn s)) (argumentsIn s count first))) (sink buf now) rest at
 
 abbrev μ-loop : tie.MeasureT-loop
 μ-loop s env count first buf₀ now₀ at₀ rest₀ buf now at rest = rest
