@@ -18,8 +18,9 @@ use Rattle.nodes.specs.declared.SlotAt.{SlotAt}
 use Rattle.nodes.specs.declared.SlotAt.the-variants.{Named, ParamRef, BinderRef}
 use Rattle.nodes.specs.declared.Ends.{Ends}
 use Rattle.condition.specs.Condition.{Slot, sum, path}
-use Rattle.nodes.specs.Kinds.{aggregateSpanOf}
-use Rattle.condition.specs.Places.{recordIn, aggregateIn, slotIn}
+use Rattle.nodes.specs.Kinds.{aggregateKindOf, aggregateSpanOf}
+use Rattle.nodes.specs.Offsets.{aggregatePart}
+use Rattle.condition.specs.Places.{recordIn, isAggregate, aggregateIn, slotIn}
 use Rattle.nodes.specs.Laws.Pieces.{summand-inside, summand-slot}
 use Rattle.nodes.specs.Parts.{segmentsIn, SegmentsHere, boundIn, BoundStands, Says, slotOf, SummandHere, Spans}
 use Rattle.condition.specs.Walk.{binders, lastNamed}
@@ -35,6 +36,7 @@ use Rattle.messages.specs.declared.Said.{Said}
 use Rattle.messages.specs.declared.Said.the-variants as Said
 use Rattle.messages.specs.Words.{textOf, quoted, Stands, say, saidBreaches, SaidStands, Tells, spanIn}
 use Rattle.messages.specs.Laws.Lengths.{Bytes, text-within}
+use Rattle.sums.specs.Summands.{SummandIs}
 use Rattle.sums.specs.Sums.{summandBreach, aggregateBreaches}
 
 -- `decimal` and `Decimal`
@@ -115,14 +117,23 @@ module _ (s : List ℕ) (x : Said) (old : List ℕ) (st : State) (span : Ends) w
 pub ruleset appending = (needs, header-room, count-room, said-nothing, message-stands, long-below, text-room, message-appended, message-stopped)
 
 -- The summand's slot.
-module _ (s : List ℕ) (at p : ℕ) (h : SummandHere s at p) (x : SlotAt) (i : slotIn s p ≡ slotOf s x) (old : List ℕ) (st : State) where
+pub slot-is : (s : List ℕ) (at p : ℕ) → SummandHere s at p → (x : SlotAt) → slotIn s p ≡ slotOf s x → SummandIs s at x
+slot-is s at p h x i = record {
+  declared = h .declared;
+  body = h .body;
+  value = h .value ∙ ap (λ (l : Slot). sum (aggregateSpanOf (aggregateIn s at)) l (h .declared) (h .body)) i;
+}
+
+pub ruleset summands = (needs, summand-inside, summand-slot, slot-is)
+
+module _ (s : List ℕ) (at : ℕ) (x : SlotAt) (h : SummandIs s at x) (old : List ℕ) (st : State) where
   pub slot-param : x ≡ ParamRef → Sound (sink old st) → Appended old st (aggregateBreaches (binders (recordIn s)) (aggregateIn s at)) old st
   unfolding aggregateBreaches
-  slot-param e k = rw (h .value, i, e) (recorded-none old st k)
+  slot-param e k = rw (h .value, e) (recorded-none old st k)
 
   pub slot-binder : x ≡ BinderRef → Sound (sink old st) → Appended old st (aggregateBreaches (binders (recordIn s)) (aggregateIn s at)) old st
   unfolding aggregateBreaches
-  slot-binder e k = rw (h .value, i, e) (recorded-none old st k)
+  slot-binder e k = rw (h .value, e) (recorded-none old st k)
 
   module _ (q : ℕ) (e : x ≡ Named q) (w : List ℕ) (is : w ≡ wordAt s q) (b : Bound) (says : Says s (lastNamed w (binders (recordIn s))) b) (ends : Ends) (spans : Spans (aggregateSpanOf (aggregateIn s at)) ends) where
     pub slot-named : (said : Said) → Tells s s (summandBreach (wordAt s q) (boundIn s b)) said → (new : List ℕ) (r : State) → Appended old st (saidBreaches s s said (spanIn ends)) new r → Appended old st (aggregateBreaches (binders (recordIn s)) (aggregateIn s at)) new r
@@ -130,7 +141,7 @@ module _ (s : List ℕ) (at p : ℕ) (h : SummandHere s at p) (x : SlotAt) (i : 
     slot-named said tells new r j =
         let span : spanIn ends ≡ aggregateSpanOf (aggregateIn s at) = λ k. record { start = spans .start k; end = spans .end k } in
         let v : aggregateBreaches (binders (recordIn s)) (aggregateIn s at) ≡ summandBreach (wordAt s q) (lastNamed (wordAt s q) (binders (recordIn s))) (aggregateSpanOf (aggregateIn s at)) =
-        ap (aggregateBreaches (binders (recordIn s))) (h .value) ∙ ap (λ (l : Slot). aggregateBreaches (binders (recordIn s)) (sum (aggregateSpanOf (aggregateIn s at)) l (h .declared) (h .body))) (i ∙ ap (slotOf s) e) in
+        ap (aggregateBreaches (binders (recordIn s))) (h .value) ∙ ap (λ (y : SlotAt). aggregateBreaches (binders (recordIn s)) (sum (aggregateSpanOf (aggregateIn s at)) (slotOf s y) (h .declared) (h .body))) e in
         rw (v, ← is, ← says .value, is, ← span, ← tells .is (spanIn ends)) j
 
-pub ruleset slots = (needs, summand-inside, summand-slot, slot-param, slot-binder, slot-named)
+pub ruleset slots = (needs, slot-param, slot-binder, slot-named)

@@ -23,6 +23,7 @@ ghost use Rattle.nodes.specs.Parts.{segmentsIn, SegmentsHere, boundIn, BoundSta
 ghost use Rattle.condition.specs.Walk.{binders};
 ghost use Rattle.messages.specs.Words.{saidBreaches, SaidStands, Tells, spanIn};
 ghost use Rattle.reports.specs.Sink.{sink, Sound, Appended};
+ghost use Rattle.sums.specs.Summands.{SummandIs};
 ghost use Rattle.sums.specs.Sums.{summandBreach, aggregateBreaches};
 
 fn is_decimal(word: &[u8]) -> bool
@@ -85,6 +86,15 @@ fn append(buf: &mut [u8], state: State, s: &[u8], span: Ends, said: Said) -> Sta
     reports::stopped(state)
 }
 
+// The slot of a Sum's summand.
+fn summand(s: &[u8], at: usize) -> SlotAt
+    requires { ⌜ isAggregate (now s) at ≡ true ⌝ }
+    requires { ⌜ aggregateKindOf (aggregateIn (now s) at) ≡ 1 ⌝ }
+    ensures { λ r. ⌜ SummandIs (now (s .entry)) at r ⌝ }
+{
+    nodes::slot_at(s, nodes::aggregate_part(s, at))
+}
+
 // The Sum whose own kind byte stands at `at`; a summand that is a macro's parameter or binder is passed.
 pub fn in_sum(s: &[u8], env: &[u16], at: usize, buf: &mut [u8], state: State) -> State
     requires { ⌜ isAggregate (now s) at ≡ true ⌝ }
@@ -94,7 +104,7 @@ pub fn in_sum(s: &[u8], env: &[u16], at: usize, buf: &mut [u8], state: State) ->
     requires { ⌜ Sound (sink (now buf) state) ⌝ }
     ensures { λ r. ⌜ Appended (now (buf .entry)) state (aggregateBreaches (binders (recordIn (now (s .entry)))) (aggregateIn (now (s .entry)) at)) (now (buf .exit)) r ⌝ }
 {
-    let slot = nodes::slot_at(s, nodes::aggregate_part(s, at));
+    let slot = summand(s, at);
     match slot {
         SlotAt::Named(name) => {
             let bound = walk::bound_in(s, env, names::word(s, name));

@@ -8,7 +8,6 @@ in-sum-spec =
     tie.close
     (tie.spec
     (λ c κs. search slots)
-    (λ c κs. search slots)
     (λ c. search slots)
     (λ c κs. search slots)
     (λ c κs. search slots)
