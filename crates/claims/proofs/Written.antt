@@ -1,6 +1,6 @@
 -- A target record is accepted only where it is the one that is written, and the record of a part of its list is then accepted too. Assumes nothing.
 use mathlib.Core.Path.{_≡_, refl, sym, ap, ap₂, subst, _∙_}
-use mathlib.Core.Bool.{Bool, true, false, cond}
+use mathlib.Core.Bool.{Bool, true, false, cond, _&&_}
 use mathlib.Core.Logic.{_⊎_, inl, inr, ⊎-elim}
 use mathlib.Core.List.{List, [], _∷_, _++_, append-assoc, append-nil}
 use mathlib.Core.Option.{Option, none, some}
@@ -15,7 +15,7 @@ use Rattle.names.specs.Lists.{gather}
 use Rattle.names.specs.Laws.Lists.{gather-append}
 use Rattle.names.specs.Fields.{Reader, Got, got, bad, next, _>>=_, _<$>_, pure, holds, u8, u16, number, bytes, stringOf, many, each, counted, heading, finished, whole, choose}
 use Rattle.names.specs.Names.{pathName, pathOrNone, plain, same}
-use Rattle.names.specs.Laws.Names.{same-eq, same-refl}
+use Rattle.names.specs.Laws.Names.{same-eq, same-refl, and-left, and-right}
 use Rattle.names.specs.Laws.Readers.{split, held, u8-view, u8-got, bytes-view, bytes-got, got-value, got-place, whole-read}
 use Rattle.targets.specs.Targets.{Narrowing, any, isType, uid, Target, Targets, Scope, narrowings, narrowing, target, targetRecord}
 use Rattle.reports.specs.Pairs.{_∈_}
@@ -258,13 +258,20 @@ one-in-two (a ∷ (b ∷ [])) l e =
     ap₂ (λ (x y : ℕ). x ∷ y ∷ []) p q
 one-in-two (a ∷ (b ∷ (c ∷ w))) l e = absurd (omega arith)
 
+-- the only version
+one-only : (v : ℕ) → (leb 1 v && leb v 1) ≡ true → v ≡ 1
+one-only v h =
+    let low : 1 ≤ v = leb-true 1 v (and-left (leb 1 v) (leb v 1) h) in
+    let high : v ≤ 1 = leb-true v 1 (and-right (leb 1 v) (leb v 1) h) in
+    omega arith
+
 module _ (mark : List ℕ) where
-  heading-reads : Reads (heading mark) (mark ++ (0 ∷ 1 ∷ [])) 1
+  heading-reads : Reads (heading mark 1) (mark ++ (0 ∷ 1 ∷ [])) 1
   unfolding heading u16 number
   heading-reads s at n h =
       rw (bytes-read mark s at _ (first mark (0 ∷ 1 ∷ []) h), same-refl mark, bytes-read (0 ∷ 1 ∷ []) s _ n (second mark (0 ∷ 1 ∷ []) h))
 
-  heading-stands : (s : List ℕ) (at : ℕ) {v n : ℕ} → heading mark s at ≡ got v n → Stands (mark ++ (0 ∷ 1 ∷ [])) s at n
+  heading-stands : (s : List ℕ) (at : ℕ) {v n : ℕ} → heading mark 1 s at ≡ got v n → Stands (mark ++ (0 ∷ 1 ∷ [])) s at n
   unfolding heading u16
   heading-stands s at {v} {n} e =
       let a = split (bytes (length mark) s at) _ e in
@@ -272,11 +279,11 @@ module _ (mark : List ℕ) where
       let i = held 3 (same (a .value) mark) s (b .first) in
       let c = split (u16 s (b .place)) _ (b .rest) in
       let d = split (bytes 2 s (b .place)) _ (c .first) in
-      let j = held 4 (eqb (c .value) 1) s (c .rest) in
+      let j = held 4 (leb 1 (c .value) && leb (c .value) 1) s (c .rest) in
       let m = bytes-stand s at (length mark) (a .first) in
       let w = bytes-stand s (b .place) 2 (d .first) in
       go (a .value) (a .place) (b .place) (d .value) (d .place) (c .value) (c .place) (same-eq (a .value) mark (i .passed)) (i .place) (m .stands) (w .stands) (w .many) (got-value (d .rest)) (got-place (d .rest))
-      (eqb-true _ _ (j .passed)) (j .place)
+      (one-only (c .value) (j .passed)) (j .place)
     where
       go : (x : List ℕ) (p q : ℕ) (y : List ℕ) (r z o : ℕ) → x ≡ mark → p ≡ q → Stands x s at p → Stands y s q r → length y ≡ 2 → number 0 y ≡ z → r ≡ o → z ≡ 1 → o ≡ n → Stands (mark ++ (0 ∷ 1 ∷ [])) s at n
       go x p q y r z o ex ep hx hy l ez er one eo =
@@ -313,7 +320,7 @@ module _ (s : List ℕ) (p r : Option Narrowing) (list : List Target) where
 record-gave : (s : List ℕ) {ts : Targets} {n : ℕ} → targetRecord s 0 ≡ got ts n → Gone s ts
 unfolding targetRecord counted finished
 record-gave s {ts} {n} e =
-    let a = split (heading mark s 0) _ e in
+    let a = split (heading mark 1 s 0) _ e in
     let b = split (narrowing s (a .place)) _ (a .rest) in
     let d = split (narrowing s (b .place)) _ (b .rest) in
     let i = split (counted (each target) s (d .place)) _ (d .rest) in
