@@ -164,7 +164,7 @@ fn the_decoder_takes_whole_reports_alone() {
     assert_eq!(error.to_string(), "no whole report stands behind the first 0");
 }
 
-/// Any number of threads at a time, each with 64 KiB of stack for the deepest conditions.
+/// Any number of threads at a time, each with 64 KiB of stack for a call on the deepest conditions, and 16 KiB of its own.
 #[test]
 fn threads_with_little_stack() {
     let arith = (0..30).fold(Term::Wildcard, |inner, _| Term::arith(inner, Term::Bool));
@@ -184,6 +184,6 @@ fn threads_with_little_stack() {
         }
     };
     let threads: Vec<_> =
-        (0..4).map(|_| std::thread::Builder::new().stack_size(64 << 10).spawn(work.clone()).unwrap()).collect();
+        (0..4).map(|_| std::thread::Builder::new().stack_size(80 << 10).spawn(work.clone()).unwrap()).collect();
     threads.into_iter().for_each(|thread| thread.join().unwrap());
 }
