@@ -76,7 +76,7 @@ fn made() -> Result<PathBuf, String> {
 fn run_kit(root: &Path) -> Result<(), String> {
     say_at_once(&format!(
         "dogwood-check: `rt staticlib dogwood` proves the library and makes {ARCHIVE}. In a fresh clone that takes about \
-         ten minutes on two cores, and half a minute where the crates are proved already. To spare it, put the folder of \
+         five minutes on two cores, and half a minute where the crates are proved already. To spare it, put the folder of \
          an archive into the variable {VARIABLE}."
     ));
     let began = Instant::now();
