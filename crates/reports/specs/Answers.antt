@@ -5,7 +5,8 @@ use Prim.Native.Nat.{ℕ}
 use Rattle.reports.specs.declared.Answer.{Answer}
 use Rattle.reports.specs.declared.State.{State}
 use Rattle.reports.specs.Reports.{Breach, once, Outcome, refusal, reported}
-use Rattle.reports.specs.Sink.{sink, none, Pushed, Appended, outcome}
+use Rattle.reports.specs.Sink.{sink, none, Appended, outcome}
+use Rattle.reports.specs.Slots.{Pushed}
 use Rattle.reports.specs.Laws.Sinks.{pushAll-reported, appendAll-reported}
 
 -- what the code answers and leaves in the buffer, as an outcome
@@ -20,9 +21,13 @@ pub record Answers (st : State) (r : Answer) : Type 0 where
 pub record Refuses (number which : ℕ) (r : Answer) : Type 0 where
   pub is : (s : List ℕ) → outcomeOf r s ≡ refusal number which s
 
+-- what is lent as workspace alone is as it was where a record is refused
+pub record Spared (r : Answer) (old new : List ℕ) : Type 0 where
+  pub same : (r .record ≡ 0 → ⊥) → new ≡ old
+
 -- what an entry point says: breaches put in from no report, and the answer made of the state
 module _ (old : List ℕ) {new : List ℕ} {st : State} {r : Answer} (bs : List Breach) where
-  pub pushed : Pushed old none bs new st → Answers st r → outcomeOf r new ≡ reported (once [] bs) old
+  pub pushed : {table : List ℕ} → Pushed old none bs new st table → Answers st r → outcomeOf r new ≡ reported (once [] bs) old
   pushed p a = a .is new ∙ ap outcome (p .is) ∙ pushAll-reported old bs
 
   pub appended : Appended old none bs new st → Answers st r → outcomeOf r new ≡ reported bs old

@@ -1,5 +1,6 @@
 -- A buffer with its state, one breach put into it, and how the bytes stand for a log.
--- Every function that may report says: `requires` Sound (sink (now buf) state), and `ensures` Pushed, or Appended, of its breaches.
+-- Every function that may report repeats says: `requires` Sound (sink (now buf) state), and `ensures` Appended of its breaches. One that may not asks for a table
+-- beside the buffer (Slots).
 use mathlib.Core.Path.{_≡_}
 use mathlib.Core.Bool.{Bool, true, false, cond, not, _&&_}
 use mathlib.Core.List.{List, _++_}
@@ -71,18 +72,16 @@ pub record Sound (s : Sink) : Type 0 where
   pub is : s ≡ written (s .bytes) (logOf s)
   pub within : s .state .used ≤ length (s .bytes)
 
--- ---- what a function that may report does: from the bytes and the state before it to those after it, its breaches are put in one by one
+-- ---- what a function that may report does: from the bytes and the state before it to those after it, its breaches are put in one by one, and the buffer is fit
+-- for the next
 
-pub record Recorded (f : Sink → Breach → Sink) (before : List ℕ) (st : State) (bs : List Breach) (after : List ℕ) (st′ : State) : Type 0 where
-  pub sound : Sound (sink after st′)
+pub record Recorded (f : Sink → Breach → Sink) (fit : Sink → Type 0) (before : List ℕ) (st : State) (bs : List Breach) (after : List ℕ) (st′ : State) : Type 0 where
+  pub still : fit (sink after st′)
   pub is : sink after st′ ≡ fold f (sink before st) bs
 
--- without repeats, and with them
-abbrev pub Pushed : List ℕ → State → List Breach → List ℕ → State → Type 0
-Pushed = Recorded push
-
+-- with repeats
 abbrev pub Appended : List ℕ → State → List Breach → List ℕ → State → Type 0
-Appended = Recorded append
+Appended = Recorded append Sound
 
 -- ---- a run: from no report, over a buffer that holds anything
 

@@ -1,6 +1,7 @@
 -- A table of the reports by a number made of their start and message, so that a repeat is found without asking all of them.
 -- A slot is 0 where it is free, else one more than the place of a report in the buffer. A report stands in the first slot that was free when it came, from
 -- its own first slot on and from the last slot to the first one again.
+-- Every function that reports a (message, start) once says: `requires` Lent (sink (now buf) state) (now table), and `ensures` Pushed of its breaches.
 use mathlib.Core.Path.{_≡_}
 use mathlib.Core.Bool.{Bool, true, false, cond, _&&_}
 use mathlib.Core.List.{List, [], _∷_, _++_}
@@ -14,7 +15,7 @@ use Rattle.reports.specs.declared.Slot.{Slot}
 use Rattle.reports.specs.declared.Slot.the-variants.{Seen, Free}
 use Rattle.reports.specs.Reports.{Breach, samePair}
 use Rattle.reports.specs.Decode.{size}
-use Rattle.reports.specs.Sink.{Sink, sink, held}
+use Rattle.reports.specs.Sink.{Sink, sink, held, push, Sound, Recorded}
 
 -- a number made of a message's bytes, four at a time, and of those that are left: the table asks nothing of it but that it is a function
 abbrev pub mixed : ℕ → ℕ → ℕ
@@ -97,3 +98,17 @@ pub record FreeIn (s : List ℕ) (st : State) (table : List ℕ) (start : ℕ) (
   pub slot : FreeFor (held (sink s st)) table (record { start = start; end = 0; message = message }) j
   pub inside : j < length table
   pub place : st .used < 4294967295
+
+-- ---- what is lent to a function that reports each pair once, and what it does
+
+-- no slot is taken
+abbrev pub Empty : List ℕ → Type 0
+Empty table = (j : ℕ) → getD table j 0 ≡ 0
+
+-- the buffer with its state, and the table that has its reports
+pub record Lent (s : Sink) (table : List ℕ) : Type 0 where
+  pub sound : Sound s
+  pub filed : Filed s table
+
+abbrev pub Pushed : List ℕ → State → List Breach → List ℕ → State → List ℕ → Type 0
+Pushed before st bs after st′ table = Recorded push (λ (s : Sink). Lent s table) before st bs after st′

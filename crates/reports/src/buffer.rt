@@ -1,17 +1,15 @@
 // Reports put into the buffer, and what a run answers.
 use crate::Answer;
 use crate::State;
-use crate::earlier::seen;
-use names::part_of;
 use names::put;
 use names::put_u16;
 use names::put_u32;
 ghost use mathlib.Core.Path.{_≡_};
 ghost use Prim.Native.Nat.{_+_, _<_, _≤_};
-ghost use lib.ListN.{length, take};
+ghost use lib.ListN.{length};
 ghost use Rattle.names.specs.Writer.{Stored};
 ghost use Rattle.reports.specs.Decode.{header};
-ghost use Rattle.reports.specs.Sink.{sink, Sound, roomFor, more, stopped, append, push};
+ghost use Rattle.reports.specs.Sink.{sink, Sound, roomFor, more, stopped, append};
 ghost use Rattle.reports.specs.Answers.{Answers, Refuses};
 
 // A report in steps, where its message is written straight to the buffer: has_room; then put_header, the message's writers from
@@ -77,35 +75,6 @@ pub fn append_report(buf: &mut [u8], state: State, start: u32, end: u32, message
         return one_more(state, next);
     }
     stopped(state)
-}
-
-// One breach, where no report has its message and start.
-pub fn push_report(buf: &mut [u8], state: State, start: u32, end: u32, message: &[u8]) -> State
-    requires { ⌜ Sound (sink (now buf) state) × (length (now message) < 65536) ⌝ }
-    ensures { λ r. ⌜ sink (now (buf .exit)) r ≡ push (sink (now (buf .entry)) state) (record { start = start; end = end; message = now (message .entry) }) ⌝ }
-{
-    if state.full {
-        return state;
-    }
-    if seen(buf, state.count, start, message) {
-        return state;
-    }
-    append_report(buf, state, start, end, message)
-}
-
-// The same of a message that was composed in a scratch: its first n bytes.
-pub fn push_scratch(
-    buf: &mut [u8],
-    state: State,
-    start: u32,
-    end: u32,
-    scratch: &[u8],
-    n: usize,
-) -> State
-    requires { ⌜ Sound (sink (now buf) state) × (n < 65536) ⌝ }
-    ensures { λ r. ⌜ sink (now (buf .exit)) r ≡ push (sink (now (buf .entry)) state) (record { start = start; end = end; message = take n (now (scratch .entry)) }) ⌝ }
-{
-    push_report(buf, state, start, end, part_of(scratch, 0, n))
 }
 
 // 0, or 11 where a report did not fit; no record; and how many reports the buffer holds.

@@ -9,15 +9,14 @@ pub use buffer::answer_of;
 pub use buffer::append_report;
 pub use buffer::has_room;
 pub use buffer::one_more;
-pub use buffer::push_report;
-pub use buffer::push_scratch;
 pub use buffer::put_header;
 pub use buffer::refused;
 pub use buffer::stopped;
 pub use pieces::put_piece;
 pub use pieces::text_size;
 pub use pieces::word_count;
-pub use tabled::push_tabled;
+pub use slots::clear;
+pub use tabled::push_scratch;
 
 // What the buffer holds: the bytes used, the reports in them, and whether one did not fit.
 pub struct State {

@@ -8,7 +8,7 @@ ghost use mathlib.Core.Path.{_≡_};
 ghost use Prim.Native.Nat.{_+_, _*_, _<_, _≤_};
 ghost use lib.ListN.{length, getD, set, drop};
 ghost use Rattle.reports.specs.Sink.{sink, Sound, held};
-ghost use Rattle.reports.specs.Slots.{mixed, mixedBytes, mixedWords, hashed, slotAt, Tabled, Finds, isOpen};
+ghost use Rattle.reports.specs.Slots.{mixed, mixedBytes, mixedWords, hashed, slotAt, Tabled, Finds, isOpen, Empty};
 
 fn from_u32(n: u32) -> usize
     ensures { λ r. ⌜ r ≡ n ⌝ }
@@ -105,6 +105,17 @@ pub fn file(table: &mut [u32], slot: usize, place: usize)
     ensures { λ r. ⌜ now (table .exit) ≡ set (now (table .entry)) slot (place + 1) ⌝ }
 {
     table[slot] = (place + 1) as u32;
+}
+
+// All slots made free, whatever they held.
+pub fn clear(table: &mut [u32])
+    ensures { λ r. ⌜ Empty (now (table .exit)) ⌝ }
+{
+    let mut at = 0;
+    while at < table.len() {
+        table[at] = 0;
+        at += 1;
+    }
 }
 
 // Whether the table takes one more report of this buffer.

@@ -6,12 +6,14 @@ use crate::earlier::seen;
 use crate::slots::file;
 use crate::slots::find;
 use crate::slots::is_open;
+use names::part_of;
 ghost use mathlib.Core.Path.{_≡_};
 ghost use mathlib.Core.Bool.{true, false};
+ghost use mathlib.Core.List.{[], _∷_};
 ghost use Prim.Native.Nat.{_<_};
-ghost use lib.ListN.{length};
+ghost use lib.ListN.{length, take};
 ghost use Rattle.reports.specs.Sink.{sink, Sound, push};
-ghost use Rattle.reports.specs.Slots.{isOpen, Filed, FreeIn};
+ghost use Rattle.reports.specs.Slots.{isOpen, Filed, FreeIn, Lent, Pushed};
 
 // One breach that no report is, put into the buffer and, where it fits, into a slot that is free for it.
 fn add_filed(
@@ -80,7 +82,7 @@ fn push_searched(
 }
 
 // One breach, where no report has its message and start: the table tells, and where it takes no more the reports do.
-pub fn push_tabled(
+fn push_tabled(
     buf: &mut [u8],
     table: &mut [u32],
     state: State,
@@ -88,10 +90,9 @@ pub fn push_tabled(
     end: u32,
     message: &[u8],
 ) -> State
-    requires { ⌜ Sound (sink (now buf) state) × (length (now message) < 65536) ⌝ }
-    requires { ⌜ Filed (sink (now buf) state) (now table) ⌝ }
-    ensures { λ r. ⌜ sink (now (buf .exit)) r ≡ push (sink (now (buf .entry)) state) (record { start = start; end = end; message = now (message .entry) }) ⌝ }
-    ensures { λ r. ⌜ Filed (sink (now (buf .exit)) r) (now (table .exit)) ⌝ }
+    requires { ⌜ Lent (sink (now buf) state) (now table) ⌝ }
+    requires { ⌜ length (now message) < 65536 ⌝ }
+    ensures { λ r. ⌜ Pushed (now (buf .entry)) state (record { start = start; end = end; message = now (message .entry) } ∷ []) (now (buf .exit)) r (now (table .exit)) ⌝ }
 {
     if state.full {
         return state;
@@ -100,4 +101,21 @@ pub fn push_tabled(
         return push_filed(buf, table, state, start, end, message);
     }
     push_searched(buf, table, state, start, end, message)
+}
+
+// The same of a message that was composed in a scratch: its first n bytes.
+pub fn push_scratch(
+    buf: &mut [u8],
+    table: &mut [u32],
+    state: State,
+    start: u32,
+    end: u32,
+    scratch: &[u8],
+    n: usize,
+) -> State
+    requires { ⌜ Lent (sink (now buf) state) (now table) ⌝ }
+    requires { ⌜ n < 65536 ⌝ }
+    ensures { λ r. ⌜ Pushed (now (buf .entry)) state (record { start = start; end = end; message = take n (now (scratch .entry)) } ∷ []) (now (buf .exit)) r (now (table .exit)) ⌝ }
+{
+    push_tabled(buf, table, state, start, end, part_of(scratch, 0, n))
 }

@@ -26,7 +26,8 @@ use Rattle.resolution.specs.declared.Typed.{Typed}
 use Rattle.terms.specs.Terms.{Facts, termType}
 use Rattle.terms.specs.Answers.{TypeOf}
 use Rattle.reports.specs.declared.State.{State}
-use Rattle.reports.specs.Sink.{Sink, sink, Sound, pushAll, Pushed}
+use Rattle.reports.specs.Sink.{Sink, sink, pushAll}
+use Rattle.reports.specs.Slots.{Lent, Pushed}
 use Rattle.reports.specs.Laws.Sinks.{recorded-more}
 use Rattle.reports.specs.Kept.{fold}
 use Rattle.reports.specs.Reports.{Breach}
@@ -47,25 +48,25 @@ argument-typed s c at name expected actual x y h k g = rw (← h .value, ← k .
 -- ---- the arguments: those that are left make the whole
 
 module _ (f : Facts) (s c : List ℕ) (own : Span) (name : List ℕ) (action : Option Action) where
-  pub record Arguing (whole now : Sink) (n at : ℕ) : Type 0 where
-    pub sound : Sound now
+  pub record Arguing (whole now : Sink) (table : List ℕ) (n at : ℕ) : Type 0 where
+    pub still : Lent now table
     pub stands : isArguments c n at ≡ true
     pub same : pushAll now (argumentBreaches f name action (argumentsIn c n at) own) ≡ whole
 
-  pub arguing-begins : (now : Sink) (n at : ℕ) → Sound now → isArguments c n at ≡ true → Arguing (pushAll now (argumentBreaches f name action (argumentsIn c n at) own)) now n at
-  arguing-begins now n at p is = record { sound = p; stands = is; same = refl }
+  pub arguing-begins : (now : Sink) (table : List ℕ) (n at : ℕ) → Lent now table → isArguments c n at ≡ true → Arguing (pushAll now (argumentBreaches f name action (argumentsIn c n at) own)) now table n at
+  arguing-begins now table n at p is = record { still = p; stands = is; same = refl }
 
   module _ (n at : ℕ) where
-    pub arguing-over : {old now : List ℕ} {st₀ st : State} {bs : List Breach} → Arguing (pushAll (sink old st₀) bs) (sink now st) n at → n ≤ 0 → Pushed old st₀ bs now st
+    pub arguing-over : {old now table : List ℕ} {st₀ st : State} {bs : List Breach} → Arguing (pushAll (sink old st₀) bs) (sink now st) table n at → n ≤ 0 → Pushed old st₀ bs now st table
     unfolding argumentBreaches fold
-    arguing-over a h = record { sound = a .sound; is = rw (arguments-over c n at h) at (a .same) }
+    arguing-over a h = record { still = a .still; is = rw (arguments-over c n at h) at (a .same) }
 
-    pub arguing-turn : {whole : Sink} {now next : List ℕ} {st r : State} → Arguing whole (sink now st) n at → (p : ArgumentAt) → ArgumentHere c n at p → {x : Said}
+    pub arguing-turn : {whole : Sink} {now next table table′ : List ℕ} {st r : State} → Arguing whole (sink now st) table n at → (p : ArgumentAt) → ArgumentHere c n at p → {x : Said}
         → Tells s c (both (contextType action (pathIn c (p .field))) (termType (some f) (termIn c (p .term))) (argumentBreach (wordAt c at) name)) x
-        → Pushed now st (saidBreaches s c x own) next r → Arguing whole (sink next r) (n - 1) (p .next)
+        → Pushed now st (saidBreaches s c x own) next r table′ → Arguing whole (sink next r) table′ (n - 1) (p .next)
     unfolding argumentBreaches
     arguing-turn a p h g e = record {
-      sound = e .sound;
+      still = e .still;
       stands = h .rest;
       same = recorded-more e _ ∙ rw (h .value, ← g .is own) at (a .same);
     }
@@ -86,7 +87,7 @@ module _ (s c : List ℕ) (at : ℕ) (r : Ends) (span : Spans (ownSpanOf (condit
   }
 
 -- its breaches are those of its arguments
-pub predicate-told : (s c n : List ℕ) (f : Code.Facts) (at : ℕ) (p : Applied) → AppliedHere s c at p → {old new : List ℕ} {st st′ : State} → Pushed old st (argumentsAt s c n f p) new st′ → Pushed old st (nodeAt s c n f at) new st′
+pub predicate-told : (s c n : List ℕ) (f : Code.Facts) (at : ℕ) (p : Applied) → AppliedHere s c at p → {old new table : List ℕ} {st st′ : State} → Pushed old st (argumentsAt s c n f p) new st′ table → Pushed old st (nodeAt s c n f at) new st′ table
 predicate-told s c n f at p h e = rw (h .value n f) at e
 
 pub ruleset by-types = (needs, argument-typed)

@@ -3,30 +3,35 @@ use mathlib.Core.Path.{_≡_, refl, sym, ap, _∙_}
 use mathlib.Core.Bool.{Bool, true, false, cond, _||_}
 use mathlib.Core.List.{List, [], _++_}
 use mathlib.Core.Option.{Option, none, some}
-use Prim.Native.Nat.{ℕ, _≤_, _<_}
+use Prim.Native.Nat.{ℕ, _+_, _-_, _≤_, _<_}
 use native.Mathlib.Omega.{arith}
 use borrow.Author.Needs.{needs}
 use borrow.Author.Tests.{ne-eqb}
 use lib.Dec.{ltb, eqb, lit<}
+use lib.ListN.{length}
+use Rattle.names.specs.Fields.{levels}
 use Rattle.names.specs.Read.{wordAt}
 use Rattle.condition.specs.Condition as tree
-use Rattle.condition.specs.Condition.{Span, Condition, Term, integer, decimal, string, bool, Slot, named, paramRef, binderRef, Operator, le, lt, ge, gt, eq, notEq, one, two, predicate, comparison, exists, tp, opaque, entity, literal, contextField, scopeField, var, wildcard, array, aggregate, sigil}
+use Rattle.condition.specs.Condition.{Span, Condition, Term, integer, decimal, string, bool, Slot, named, paramRef, binderRef, Operator, le, lt, ge, gt, eq, notEq, one, two, predicate, comparison, exists, tp, opaque, entity, literal, contextField, scopeField, var, wildcard, array, aggregate, sigil, termAt}
 use Rattle.nodes.specs.Kinds.{kindOf, spanOf, termKindOf, operatorNumber}
-use Rattle.condition.specs.Places.{isCondition, conditionIn, termIn, isSlot, slotIn}
-use Rattle.nodes.specs.Offsets.{firstPart}
+use Rattle.condition.specs.Places.{isCondition, conditionIn, isTerm, termIn, isSlot, slotIn}
+use Rattle.nodes.specs.Offsets.{firstPart, termPart}
 use Rattle.nodes.specs.Laws.Pieces.{timepoint-inside}
-use Rattle.nodes.specs.Open.{Opened, TermOpened}
-use Rattle.nodes.specs.Parts.{Spans, ComparisonHere, ArithHere, TimepointHere, slotOf}
+use Rattle.nodes.specs.Laws.Terms.{TermsLeft, TermPassed, one-term-left, none-left, first-stands, term-passed, arith-turn}
+use Rattle.nodes.specs.Open.{Opened, TermOpened, Skipped}
+use Rattle.nodes.specs.Parts.{Spans, ComparisonHere, TimepointHere, slotOf}
 use Rattle.nodes.specs.declared.Ends.{Ends}
 use Rattle.nodes.specs.declared.ComparisonAt.{ComparisonAt}
-use Rattle.nodes.specs.declared.Operands.{Operands}
 use Rattle.nodes.specs.declared.SlotAt.{SlotAt}
 use Rattle.nodes.specs.declared.SlotAt.the-variants as SlotAt
 use Rattle.resolution.specs.Places.{typedOf}
 use Rattle.resolution.specs.declared.Typed.{Typed}
 use Rattle.reports.specs.declared.State.{State}
-use Rattle.reports.specs.Sink.{sink, Sound, Pushed}
-use Rattle.reports.specs.Laws.Sinks.{recorded-none, recorded-then}
+use Rattle.reports.specs.Kept.{fold}
+use Rattle.reports.specs.Reports.{Breach}
+use Rattle.reports.specs.Sink.{Sink, sink, pushAll}
+use Rattle.reports.specs.Slots.{Lent, Pushed}
+use Rattle.reports.specs.Laws.Sinks.{recorded-none, recorded-more, recorded-then}
 use Rattle.terms.specs.Terms.{Facts, termType, varType}
 use Rattle.terms.specs.Answers.{TypeOf}
 use Rattle.terms.specs.Facts.{factsIn, NameTyped}
@@ -35,9 +40,11 @@ use Rattle.messages.specs.declared.Said.{Said}
 use Rattle.messages.specs.Words.{Rule, quoted, saidBreaches, Tells, spanIn}
 use Rattle.rules.specs.Messages.{wildcardInside}
 use Rattle.rules.specs.Rules.{breachIf, both, notLongHere, operandsBy, ordering, leafBreaches, arithmeticBreaches, timepointBreach, timepointBreaches, nodeBreaches}
-use Rattle.rules.specs.Findings.{Finds}
-use Rattle.rules.specs.Places.{ComparedHere}
+use Rattle.rules.specs.Findings.{saidOf, Finds}
+use Rattle.rules.specs.Places.{ComparedHere, JudgedHere}
 use Rattle.rules.specs.declared.Compared.{Compared}
+use Rattle.rules.specs.declared.Judged.{Judged}
+use Rattle.rules.specs.declared.Finding.{Finding}
 use Rattle.rules.specs.declared.Finding.the-variants.{Clean, Wildcard}
 
 -- ---- terms by their kinds
@@ -96,34 +103,67 @@ module _ (f : Facts) (s c : List ℕ) (at k : ℕ) (o : TermOpened c at k) (not-
 
 -- ---- what was found is reported where the rule stands
 
-module _ (s c : List ℕ) {old new : List ℕ} {st st′ : State} {x : Said} where
-  told : (rule : Rule) (at : Span) → Tells s c rule x → Pushed old st (saidBreaches s c x at) new st′ → Pushed old st (rule at) new st′
+module _ (s c : List ℕ) {old new table : List ℕ} {st st′ : State} {x : Said} where
+  told : (rule : Rule) (at : Span) → Tells s c rule x → Pushed old st (saidBreaches s c x at) new st′ table → Pushed old st (rule at) new st′ table
   told rule at g p = rw (← g .is at) p
 
-  pub leaf-told : (f : Facts) (t : Term) (at : Span) → Tells s c (leafBreaches f t) x → Pushed old st (saidBreaches s c x at) new st′ → Pushed old st (leafBreaches f t at) new st′
-  leaf-told f t at = told (leafBreaches f t) at
+-- the leaves of a term, left then right: those of the terms that are left, put in, make the whole
+module _ (f : Facts) (c : List ℕ) (span : Span) where
+  abbrev leavesOf : Term → List Breach
+  leavesOf t = leafBreaches f t span
 
--- the leaves of an arithmetic, left then right
-module _ (f : Facts) (c : List ℕ) (at : ℕ) (span : Span) {old new : List ℕ} {st st′ : State} where
-  pub leaves-told : (p : Operands) → ArithHere c at p → {mid : List ℕ} {st₁ : State} → Pushed old st (leafBreaches f (termIn c (p .left)) span) mid st₁ → Pushed mid st₁ (leafBreaches f (termIn c (p .right)) span) new st′ → Pushed old st (leafBreaches f (termIn c at) span) new st′
-  unfolding leafBreaches
-  leaves-told p h e g = rw (h .value) (recorded-then e g)
+  pub record LeavesLeft (whole now : Sink) (table : List ℕ) (n at : ℕ) : Type 0 where
+    pub list : List Breach
+    pub left : TermsLeft leavesOf c list n at
+    pub still : Lent now table
+    pub same : pushAll now list ≡ whole
 
+  pub leaves-begin : (now : Sink) (table : List ℕ) (at : ℕ) → Lent now table → isTerm c at ≡ true → LeavesLeft (pushAll now (leafBreaches f (termIn c at) span)) now table 1 at
+  leaves-begin now table at p acc = record { list = leavesOf (termIn c at); left = one-term-left leavesOf c at acc; still = p; same = refl }
+
+  module _ (n at : ℕ) where
+    pub leaves-over : {old now table : List ℕ} {st₀ st : State} {bs : List Breach} → LeavesLeft (pushAll (sink old st₀) bs) (sink now st) table n at → n ≤ 0 → Pushed old st₀ bs now st table
+    unfolding fold
+    leaves-over l h = record { still = l .still; is = rw (none-left leavesOf c (l .list) n at (l .left) h) at (l .same) }
+
+    pub leaves-small : {whole now : Sink} {table : List ℕ} → LeavesLeft whole now table n at → n ≤ length c
+    leaves-small l = l .left .small
+
+    pub leaves-stand : {whole now : Sink} {table : List ℕ} → LeavesLeft whole now table n at → 0 < n → isTerm c at ≡ true
+    leaves-stand l h = first-stands leavesOf c (l .list) n at (l .left) h
+
+    pub leaves-added : {whole now : Sink} {table : List ℕ} → LeavesLeft whole now table n at → 0 < n → (k : ℕ) → TermOpened c at k → k ≡ 12 → (p : ℕ) → p ≡ termPart c at → LeavesLeft whole now table (n + 1) p
+    unfolding leafBreaches
+    leaves-added l h k o is p place = record {
+      list = l .list;
+      left = arith-turn leavesOf c (l .list) n at (l .left) h (λ x y. refl) k o is p place;
+      still = l .still;
+      same = l .same;
+    }
+
+    pub leaves-turn : {whole : Sink} {now next table table′ : List ℕ} {st st′ : State} → LeavesLeft whole (sink now st) table n at → 0 < n → (s : List ℕ) {x : Said} → Tells s c (leafBreaches f (termIn c at)) x
+        → Pushed now st (saidBreaches s c x span) next st′ table′ → (m : ℕ) → Skipped (termAt levels false c at) at m → LeavesLeft whole (sink next st′) table′ (n - 1) m
+    leaves-turn l h s g e m z =
+        let d = term-passed leavesOf c (l .list) n at (l .left) h m z in
+        record {
+          list = d .others;
+          left = d .left;
+          still = e .still;
+          same = recorded-more (told s c (leafBreaches f (termIn c at)) span g e) (d .others) ∙ rw (d .parted) at (l .same);
+        }
+
+module _ (f : Facts) (c : List ℕ) (at : ℕ) (span : Span) {old new table : List ℕ} {st st′ : State} where
   module _ (k : ℕ) (o : TermOpened c at k) where
-    pub operand-arithmetic : k ≡ 12 → Pushed old st (leafBreaches f (termIn c at) span) new st′ → Pushed old st (arithmeticBreaches f (termIn c at) span) new st′
+    pub operand-arithmetic : k ≡ 12 → Pushed old st (leafBreaches f (termIn c at) span) new st′ table → Pushed old st (arithmeticBreaches f (termIn c at) span) new st′ table
     operand-arithmetic e g = rw (operand-by-kind f span (termIn c at), ← o .kind, e) g
 
 module _ (f : Facts) (c : List ℕ) (at k : ℕ) (o : TermOpened c at k) where
-  pub operand-plain : (k ≡ 12 → ⊥) → (span : Span) (old : List ℕ) (st : State) → Sound (sink old st) → Pushed old st (arithmeticBreaches f (termIn c at) span) old st
-  operand-plain n span old st p = rw (operand-by-kind f span (termIn c at), ← o .kind, ne-eqb _ _ n) (recorded-none old st p)
-
-  -- the kind of a term that is arithmetic is asked for its parts
-  pub arithmetic-kind : k ≡ 12 → termKindOf (termIn c at) ≡ 12
-  arithmetic-kind e = sym (o .kind) ∙ e
+  pub operand-plain : (k ≡ 12 → ⊥) → (span : Span) (old : List ℕ) (st : State) (table : List ℕ) → Lent (sink old st) table → Pushed old st (arithmeticBreaches f (termIn c at) span) old st table
+  operand-plain n span old st table p = rw (operand-by-kind f span (termIn c at), ← o .kind, ne-eqb _ _ n) (recorded-none old st p)
 
 pub ruleset leaf-kinds = (needs, leaf-wild, leaf-aggregate, leaf-sigil, leaf-typed)
 
-pub ruleset leaf-parts = (needs, arithmetic-kind, leaf-told, leaves-told)
+pub ruleset each-leaf = (needs, leaves-begin, leaves-over, leaves-small, leaves-stand, leaves-added, leaves-turn)
 
 pub ruleset operand-kinds = (needs, operand-plain, operand-arithmetic)
 
@@ -157,8 +197,8 @@ operands-typed f s c left right ordered l r v w g = rw (← v .value, ← w .val
 -- arithmetic first, then the types
 pub comparison-told : (f : Facts) (s c : List ℕ) (at : ℕ) (p : Compared) → ComparedHere c at p → {x : Said}
     → Tells s c (both (termType (some f) (termIn c (p .left))) (termType (some f) (termIn c (p .right))) (operandsBy (p .ordering))) x
-    → {old mid new : List ℕ} {st st₁ st′ : State} → Pushed old st (arithmeticBreaches f (termIn c (p .left)) (spanIn (p .span)) ++ arithmeticBreaches f (termIn c (p .right)) (spanIn (p .span))) mid st₁
-    → Pushed mid st₁ (saidBreaches s c x (spanIn (p .span))) new st′ → Pushed old st (nodeBreaches f (conditionIn c at)) new st′
+    → {old mid new between table : List ℕ} {st st₁ st′ : State} → Pushed old st (arithmeticBreaches f (termIn c (p .left)) (spanIn (p .span)) ++ arithmeticBreaches f (termIn c (p .right)) (spanIn (p .span))) mid st₁ between
+    → Pushed mid st₁ (saidBreaches s c x (spanIn (p .span))) new st′ table → Pushed old st (nodeBreaches f (conditionIn c at)) new st′ table
 unfolding nodeBreaches
 comparison-told f s c at p h g e r =
     rw (h .value, ← h .ordered) (recorded-then e (told s c (both (termType (some f) (termIn c (p .left))) (termType (some f) (termIn c (p .right))) (operandsBy (p .ordering))) (spanIn (p .span)) g r))
@@ -188,17 +228,23 @@ module _ (s c : List ℕ) (at : ℕ) (r : SlotAt) (e : slotIn c at ≡ slotOf c 
   unfolding timepointBreaches
   slot-named p g name w n facts typed v h = record { is = λ span. rw (e, g, ← w, ← v .value n, w) (h .is span); stands = h .stands }
 
-pub tp-told : (f : Facts) (s c : List ℕ) (at : ℕ) (r : Ends) → Spans (spanOf (conditionIn c at)) r → (p : ℕ) → TimepointHere c at p → {x : Said} → Tells s c (timepointBreaches f (slotIn c p)) x
-    → {old new : List ℕ} {st st′ : State} → Pushed old st (saidBreaches s c x (spanIn r)) new st′ → Pushed old st (nodeBreaches f (conditionIn c at)) new st′
-unfolding nodeBreaches
-tp-told f s c at r span p h g e = rw (h .value, span-is span) (told s c (timepointBreaches f (slotIn c p)) (spanIn r) g e)
-
 pub ruleset slots = (needs, slot-param, slot-binder, slot-named)
 
 pub timepoint-slot : (s : List ℕ) (at : ℕ) → isCondition s at ≡ true → kindOf (conditionIn s at) ≡ 10 → (p : ℕ) → p ≡ firstPart s at → isSlot s p ≡ true
 timepoint-slot s at acc is p e = timepoint-inside s at acc is p e .stands
 
-pub ruleset tps = (needs, timepoint-inside, timepoint-slot, tp-told)
+pub tp-judged : (f : Facts) (s c : List ℕ) (at : ℕ) (r : Ends) → Spans (spanOf (conditionIn c at)) r → (p : ℕ) → TimepointHere c at p → (x : Finding) → Finds s c (timepointBreaches f (slotIn c p)) x
+    → JudgedHere s c (nodeBreaches f (conditionIn c at)) (record { span = r; finding = x })
+unfolding nodeBreaches
+tp-judged f s c at r span p h x g = record { is = g .is (spanIn r) ∙ sym (rw (h .value, span-is span)); stands = g .stands }
+
+pub ruleset tps = (needs, timepoint-inside, timepoint-slot, tp-judged)
+
+-- what was judged is reported
+pub judged-told : {s c : List ℕ} {bs : List Breach} {r : Judged} → JudgedHere s c bs r → {old new table : List ℕ} {st st′ : State} → Pushed old st (saidBreaches s c (saidOf (r .finding)) (spanIn (r .span))) new st′ table → Pushed old st bs new st′ table
+judged-told h e = rw (h .is) at e
+
+pub ruleset judging = (needs, judged-told)
 
 -- ---- any node
 
@@ -213,8 +259,8 @@ quiet f (tp span d) a b e = absurd (e refl)
 quiet f (opaque span) a b e = refl
 
 module _ (c : List ℕ) (at k : ℕ) (o : Opened c at k) where
-  pub node-quiet : (k ≡ 7 → ⊥) → (k ≡ 8 → ⊥) → (k ≡ 10 → ⊥) → (f : Facts) (old : List ℕ) (st : State) → Sound (sink old st) → Pushed old st (nodeBreaches f (conditionIn c at)) old st
-  node-quiet a b d f old st p = rw (quiet f (conditionIn c at) (λ e. a (o .kind ∙ e)) (λ e. b (o .kind ∙ e)) (λ e. d (o .kind ∙ e))) (recorded-none old st p)
+  pub node-quiet : (k ≡ 7 → ⊥) → (k ≡ 8 → ⊥) → (k ≡ 10 → ⊥) → (f : Facts) (old : List ℕ) (st : State) (table : List ℕ) → Lent (sink old st) table → Pushed old st (nodeBreaches f (conditionIn c at)) old st table
+  node-quiet a b d f old st table p = rw (quiet f (conditionIn c at) (λ e. a (o .kind ∙ e)) (λ e. b (o .kind ∙ e)) (λ e. d (o .kind ∙ e))) (recorded-none old st p)
 
   -- the kind of a node is asked for its parts
   pub node-kind : (j : ℕ) → k ≡ j → kindOf (conditionIn c at) ≡ j

@@ -9,8 +9,10 @@ use lib.Dec.{lit≤}
 use Rattle.names.specs.Writer.{Stored}
 use Rattle.types.specs.declared.Rich.{Rich}
 use Rattle.reports.specs.declared.State.{State}
-use Rattle.reports.specs.Sink.{sink, Sound, push, Pushed}
-use Rattle.reports.specs.Laws.Sinks.{recorded-none, pushed-composed}
+use Rattle.reports.specs.Sink.{sink}
+use Rattle.reports.specs.Slots.{Lent, Pushed}
+use Rattle.reports.specs.Laws.Sinks.{recorded-none}
+use Rattle.reports.specs.Laws.Slots.{pushed-composed}
 use Rattle.nodes.specs.declared.Ends.{Ends}
 use Rattle.messages.specs.Words.{textOf, Stands, most, saidBreaches, SaidStands, spanIn}
 use Rattle.messages.specs.Laws.Lengths.{Bytes, text-within}
@@ -62,8 +64,8 @@ said-short (WrongTimepoint p t) = lit≤ tt
 said-short (WrongArgument p q x a) = lit≤ tt
 
 module _ (s c : List ℕ) (f : Finding) (r : Said) (is : r ≡ saidOf f) where
-  pub nothing-said : r ≡ Said.Nothing → (span : Ends) (old : List ℕ) (st : State) → Sound (sink old st) → Pushed old st (saidBreaches s c (saidOf f) (spanIn span)) old st
-  nothing-said e span old st p = rw (← is, e) (recorded-none old st p)
+  pub nothing-said : r ≡ Said.Nothing → (span : Ends) (old : List ℕ) (st : State) (table : List ℕ) → Lent (sink old st) table → Pushed old st (saidBreaches s c (saidOf f) (spanIn span)) old st table
+  nothing-said e span old st table p = rw (← is, e) (recorded-none old st p)
 
   module _ (m : Sentence) (e : r ≡ Said.Message m) where
     pub message-stands : SaidStands s c (saidOf f) → Stands s c m
@@ -75,8 +77,8 @@ module _ (s c : List ℕ) (f : Finding) (r : Said) (is : r ≡ saidOf f) where
         let most-is : most m ≤ 2048 = rw (← is, e) at (said-short f) in
         omega (arith, text-within s c bytes m (message-stands h))
 
-    pub message-pushed : (span : Ends) {old scratch new : List ℕ} {n : ℕ} {after : List ℕ} {st st′ : State} → Sound (sink old st) → Stored scratch 0 (textOf s c m) new n
-        → sink after st′ ≡ push (sink old st) (record { start = span .start; end = span .end; message = take n new }) → Pushed old st (saidBreaches s c (saidOf f) (spanIn span)) after st′
-    message-pushed span p w k = rw (← is, e) (pushed-composed p (span .start) (span .end) w k)
+    pub message-pushed : (span : Ends) {old scratch new : List ℕ} {n : ℕ} {after table : List ℕ} {st st′ : State} → Stored scratch 0 (textOf s c m) new n
+        → Pushed old st (record { start = span .start; end = span .end; message = take n new } ∷ []) after st′ table → Pushed old st (saidBreaches s c (saidOf f) (spanIn span)) after st′ table
+    message-pushed span w k = rw (← is, e) (pushed-composed (span .start) (span .end) w k)
 
 pub ruleset reporting = (needs, nothing-said, message-stands, message-short, message-pushed)

@@ -16,11 +16,13 @@ use Rattle.terms.specs.Terms.{termType}
 use Rattle.terms.specs.Facts.{factsIn}
 use Rattle.terms.specs.declared.Facts.{Facts}
 use Rattle.reports.specs.Reports.{Breach}
-use Rattle.messages.specs.Words.{Rule, spanIn}
+use Rattle.messages.specs.Words.{Rule, spanIn, saidBreaches, SaidStands}
 use Rattle.rules.specs.Rules.{both, ordering, operandsBy, argumentBreach, argumentBreaches, leafBreaches, arithmeticBreaches, timepointBreaches, nodeBreaches}
 use Rattle.rules.specs.declared.Compared.{Compared}
 use Rattle.rules.specs.declared.Operand.{Operand}
 use Rattle.rules.specs.declared.Applied.{Applied}
+use Rattle.rules.specs.declared.Judged.{Judged}
+use Rattle.rules.specs.Findings.{saidOf}
 
 module _ (s c n : List ℕ) (f : Facts) where
   abbrev pub nodeAt : ℕ → List Breach
@@ -74,3 +76,8 @@ pub record AppliedHere (s c : List ℕ) (at : ℕ) (p : Applied) : Type 0 where
   pub action : foundStands (isAction s) (p .action) ≡ true
   pub args : isArguments c (p .count) (p .first) ≡ true
   pub value : (n : List ℕ) (f : Facts) → argumentsAt s c n f p ≡ nodeAt s c n f at
+
+-- a node that was judged: what is said at its span are its breaches
+pub record JudgedHere (s c : List ℕ) (bs : List Breach) (r : Judged) : Type 0 where
+  pub is : saidBreaches s c (saidOf (r .finding)) (spanIn (r .span)) ≡ bs
+  pub stands : SaidStands s c (saidOf (r .finding))

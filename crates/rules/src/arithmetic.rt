@@ -9,7 +9,8 @@ ghost use mathlib.Core.Path.{_≡_};
 ghost use mathlib.Core.Bool.{true};
 ghost use Rattle.nodes.specs.Open.{TermOpened};
 ghost use Rattle.condition.specs.Places.{isTerm};
-ghost use Rattle.reports.specs.Sink.{sink, Sound, Pushed};
+ghost use Rattle.reports.specs.Sink.{sink};
+ghost use Rattle.reports.specs.Slots.{Lent, Pushed};
 ghost use Rattle.terms.specs.Facts.{Known};
 ghost use Rattle.rules.specs.Findings.{Finds};
 ghost use Rattle.rules.specs.Places.{leafAt, leavesOf, arithmeticOf};
@@ -43,9 +44,10 @@ fn leaf<'a>(
     not_long(schema, condition, typed)
 }
 
-// The leaves of a term, left then right.
+// The leaves of a term, left then right: in its bytes they follow one another, each arithmetic before its two parts.
 fn leaves<'a>(
     buf: &mut [u8],
+    table: &mut [u32],
     state: State,
     schema: &'a [u8],
     condition: &'a [u8],
@@ -54,34 +56,34 @@ fn leaves<'a>(
     facts: Facts,
     term: Operand,
 ) -> State
-    requires { ⌜ Sound (sink (now buf) state) ⌝ }
+    requires { ⌜ Lent (sink (now buf) state) (now table) ⌝ }
     requires { ⌜ Known (now schema) (now condition) (now env) facts ⌝ }
     requires { ⌜ isTerm (now condition) (term .at) ≡ true ⌝ }
-    ensures { λ after. ⌜ Pushed (now (buf .entry)) state (leavesOf (now (schema .entry)) (now (condition .entry)) (now (targets .entry)) facts term) (now (buf .exit)) after ⌝ }
+    ensures { λ after. ⌜ Pushed (now (buf .entry)) state (leavesOf (now (schema .entry)) (now (condition .entry)) (now (targets .entry)) facts term) (now (buf .exit)) after (now (table .exit)) ⌝ }
 {
-    let at = term.at;
     let span = term.span;
-    let kind = nodes::term_kind_at(condition, at);
-    if kind == 12 {
-        let parts = nodes::arith_at(condition, at);
-        let left = Operand {
-            span,
-            at: parts.left,
-        };
-        let right = Operand {
-            span,
-            at: parts.right,
-        };
-        let after = leaves(buf, state, schema, condition, targets, env, facts, left);
-        return leaves(buf, after, schema, condition, targets, env, facts, right);
+    let mut now = state;
+    let mut rest: usize = 1;
+    let mut at = term.at;
+    while 0 < rest {
+        let kind = nodes::term_kind_at(condition, at);
+        if kind == 12 {
+            at = nodes::term_part(condition, at);
+            rest += 1;
+            continue;
+        }
+        let finding = leaf(schema, condition, targets, env, facts, at, kind);
+        now = report(buf, table, now, schema, condition, span, finding);
+        at = nodes::past_term(condition, at);
+        rest -= 1;
     }
-    let finding = leaf(schema, condition, targets, env, facts, at, kind);
-    report(buf, state, schema, condition, span, finding)
+    now
 }
 
 // An operand of a comparison is inspected where it is arithmetic.
 pub fn arithmetic<'a>(
     buf: &mut [u8],
+    table: &mut [u32],
     state: State,
     schema: &'a [u8],
     condition: &'a [u8],
@@ -90,13 +92,13 @@ pub fn arithmetic<'a>(
     facts: Facts,
     operand: Operand,
 ) -> State
-    requires { ⌜ Sound (sink (now buf) state) ⌝ }
+    requires { ⌜ Lent (sink (now buf) state) (now table) ⌝ }
     requires { ⌜ Known (now schema) (now condition) (now env) facts ⌝ }
     requires { ⌜ isTerm (now condition) (operand .at) ≡ true ⌝ }
-    ensures { λ after. ⌜ Pushed (now (buf .entry)) state (arithmeticOf (now (schema .entry)) (now (condition .entry)) (now (targets .entry)) facts operand) (now (buf .exit)) after ⌝ }
+    ensures { λ after. ⌜ Pushed (now (buf .entry)) state (arithmeticOf (now (schema .entry)) (now (condition .entry)) (now (targets .entry)) facts operand) (now (buf .exit)) after (now (table .exit)) ⌝ }
 {
     if nodes::term_kind_at(condition, operand.at) == 12 {
-        return leaves(buf, state, schema, condition, targets, env, facts, operand);
+        return leaves(buf, table, state, schema, condition, targets, env, facts, operand);
     }
     state
 }

@@ -33,6 +33,12 @@ pub enum Finding {
     WrongArgument(usize, usize, Rich, Rich),
 }
 
+// What was found at a node, and the span at which it is reported.
+pub struct Judged {
+    pub span: Ends,
+    pub finding: Finding,
+}
+
 // A comparison: where its breaches are reported, whether its operator orders, and where its operands stand.
 pub struct Compared {
     pub span: Ends,

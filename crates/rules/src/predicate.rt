@@ -13,7 +13,8 @@ ghost use mathlib.Core.Bool.{true};
 ghost use Rattle.nodes.specs.Kinds.{kindOf};
 ghost use Rattle.condition.specs.Places.{isCondition, conditionIn, isTerm, isPath, isArguments};
 ghost use Rattle.schema.specs.Places.{isAction, foundStands, ActionsOf};
-ghost use Rattle.reports.specs.Sink.{sink, Sound, Pushed};
+ghost use Rattle.reports.specs.Sink.{sink};
+ghost use Rattle.reports.specs.Slots.{Lent, Pushed};
 ghost use Rattle.terms.specs.Facts.{Known};
 ghost use Rattle.rules.specs.Findings.{Finds};
 ghost use Rattle.rules.specs.Places.{nodeAt, argumentAt, argumentsAt, AppliedHere};
@@ -67,6 +68,7 @@ fn argument<'a>(
 // The arguments, in their order.
 fn arguments<'a>(
     buf: &mut [u8],
+    table: &mut [u32],
     state: State,
     schema: &'a [u8],
     condition: &'a [u8],
@@ -75,11 +77,11 @@ fn arguments<'a>(
     facts: Facts,
     applied: Applied,
 ) -> State
-    requires { ⌜ Sound (sink (now buf) state) ⌝ }
+    requires { ⌜ Lent (sink (now buf) state) (now table) ⌝ }
     requires { ⌜ Known (now schema) (now condition) (now env) facts ⌝ }
     requires { ⌜ foundStands (isAction (now schema)) (applied .action) ≡ true ⌝ }
     requires { ⌜ isArguments (now condition) (applied .count) (applied .first) ≡ true ⌝ }
-    ensures { λ after. ⌜ Pushed (now (buf .entry)) state (argumentsAt (now (schema .entry)) (now (condition .entry)) (now (targets .entry)) facts applied) (now (buf .exit)) after ⌝ }
+    ensures { λ after. ⌜ Pushed (now (buf .entry)) state (argumentsAt (now (schema .entry)) (now (condition .entry)) (now (targets .entry)) facts applied) (now (buf .exit)) after (now (table .exit)) ⌝ }
 {
     let span = applied.span;
     let mut now = state;
@@ -88,7 +90,7 @@ fn arguments<'a>(
     while 0 < left {
         let parts = nodes::argument_at(condition, left, at);
         let finding = argument(schema, condition, targets, env, facts, applied, at, parts);
-        now = report(buf, now, schema, condition, span, finding);
+        now = report(buf, table, now, schema, condition, span, finding);
         at = parts.next;
         left -= 1;
     }
@@ -98,6 +100,7 @@ fn arguments<'a>(
 // A predicate's arguments.
 pub fn predicate<'a>(
     buf: &mut [u8],
+    table: &mut [u32],
     state: State,
     schema: &'a [u8],
     condition: &'a [u8],
@@ -106,12 +109,12 @@ pub fn predicate<'a>(
     facts: Facts,
     at: usize,
 ) -> State
-    requires { ⌜ Sound (sink (now buf) state) ⌝ }
+    requires { ⌜ Lent (sink (now buf) state) (now table) ⌝ }
     requires { ⌜ Known (now schema) (now condition) (now env) facts ⌝ }
     requires { ⌜ isCondition (now condition) at ≡ true ⌝ }
     requires { ⌜ kindOf (conditionIn (now condition) at) ≡ 7 ⌝ }
-    ensures { λ after. ⌜ Pushed (now (buf .entry)) state (nodeAt (now (schema .entry)) (now (condition .entry)) (now (targets .entry)) facts at) (now (buf .exit)) after ⌝ }
+    ensures { λ after. ⌜ Pushed (now (buf .entry)) state (nodeAt (now (schema .entry)) (now (condition .entry)) (now (targets .entry)) facts at) (now (buf .exit)) after (now (table .exit)) ⌝ }
 {
     let applied = applied_at(schema, facts.common.actions, condition, at);
-    arguments(buf, state, schema, condition, targets, env, facts, applied)
+    arguments(buf, table, state, schema, condition, targets, env, facts, applied)
 }

@@ -7,7 +7,8 @@ use nodes::Ends;
 use reports::Message;
 use reports::State;
 ghost use mathlib.Core.Path.{_≡_};
-ghost use Rattle.reports.specs.Sink.{sink, Sound, Pushed};
+ghost use Rattle.reports.specs.Sink.{sink};
+ghost use Rattle.reports.specs.Slots.{Lent, Pushed};
 ghost use Rattle.messages.specs.Words.{saidBreaches, SaidStands, spanIn};
 ghost use Rattle.rules.specs.Findings.{saidOf};
 
@@ -53,15 +54,16 @@ fn said_of(finding: Finding) -> Said
 // The breaches of a finding at a span.
 pub fn report<'a>(
     buf: &mut [u8],
+    table: &mut [u32],
     state: State,
     schema: &'a [u8],
     condition: &'a [u8],
     span: Ends,
     finding: Finding,
 ) -> State
-    requires { ⌜ Sound (sink (now buf) state) ⌝ }
+    requires { ⌜ Lent (sink (now buf) state) (now table) ⌝ }
     requires { ⌜ SaidStands (now schema) (now condition) (saidOf finding) ⌝ }
-    ensures { λ after. ⌜ Pushed (now (buf .entry)) state (saidBreaches (now (schema .entry)) (now (condition .entry)) (saidOf finding) (spanIn span)) (now (buf .exit)) after ⌝ }
+    ensures { λ after. ⌜ Pushed (now (buf .entry)) state (saidBreaches (now (schema .entry)) (now (condition .entry)) (saidOf finding) (spanIn span)) (now (buf .exit)) after (now (table .exit)) ⌝ }
 {
     let said = said_of(finding);
     let Said::Message(message) = said else {
@@ -69,5 +71,5 @@ pub fn report<'a>(
     };
     let mut scratch = [0u8; 2048];
     let n = messages::put_message(&mut scratch, 0, schema, condition, message);
-    reports::push_scratch(buf, state, span.start, span.end, &scratch, n)
+    reports::push_scratch(buf, table, state, span.start, span.end, &scratch, n)
 }

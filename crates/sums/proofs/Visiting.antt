@@ -175,12 +175,12 @@ module _ (s : List ℕ) where
   module _ (n at : ℕ) where
     pub arguments-done : {old now : List ℕ} {st₀ st : State} {bs : List Breach} → ArgumentsLeft s (appendAll (sink old st₀) bs) (sink now st) n at → n ≤ 0 → Appended old st₀ bs now st
     unfolding argumentsBreaches fold
-    arguments-done l h = record { sound = l .sound; is = rw (arguments-over s n at h) at (l .same) }
+    arguments-done l h = record { still = l .sound; is = rw (arguments-over s n at h) at (l .same) }
 
     pub arguments-turn : {whole : Sink} {now next : List ℕ} {st r : State} → ArgumentsLeft s whole (sink now st) n at → (p : ArgumentAt) → ArgumentHere s n at p
         → Appended now st (termBreaches (binders (recordIn s)) (termIn s (p .term))) next r → ArgumentsLeft s whole (sink next r) (n - 1) (p .next)
     unfolding argumentsBreaches
-    arguments-turn l p h e = record { stands = h .rest; sound = e .sound; same = recorded-more e _ ∙ (rw (h .value) at (l .same)) }
+    arguments-turn l p h e = record { stands = h .rest; sound = e .still; same = recorded-more e _ ∙ (rw (h .value) at (l .same)) }
 
 pub ruleset arguing = (needs, arguments-begin, arguments-done, arguments-turn)
 
@@ -208,7 +208,7 @@ pub ruleset nodes = (needs, is-comparison, comparison-visited, predicate-visited
 -- ---- all of them
 
 abbrev pub PlacesLeft : List ℕ → Sink → Sink → ℕ → Type 0
-PlacesLeft s whole now i = Reporting append (conditionBreaches (binders (recordIn s))) whole now (drop i (nodesOf s))
+PlacesLeft s whole now i = Reporting append Sound (conditionBreaches (binders (recordIn s))) whole now (drop i (nodesOf s))
 
 module _ (s : List ℕ) where
   pub places-begin : (a : Sink) → Sound a → PlacesLeft s (appendAll a (breaches (recordIn s))) a 0

@@ -29,13 +29,15 @@ use Rattle.condition.specs.Walk.{reached, binders}
 use Rattle.walk.specs.Index.{nodesOf, Index, Reached}
 use Rattle.walk.specs.Environment.{Environment}
 use Rattle.resolution.specs.Resolution.{admitsAnyEnv}
-use Rattle.reports.specs.Reports.{Breach}
+use Rattle.reports.specs.Reports.{Breach, Outcome, reported}
 use Rattle.reports.specs.declared.State.{State}
 use Rattle.reports.specs.declared.Answer.{Answer}
 use Rattle.reports.specs.Sink as sinks
-use Rattle.reports.specs.Sink.{Sink, sink, Sound, push, pushAll, Pushed}
-use Rattle.reports.specs.Laws.Sinks.{Reporting, reporting-begins, reporting-next, reporting-over, recorded-none, sound-start}
-use Rattle.reports.specs.Answers.{outcomeOf, Answers, Refuses, pushed}
+use Rattle.reports.specs.Sink.{Sink, sink, push, pushAll}
+use Rattle.reports.specs.Slots.{Lent, Pushed}
+use Rattle.reports.specs.Laws.Sinks.{Reporting, reporting-begins, reporting-next, reporting-over, recorded-none}
+use Rattle.reports.specs.Laws.Slots.{zeros-empty, lent-start}
+use Rattle.reports.specs.Answers.{outcomeOf, Answers, Refuses, Spared, pushed}
 use Rattle.terms.specs.declared.Common.{Common}
 use Rattle.terms.specs.declared.Facts.{Facts}
 use Rattle.terms.specs.Terms.{factsOf}
@@ -43,25 +45,27 @@ use Rattle.terms.specs.Facts.{factsIn, Known, FactsOf}
 use Rattle.terms.specs.Laws.Facts.{facts-mean}
 use Rattle.rules.specs.Rules.{nodeBreaches}
 use Rattle.typecheck.specs.Check.{breachesUnder, checked, check}
-use Rattle.typecheck.specs.Ready.{Ready, underBreaches, UnderKnown, UnderHere}
+use Rattle.typecheck.specs.Ready.{Accepted, ReadAs, Ready, underBreaches, UnderKnown, UnderHere}
+use Rattle.typecheck.specs.declared.Records.{Records}
+use Rattle.typecheck.specs.declared.Records.the-variants as Records
 use Rattle.typecheck.specs.declared.Under.{Under}
 use Rattle.typecheck.specs.declared.Under.the-variants.{Skipped, Checked}
 
 -- ---- the reached nodes
 
 -- the invariant of the loop over the nodes: those that are left, put in, make the whole
-abbrev pub NodesLeft : (Condition → List Breach) → List ℕ → Sink → Sink → ℕ → Type 0
-NodesLeft f c whole now i = Reporting push f whole now (drop i (nodesOf c))
+abbrev pub NodesLeft : (Condition → List Breach) → List ℕ → Sink → Sink → List ℕ → ℕ → Type 0
+NodesLeft f c whole now table i = Reporting push (λ (s : Sink). Lent s table) f whole now (drop i (nodesOf c))
 
 module _ (f : Condition → List Breach) (c : List ℕ) where
-  pub nodes-begin : (a : Sink) → Sound a → NodesLeft f c (pushAll a (gather f (nodesOf c))) a 0
-  nodes-begin a p = reporting-begins push f a (nodesOf c) p
+  pub nodes-begin : (a : Sink) (table : List ℕ) → Lent a table → NodesLeft f c (pushAll a (gather f (nodesOf c))) a table 0
+  nodes-begin a table p = reporting-begins push f a (nodesOf c) p
 
   module _ (i : ℕ) where
-    pub nodes-turn : {whole : Sink} {now next : List ℕ} {st r : State} → NodesLeft f c whole (sink now st) i → (at : ℕ) → Reached c i at → Pushed now st (f (conditionIn c at)) next r → NodesLeft f c whole (sink next r) (i + 1)
+    pub nodes-turn : {whole : Sink} {now next table table′ : List ℕ} {st r : State} → NodesLeft f c whole (sink now st) table i → (at : ℕ) → Reached c i at → Pushed now st (f (conditionIn c at)) next r table′ → NodesLeft f c whole (sink next r) table′ (i + 1)
     nodes-turn l at h e = reporting-next push f (rw (h .rest) at l) e
 
-    pub nodes-over : {old now : List ℕ} {st₀ st : State} {bs : List Breach} → NodesLeft f c (pushAll (sink old st₀) bs) (sink now st) i → (places : List ℕ) → Index c places → length places ≤ i → Pushed old st₀ bs now st
+    pub nodes-over : {old now table : List ℕ} {st₀ st : State} {bs : List Breach} → NodesLeft f c (pushAll (sink old st₀) bs) (sink now st) table i → (places : List ℕ) → Index c places → length places ≤ i → Pushed old st₀ bs now st table
     nodes-over l places x h =
         let over : drop i (nodesOf c) ≡ [] = drop-of-length-le (nodesOf c) {i = i} (omega (arith, x .size)) in
         reporting-over push f (rw over at l)
@@ -70,14 +74,14 @@ pub ruleset each-node = (needs, nodes-begin, nodes-turn, nodes-over)
 
 -- where the target is checked
 module _ (s c n : List ℕ) (x : Under) where
-  pub target-passed : x ≡ Skipped → (old : List ℕ) (st : State) → Sound (sink old st) → Pushed old st (underBreaches s c n x) old st
-  target-passed e old st p = rw e (recorded-none old st p)
+  pub target-passed : x ≡ Skipped → (old : List ℕ) (st : State) (table : List ℕ) → Lent (sink old st) table → Pushed old st (underBreaches s c n x) old st table
+  target-passed e old st table p = rw e (recorded-none old st p)
 
   module _ (f : Facts) (e : x ≡ Checked f) where
     pub facts-known : (env : List ℕ) → UnderKnown s c env x → Known s c env f
     facts-known env h = rw e at h
 
-    pub target-told : {old now : List ℕ} {st₀ st : State} → Pushed old st₀ (underBreaches s c n (Checked f)) now st → Pushed old st₀ (underBreaches s c n x) now st
+    pub target-told : {old now table : List ℕ} {st₀ st : State} → Pushed old st₀ (underBreaches s c n (Checked f)) now st table → Pushed old st₀ (underBreaches s c n x) now st table
     target-told p = rw e p
 
 pub ruleset where-checked = (needs, target-passed, facts-known, target-told)
@@ -112,7 +116,7 @@ module _ (s n : List ℕ) (at : ℕ) (w : List ℕ) (is-w : w ≡ targetIn n at 
 
   pub target-checked : b ≡ true → (f : Facts) → FactsOf n x common f → UnderHere s n common at (Checked f)
   target-checked h f k = record {
-    known = λ c places env r. record { schema = r .schema; condition = r .condition; named = r .named; action = rw (k .action) (finds .stands); actions = rw (k .shared) (r .actions) };
+    known = λ c places env r. record { schema = r .accepted .schema; condition = r .accepted .condition; named = r .named; action = rw (k .action) (finds .stands); actions = rw (k .shared) (r .actions) };
     value = λ c. rw (facts-mean s c n x common f k) (under-checked (schemaIn s) (recordIn c) (targetsIn n .scope) (targetIn n at) (foundIn (actionIn s) x) looked-up (sym is-b ∙ h));
   }
 
@@ -126,23 +130,23 @@ pub ruleset one-target = (needs, target-checked, target-skipped)
 
 -- ---- each target
 
-pub record TargetsLeft (f : Target → List Breach) (n : List ℕ) (all now : Sink) (rest at : ℕ) : Type 0 where
+pub record TargetsLeft (f : Target → List Breach) (n : List ℕ) (all now : Sink) (table : List ℕ) (rest at : ℕ) : Type 0 where
   pub left : List Target
   pub there : Listed target n left rest at
-  pub reporting : Reporting push f all now left
+  pub reporting : Reporting push (λ (s : Sink). Lent s table) f all now left
 
 module _ (f : Target → List Breach) (n : List ℕ) where
-  pub targets-begin : (a : Sink) (list : List Target) (rest at : ℕ) → rest ≡ length list → Listed target n list (length list) at → Sound a → TargetsLeft f n (pushAll a (gather f list)) a rest at
-  targets-begin a list rest at e l p = record { left = list; there = rw e l; reporting = reporting-begins push f a list p }
+  pub targets-begin : (a : Sink) (table : List ℕ) (list : List Target) (rest at : ℕ) → rest ≡ length list → Listed target n list (length list) at → Lent a table → TargetsLeft f n (pushAll a (gather f list)) a table rest at
+  targets-begin a table list rest at e l p = record { left = list; there = rw e l; reporting = reporting-begins push f a list p }
 
   module _ (rest at : ℕ) where
-    pub targets-over : {old now : List ℕ} {st₀ st : State} {bs : List Breach} → TargetsLeft f n (pushAll (sink old st₀) bs) (sink now st) rest at → rest ≤ 0 → Pushed old st₀ bs now st
+    pub targets-over : {old now table : List ℕ} {st₀ st : State} {bs : List Breach} → TargetsLeft f n (pushAll (sink old st₀) bs) (sink now st) table rest at → rest ≤ 0 → Pushed old st₀ bs now st table
     targets-over l h = reporting-over push f (rw (listed-over target n (l .left) rest at h (l .there)) at (l .reporting))
 
-    pub targets-stand : {all now : Sink} → TargetsLeft f n all now rest at → 0 < rest → isTarget n at ≡ true
+    pub targets-stand : {all now : Sink} {table : List ℕ} → TargetsLeft f n all now table rest at → 0 < rest → isTarget n at ≡ true
     targets-stand l h = listed-first target n (record { namespace = []; id = [] }) (l .left) rest at h (l .there) .stands
 
-    targets-turn : {all : Sink} {now next : List ℕ} {st r : State} → TargetsLeft f n all (sink now st) rest at → 0 < rest → Pushed now st (f (targetIn n at)) next r → (m : ℕ) → Read.Next m ≡ ending (target n at) → TargetsLeft f n all (sink next r) (rest - 1) m
+    targets-turn : {all : Sink} {now next table table′ : List ℕ} {st r : State} → TargetsLeft f n all (sink now st) table rest at → 0 < rest → Pushed now st (f (targetIn n at)) next r table′ → (m : ℕ) → Read.Next m ≡ ending (target n at) → TargetsLeft f n all (sink next r) table′ (rest - 1) m
     targets-turn l h e m g =
         let d = listed-first target n (record { namespace = []; id = [] }) (l .left) rest at h (l .there) in
         record { left = d .others; there = d .on m g; reporting = reporting-next push f (rw (d .value) at (l .reporting)) e }
@@ -151,62 +155,79 @@ module _ (s c n : List ℕ) (common : Common) (at : ℕ) (x : Under) (h : UnderH
   pub target-known : (places env : List ℕ) → Ready s c n places env common → UnderKnown s c env x
   target-known places env r = h .known c places env r
 
-  pub target-turn : (rest : ℕ) {all : Sink} {now next : List ℕ} {st r : State} → TargetsLeft (breachesUnder (schemaIn s) (recordIn c) (targetsIn n .scope)) n all (sink now st) rest at → 0 < rest → Pushed now st (underBreaches s c n x) next r
-      → (m : ℕ) → Read.Next m ≡ ending (target n at) → TargetsLeft (breachesUnder (schemaIn s) (recordIn c) (targetsIn n .scope)) n all (sink next r) (rest - 1) m
+  pub target-turn : (rest : ℕ) {all : Sink} {now next table table′ : List ℕ} {st r : State} → TargetsLeft (breachesUnder (schemaIn s) (recordIn c) (targetsIn n .scope)) n all (sink now st) table rest at → 0 < rest → Pushed now st (underBreaches s c n x) next r table′
+      → (m : ℕ) → Read.Next m ≡ ending (target n at) → TargetsLeft (breachesUnder (schemaIn s) (recordIn c) (targetsIn n .scope)) n all (sink next r) table′ (rest - 1) m
   target-turn rest l p e m g = targets-turn (breachesUnder (schemaIn s) (recordIn c) (targetsIn n .scope)) n rest at l p (rw (h .value c) at e) m g
 
 pub ruleset each-target = (needs, targets-begin, targets-over, targets-stand, target-known, target-turn)
 
 -- ---- the records
 
-pub all-checked : (s : Schema) (c : Condition) (ts : Targets) (b : List ℕ) {t : List ℕ} {st : State} → Pushed b sinks.none (gather (breachesUnder s c (ts .scope)) (ts .list)) t st → {r : Answer} → Answers st r → outcomeOf r t ≡ checked s c ts b
+pub all-checked : (s : Schema) (c : Condition) (ts : Targets) (b : List ℕ) {t table : List ℕ} {st : State} → Pushed b sinks.none (gather (breachesUnder s c (ts .scope)) (ts .list)) t st table → {r : Answer} → Answers st r → outcomeOf r t ≡ checked s c ts b
 unfolding checked
 all-checked s c ts b e a = pushed b (gather (breachesUnder s c (ts .scope)) (ts .list)) e a
 
-pub all-ready : (s c n places env : List ℕ) (row : Row) → isSchema s ≡ true → isRecord c ≡ true → areTargets n ≡ true → Index c places → Environment c (binders (recordIn c)) env → ActionsOf s row
-    → Ready s c n places env (record { actions = row })
-all-ready s c n places env row a b d x e g = record { schema = a; condition = b; targets = d; index = x; named = e; actions = g }
+pub all-ready : (s c n places env : List ℕ) (row : Row) → Accepted s c n → Index c places → Environment c (binders (recordIn c)) env → ActionsOf s row → Ready s c n places env (record { actions = row })
+all-ready s c n places env row a x e g = record { accepted = a; index = x; named = e; actions = g }
 
-pub ruleset indexed = (needs, length-take-le, sound-start, all-ready, all-checked)
+pub ruleset indexed = (needs, length-take-le, lent-start, all-ready, all-checked)
 
-module _ (s c n b : List ℕ) (x : Read) (is-x : x ≡ ending (whole schemaRecord s)) where
-  pub schema-refused : (r : ℕ) → x ≡ Read.Refused r → (k : ℕ) → k ≡ readNumber x → (a : Answer) → Refuses k 1 a → outcomeOf a b ≡ check s c n b
+module _ (s c n : List ℕ) (x : Read) (is-x : x ≡ ending (whole schemaRecord s)) where
+  pub schema-refused : (r : ℕ) → x ≡ Read.Refused r → (k : ℕ) → k ≡ readNumber x → ReadAs s c n (Records.Refused k 1)
   unfolding check
-  schema-refused r e k f a i = rw (refused-by (whole schemaRecord s) x r is-x e, ← refuses e f) (i .is b)
+  schema-refused r e k f b = rw (refused-by (whole schemaRecord s) x r is-x e, ← refuses e f)
 
   module _ (p : ℕ) (e : x ≡ Read.Next p) where
-    pub schema-read : isSchema s ≡ true
+    schema-read : isSchema s ≡ true
     schema-read = passes (whole schemaRecord s) is-x e
 
     module _ (y : Read) (is-y : y ≡ ending (whole conditionRecord c)) where
-      pub condition-refused : (r : ℕ) → y ≡ Read.Refused r → (k : ℕ) → k ≡ readNumber y → (a : Answer) → Refuses k 2 a → outcomeOf a b ≡ check s c n b
+      pub condition-refused : (r : ℕ) → y ≡ Read.Refused r → (k : ℕ) → k ≡ readNumber y → ReadAs s c n (Records.Refused k 2)
       unfolding check
-      condition-refused r d k f a i =
+      condition-refused r d k f b =
           let g = accept (whole schemaRecord s) schema-read in
-          rw (g .read, refused-by (whole conditionRecord c) y r is-y d, ← refuses d f) (i .is b)
+          rw (g .read, refused-by (whole conditionRecord c) y r is-y d, ← refuses d f)
 
       module _ (p′ : ℕ) (e′ : y ≡ Read.Next p′) where
-        pub condition-read : isRecord c ≡ true
+        condition-read : isRecord c ≡ true
         condition-read = passes (whole conditionRecord c) is-y e′
 
         module _ (z : Read) (is-z : z ≡ ending (whole targetRecord n)) where
-          pub targets-refused : (r : ℕ) → z ≡ Read.Refused r → (k : ℕ) → k ≡ readNumber z → (a : Answer) → Refuses k 3 a → outcomeOf a b ≡ check s c n b
+          pub targets-refused : (r : ℕ) → z ≡ Read.Refused r → (k : ℕ) → k ≡ readNumber z → ReadAs s c n (Records.Refused k 3)
           unfolding check
-          targets-refused r d k f a i =
+          targets-refused r d k f b =
               let g = accept (whole schemaRecord s) schema-read in
               let h = accept (whole conditionRecord c) condition-read in
-              rw (g .read, h .read, refused-by (whole targetRecord n) z r is-z d, ← refuses d f) (i .is b)
+              rw (g .read, h .read, refused-by (whole targetRecord n) z r is-z d, ← refuses d f)
 
-          module _ (p″ : ℕ) (e″ : z ≡ Read.Next p″) where
-            pub targets-read : areTargets n ≡ true
-            targets-read = passes (whole targetRecord n) is-z e″
+          pub records-read : (p″ : ℕ) → z ≡ Read.Next p″ → Accepted s c n
+          records-read p″ e″ = record { schema = schema-read; condition = condition-read; targets = passes (whole targetRecord n) is-z e″ }
 
-            pub records-checked : (a : Answer) (t : List ℕ) → outcomeOf a t ≡ checked (schemaIn s) (recordIn c) (targetsIn n) b → outcomeOf a t ≡ check s c n b
-            unfolding check valueOr recordIn
-            records-checked a t i =
-                let u = accept (whole schemaRecord s) schema-read in
-                let v = accept (whole conditionRecord c) condition-read in
-                let w = accept (whole targetRecord n) targets-read in
-                i ∙ rw (u .read, v .read, w .read)
+pub ruleset reading = (needs, schema-refused, condition-refused, targets-refused, records-read)
 
-pub ruleset reading = (needs, schema-refused, schema-read, condition-refused, condition-read, targets-refused, targets-read, records-checked)
+-- what was read is checked, or the refusal is answered
+module _ (s c n b : List ℕ) (x : Records) (is : ReadAs s c n x) where
+  pub refused-records : (k w : ℕ) → x ≡ Records.Refused k w → (a : Answer) → Refuses k w a → outcomeOf a b ≡ check s c n b
+  refused-records k w e a r = r .is b ∙ (rw e at is) b
+
+  pub accepted-records : x ≡ Records.Read → Accepted s c n
+  accepted-records e = rw e at is
+
+  pub records-checked : x ≡ Records.Read → (a : Answer) (t : List ℕ) → outcomeOf a t ≡ checked (schemaIn s) (recordIn c) (targetsIn n) b → outcomeOf a t ≡ check s c n b
+  unfolding check valueOr recordIn
+  records-checked e a t i =
+      let r = accepted-records e in
+      let u = accept (whole schemaRecord s) (r .schema) in
+      let v = accept (whole conditionRecord c) (r .condition) in
+      let w = accept (whole targetRecord n) (r .targets) in
+      i ∙ rw (u .read, v .read, w .read)
+
+-- the workspace
+pub spared-refused : (a : Answer) (table : List ℕ) → Spared a table table
+spared-refused a table = record { same = λ h. refl }
+
+pub spared-checked : (s : Schema) (c : Condition) (ts : Targets) (b : List ℕ) (a : Answer) (t : List ℕ) → outcomeOf a t ≡ checked s c ts b → (old new : List ℕ) → Spared a old new
+unfolding outcomeOf checked reported
+spared-checked s c ts b a t e old new = record { same = λ h. absurd (h (ap (λ (o : Outcome). o .answer .recordNumber) e)) }
+
+pub ruleset answering = (needs, zeros-empty, refused-records, accepted-records, records-checked, spared-refused, spared-checked)

@@ -13,16 +13,27 @@ use Rattle.walk.specs.Environment.{Environment}
 use Rattle.targets.specs.Places.{areTargets, targetsIn, targetIn}
 use Rattle.terms.specs.declared.Common.{Common}
 use Rattle.terms.specs.Facts.{factsIn, Known}
-use Rattle.reports.specs.Reports.{Breach}
+use Rattle.reports.specs.Reports.{Breach, refusal}
 use Rattle.rules.specs.Rules.{nodeBreaches}
-use Rattle.typecheck.specs.Check.{breachesUnder}
+use Rattle.typecheck.specs.Check.{breachesUnder, check}
+use Rattle.typecheck.specs.declared.Records.{Records}
+use Rattle.typecheck.specs.declared.Records.the-variants.{Refused, Read}
 use Rattle.typecheck.specs.declared.Under.{Under}
 use Rattle.typecheck.specs.declared.Under.the-variants.{Skipped, Checked}
 
-pub record Ready (s c n places env : List ℕ) (common : Common) : Type 0 where
+-- the three records are accepted
+pub record Accepted (s c n : List ℕ) : Type 0 where
   pub schema : isSchema s ≡ true
   pub condition : isRecord c ≡ true
   pub targets : areTargets n ≡ true
+
+-- what reading them says: they are accepted, or the check is refused by this number and record
+abbrev pub ReadAs : List ℕ → List ℕ → List ℕ → Records → Type 0
+ReadAs s c n Read = Accepted s c n
+ReadAs s c n (Refused number which) = (b : List ℕ) → refusal number which b ≡ check s c n b
+
+pub record Ready (s c n places env : List ℕ) (common : Common) : Type 0 where
+  pub accepted : Accepted s c n
   pub index : Index c places
   pub named : Environment c (binders (recordIn c)) env
   pub actions : ActionsOf s (common .actions)

@@ -1,4 +1,5 @@
 // The run: the records read in their order, the condition indexed once, then each target and each reached node under it.
+use crate::Records;
 use crate::Under;
 use names::Found;
 use names::Read;
@@ -13,18 +14,20 @@ ghost use mathlib.Core.Bool.{true};
 ghost use Rattle.names.specs.Lists.{maybe};
 ghost use Rattle.schema.specs.Places.{isSchema, schemaIn, isAction, actionIn, foundIn, foundStands, ActionsOf};
 ghost use Rattle.targets.specs.Places.{areTargets, targetsIn, isTarget};
-ghost use Rattle.condition.specs.Places.{isRecord, recordIn};
+ghost use Rattle.condition.specs.Places.{recordIn};
 ghost use Rattle.walk.specs.Index.{Index};
 ghost use Rattle.resolution.specs.Resolution.{admitsAnyEnv};
-ghost use Rattle.reports.specs.Sink.{sink, Sound, Pushed};
-ghost use Rattle.reports.specs.Answers.{outcomeOf};
+ghost use Rattle.reports.specs.Sink.{sink};
+ghost use Rattle.reports.specs.Slots.{Lent, Pushed, Empty};
+ghost use Rattle.reports.specs.Answers.{outcomeOf, Spared};
 ghost use Rattle.terms.specs.Facts.{Known};
 ghost use Rattle.typecheck.specs.Check.{checked, check};
-ghost use Rattle.typecheck.specs.Ready.{Ready, underBreaches, UnderKnown, UnderHere, allBreaches};
+ghost use Rattle.typecheck.specs.Ready.{Accepted, ReadAs, Ready, underBreaches, UnderKnown, UnderHere, allBreaches};
 
 // The reached nodes under the facts of a target.
 fn nodes<'a>(
     buf: &mut [u8],
+    table: &mut [u32],
     state: State,
     schema: &'a [u8],
     condition: &'a [u8],
@@ -33,17 +36,17 @@ fn nodes<'a>(
     env: &[u16],
     facts: Facts,
 ) -> State
-    requires { ⌜ Sound (sink (now buf) state) ⌝ }
+    requires { ⌜ Lent (sink (now buf) state) (now table) ⌝ }
     requires { ⌜ Index (now condition) (now places) ⌝ }
     requires { ⌜ Known (now schema) (now condition) (now env) facts ⌝ }
-    ensures { λ after. ⌜ Pushed (now (buf .entry)) state (underBreaches (now (schema .entry)) (now (condition .entry)) (now (targets .entry)) (Under.Checked facts)) (now (buf .exit)) after ⌝ }
+    ensures { λ after. ⌜ Pushed (now (buf .entry)) state (underBreaches (now (schema .entry)) (now (condition .entry)) (now (targets .entry)) (Under.Checked facts)) (now (buf .exit)) after (now (table .exit)) ⌝ }
 {
     let mut now = state;
     let mut i = 0;
     while i < places.len() {
         let at = walk::reached_at(condition, places, i);
-        now = rules::node(buf, now, schema, condition, targets, env, facts, at);
         i += 1;
+        now = rules::node(buf, table, now, schema, condition, targets, env, facts, at);
     }
     now
 }
@@ -51,6 +54,7 @@ fn nodes<'a>(
 // The reached nodes under a target, where it is checked.
 fn under<'a>(
     buf: &mut [u8],
+    table: &mut [u32],
     state: State,
     schema: &'a [u8],
     condition: &'a [u8],
@@ -59,15 +63,15 @@ fn under<'a>(
     env: &[u16],
     target: Under,
 ) -> State
-    requires { ⌜ Sound (sink (now buf) state) ⌝ }
+    requires { ⌜ Lent (sink (now buf) state) (now table) ⌝ }
     requires { ⌜ Index (now condition) (now places) ⌝ }
     requires { ⌜ UnderKnown (now schema) (now condition) (now env) target ⌝ }
-    ensures { λ after. ⌜ Pushed (now (buf .entry)) state (underBreaches (now (schema .entry)) (now (condition .entry)) (now (targets .entry)) target) (now (buf .exit)) after ⌝ }
+    ensures { λ after. ⌜ Pushed (now (buf .entry)) state (underBreaches (now (schema .entry)) (now (condition .entry)) (now (targets .entry)) target) (now (buf .exit)) after (now (table .exit)) ⌝ }
 {
     let Under::Checked(facts) = target else {
         return state;
     };
-    nodes(buf, state, schema, condition, targets, places, env, facts)
+    nodes(buf, table, state, schema, condition, targets, places, env, facts)
 }
 
 // Whether a target is checked: its action is undeclared, or admits an environment.
@@ -107,6 +111,7 @@ fn under_target(schema: &[u8], targets: &[u8], common: Common, at: usize) -> Und
 // Each target of the record.
 fn all_targets<'a>(
     buf: &mut [u8],
+    table: &mut [u32],
     state: State,
     schema: &'a [u8],
     condition: &'a [u8],
@@ -115,16 +120,16 @@ fn all_targets<'a>(
     env: &[u16],
     common: Common,
 ) -> State
-    requires { ⌜ Sound (sink (now buf) state) ⌝ }
+    requires { ⌜ Lent (sink (now buf) state) (now table) ⌝ }
     requires { ⌜ Ready (now schema) (now condition) (now targets) (now places) (now env) common ⌝ }
-    ensures { λ after. ⌜ Pushed (now (buf .entry)) state (allBreaches (now (schema .entry)) (now (condition .entry)) (now (targets .entry))) (now (buf .exit)) after ⌝ }
+    ensures { λ after. ⌜ Pushed (now (buf .entry)) state (allBreaches (now (schema .entry)) (now (condition .entry)) (now (targets .entry))) (now (buf .exit)) after (now (table .exit)) ⌝ }
 {
     let mut now = state;
     let mut rest = targets::count(targets);
     let mut at = targets::first_target(targets);
     while 0 < rest {
         let target = under_target(schema, targets, common, at);
-        now = under(buf, now, schema, condition, targets, places, env, target);
+        now = under(buf, table, now, schema, condition, targets, places, env, target);
         at = targets::next_target(targets, at);
         rest -= 1;
     }
@@ -133,20 +138,20 @@ fn all_targets<'a>(
 
 // The check over the reached nodes: the binders are put into a table by name, and the row of the schema's actions is found, once.
 fn over_places<'a>(
+    buf: &mut [u8],
+    table: &mut [u32],
     schema: &'a [u8],
     condition: &'a [u8],
     targets: &[u8],
     places: &[u16],
-    buf: &mut [u8],
 ) -> Answer
-    requires { ⌜ isSchema (now schema) ≡ true ⌝ }
-    requires { ⌜ isRecord (now condition) ≡ true ⌝ }
-    requires { ⌜ areTargets (now targets) ≡ true ⌝ }
+    requires { ⌜ Accepted (now schema) (now condition) (now targets) ⌝ }
     requires { ⌜ Index (now condition) (now places) ⌝ }
+    requires { ⌜ Empty (now table) ⌝ }
     ensures { λ r. ⌜ outcomeOf r (now (buf .exit)) ≡ checked (schemaIn (now (schema .entry))) (recordIn (now (condition .entry))) (targetsIn (now (targets .entry))) (now (buf .entry)) ⌝ }
 {
-    let mut table = [0u16; 10921];
-    let n = walk::environment(condition, places, &mut table);
+    let mut binders = [0u16; 10921];
+    let n = walk::environment(condition, places, &mut binders);
     let common = Common {
         actions: schema::actions(schema),
     };
@@ -157,44 +162,81 @@ fn over_places<'a>(
     };
     let state = all_targets(
         buf,
+        table,
         none,
         schema,
         condition,
         targets,
         places,
-        &table[..n],
+        &binders[..n],
         common,
     );
     reports::answer_of(state)
 }
 
-// The check of three records that were read: the condition is indexed once.
-fn checked<'a>(schema: &'a [u8], condition: &'a [u8], targets: &[u8], buf: &mut [u8]) -> Answer
-    requires { ⌜ isSchema (now schema) ≡ true ⌝ }
-    requires { ⌜ isRecord (now condition) ≡ true ⌝ }
-    requires { ⌜ areTargets (now targets) ≡ true ⌝ }
+// The check of three records that were read, with a table of free slots: the condition is indexed once.
+fn checked<'a>(
+    buf: &mut [u8],
+    table: &mut [u32],
+    schema: &'a [u8],
+    condition: &'a [u8],
+    targets: &[u8],
+) -> Answer
+    requires { ⌜ Accepted (now schema) (now condition) (now targets) ⌝ }
+    requires { ⌜ Empty (now table) ⌝ }
     ensures { λ r. ⌜ outcomeOf r (now (buf .exit)) ≡ checked (schemaIn (now (schema .entry))) (recordIn (now (condition .entry))) (targetsIn (now (targets .entry))) (now (buf .entry)) ⌝ }
 {
-    let mut table = [0u16; 3641];
-    let n = walk::index_record(condition, &mut table);
-    over_places(schema, condition, targets, &table[..n], buf)
+    let mut places = [0u16; 3641];
+    let n = walk::index_record(condition, &mut places);
+    over_places(buf, table, schema, condition, targets, &places[..n])
 }
 
-// The check of a schema, a condition and a target record, into a lent buffer: the records are read in their order, and the first refusal stands.
-pub fn check<'a>(schema: &'a [u8], condition: &'a [u8], targets: &[u8], buf: &mut [u8]) -> Answer
-    ensures { λ r. ⌜ outcomeOf r (now (buf .exit)) ≡ check (now (schema .entry)) (now (condition .entry)) (now (targets .entry)) (now (buf .entry)) ⌝ }
+// The records, read in their order: the first refusal stands.
+fn read_records(schema: &[u8], condition: &[u8], targets: &[u8]) -> Records
+    ensures { λ r. ⌜ ReadAs (now (schema .entry)) (now (condition .entry)) (now (targets .entry)) r ⌝ }
 {
     let first = schema::read_schema(schema);
     let Read::Next(_) = first else {
-        return refused(names::refusal_number(first), 1);
+        return Records::Refused(names::refusal_number(first), 1);
     };
     let second = condition::read_condition(condition);
     let Read::Next(_) = second else {
-        return refused(names::refusal_number(second), 2);
+        return Records::Refused(names::refusal_number(second), 2);
     };
     let third = targets::read_targets(targets);
     let Read::Next(_) = third else {
-        return refused(names::refusal_number(third), 3);
+        return Records::Refused(names::refusal_number(third), 3);
     };
-    checked(schema, condition, targets, buf)
+    Records::Read
+}
+
+// The check of a schema, a condition and a target record, into a lent buffer. The table is its own, for as many reports as a rule's writer looks at.
+pub fn check<'a>(schema: &'a [u8], condition: &'a [u8], targets: &[u8], buf: &mut [u8]) -> Answer
+    ensures { λ r. ⌜ outcomeOf r (now (buf .exit)) ≡ check (now (schema .entry)) (now (condition .entry)) (now (targets .entry)) (now (buf .entry)) ⌝ }
+{
+    let records = read_records(schema, condition, targets);
+    if let Records::Refused(number, which) = records {
+        return refused(number, which);
+    }
+    let mut table = [0u32; 2048];
+    checked(buf, &mut table, schema, condition, targets)
+}
+
+// The same with a table that is lent, of any size and contents: it is of no use to the caller afterwards, and as it was where a record is refused.
+pub fn check_with<'a>(
+    schema: &'a [u8],
+    condition: &'a [u8],
+    targets: &[u8],
+    buf: &mut [u8],
+    table: &mut [u32],
+) -> Answer
+    ensures { λ r. ⌜ outcomeOf r (now (buf .exit)) ≡ check (now (schema .entry)) (now (condition .entry)) (now (targets .entry)) (now (buf .entry)) ⌝ }
+    ensures { λ r. ⌜ Spared r (now (table .entry)) (now (table .exit)) ⌝ }
+{
+    let records = read_records(schema, condition, targets);
+    if let Records::Refused(number, which) = records {
+        return refused(number, which);
+    }
+    reports::clear(table);
+    checked(buf, table, schema, condition, targets)
 }

@@ -1,7 +1,7 @@
 -- Laws of the sink. Assumes nothing.
 --     sound-start                              what the first call of a run requires
 --     recorded-none, recorded-then             nothing is reported; one call behind the other
---     appended-one, pushed-composed            one breach; one whose message was composed in a scratch
+--     appended-one                             one breach
 --     reporting-..                             a loop over a list
 --     pushAll-reported, appendAll-reported     a run from no report answers and leaves what `reported` says
 --     push-.., append-.., room-..              the cases of the code, as it learns them
@@ -22,7 +22,7 @@ use Rattle.reports.specs.declared.State.{State}
 use Rattle.reports.specs.Reports.{Breach, samePair, once, encoded, fitting, reported}
 use Rattle.reports.specs.Decode.{header, length-header, encoded-parts, width, width-is, size, reports, Whole, reports-encoded, whole-encoded}
 use Rattle.reports.specs.Kept.{fold, fold-append, Log, empty, step, stepOnce, kept, steps-kept, steps-once, size-nil, size-cons, size-snoc, full-fewer}
-use Rattle.reports.specs.Sink.{Sink, sink, held, more, stopped, append, push, appendAll, pushAll, roomFor, written, logOf, Sound, Recorded, Pushed, Appended, start, outcome}
+use Rattle.reports.specs.Sink.{Sink, sink, held, more, stopped, append, push, appendAll, pushAll, roomFor, written, logOf, Sound, Recorded, Appended, start, outcome}
 
 -- ---- a log, written
 
@@ -122,49 +122,40 @@ sound-push s b p = elim (anyOf (samePair b) (held s)) as (λ t. Sound (cond t s 
 -- ---- for a caller; f is `push` or `append`
 
 -- nothing is reported; one call behind the other
-module _ {f : Sink → Breach → Sink} where
-  pub recorded-none : (s : List ℕ) (st : State) → Sound (sink s st) → Recorded f s st [] s st
+module _ {f : Sink → Breach → Sink} {fit : Sink → Type 0} where
+  pub recorded-none : (s : List ℕ) (st : State) → fit (sink s st) → Recorded f fit s st [] s st
   unfolding fold
-  recorded-none s st p = record { sound = p; is = refl }
+  recorded-none s st p = record { still = p; is = refl }
 
-  module _ {s s′ : List ℕ} {st st′ : State} {xs : List Breach} (p : Recorded f s st xs s′ st′) where
+  module _ {s s′ : List ℕ} {st st′ : State} {xs : List Breach} (p : Recorded f fit s st xs s′ st′) where
     pub recorded-more : (ys : List Breach) → fold f (sink s′ st′) ys ≡ fold f (sink s st) (xs ++ ys)
     recorded-more ys = ap (λ (t : Sink). fold f t ys) (p .is) ∙ sym (fold-append f (sink s st) xs ys)
 
-    pub recorded-then : {s″ : List ℕ} {st″ : State} {ys : List Breach} → Recorded f s′ st′ ys s″ st″ → Recorded f s st (xs ++ ys) s″ st″
-    recorded-then {ys = ys} q = record { sound = q .sound; is = q .is ∙ recorded-more ys }
+    pub recorded-then : {next : Sink → Type 0} {s″ : List ℕ} {st″ : State} {ys : List Breach} → Recorded f next s′ st′ ys s″ st″ → Recorded f next s st (xs ++ ys) s″ st″
+    recorded-then {ys = ys} q = record { still = q .still; is = q .is ∙ recorded-more ys }
 
--- one breach; one whose message was composed in a scratch
-module _ {s s′ : List ℕ} {st st′ : State} (p : Sound (sink s st)) where
-  pub appended-one : (b : Breach) → sink s′ st′ ≡ append (sink s st) b → Appended s st (b ∷ []) s′ st′
-  unfolding fold
-  appended-one b e = record { sound = subst Sound (sym e) (sound-append (sink s st) b p); is = e }
-
-  pushed-one : (b : Breach) → sink s′ st′ ≡ push (sink s st) b → Pushed s st (b ∷ []) s′ st′
-  unfolding fold
-  pushed-one b e = record { sound = subst Sound (sym e) (sound-push (sink s st) b p); is = e }
-
-  pub pushed-composed : (start end : ℕ) {old new m : List ℕ} {n : ℕ} → Stored old 0 m new n
-      → sink s′ st′ ≡ push (sink s st) (record { start = start; end = end; message = take n new }) → Pushed s st (record { start = start; end = end; message = m } ∷ []) s′ st′
-  pushed-composed start end w e = pushed-one _ (e ∙ ap (λ (l : List ℕ). push (sink s st) (record { start = start; end = end; message = l })) (stored-text w))
+-- one breach
+pub appended-one : {s s′ : List ℕ} {st st′ : State} → Sound (sink s st) → (b : Breach) → sink s′ st′ ≡ append (sink s st) b → Appended s st (b ∷ []) s′ st′
+unfolding fold
+appended-one {s} {s′} {st} p b e = record { still = subst Sound (sym e) (sound-append (sink s st) b p); is = e }
 
 -- a loop that reports what g says of each of a list: what is left of the list, put in, makes the whole
-pub record Reporting {A : Type 0} (f : Sink → Breach → Sink) (g : A → List Breach) (whole now : Sink) (left : List A) : Type 0 where
-  pub sound : Sound now
+pub record Reporting {A : Type 0} (f : Sink → Breach → Sink) (fit : Sink → Type 0) (g : A → List Breach) (whole now : Sink) (left : List A) : Type 0 where
+  pub still : fit now
   pub same : fold f now (gather g left) ≡ whole
 
-module _ {A : Type 0} (f : Sink → Breach → Sink) (g : A → List Breach) where
-  pub reporting-begins : (s : Sink) (xs : List A) → Sound s → Reporting f g (fold f s (gather g xs)) s xs
-  reporting-begins s xs p = record { sound = p; same = refl }
+module _ {A : Type 0} (f : Sink → Breach → Sink) {fit : Sink → Type 0} (g : A → List Breach) where
+  pub reporting-begins : (s : Sink) (xs : List A) → fit s → Reporting f fit g (fold f s (gather g xs)) s xs
+  reporting-begins s xs p = record { still = p; same = refl }
 
-  pub reporting-next : {whole : Sink} {s s′ : List ℕ} {st st′ : State} {x : A} {left : List A}
-      → Reporting f g whole (sink s st) (x ∷ left) → Recorded f s st (g x) s′ st′ → Reporting f g whole (sink s′ st′) left
+  pub reporting-next : {next : Sink → Type 0} {whole : Sink} {s s′ : List ℕ} {st st′ : State} {x : A} {left : List A}
+      → Reporting f fit g whole (sink s st) (x ∷ left) → Recorded f next s st (g x) s′ st′ → Reporting f next g whole (sink s′ st′) left
   unfolding gather
-  reporting-next {left = left} r p = record { sound = p .sound; same = recorded-more p (gather g left) ∙ r .same }
+  reporting-next {left = left} r p = record { still = p .still; same = recorded-more p (gather g left) ∙ r .same }
 
-  pub reporting-over : {s s′ : List ℕ} {st st′ : State} {bs : List Breach} → Reporting f g (fold f (sink s st) bs) (sink s′ st′) [] → Recorded f s st bs s′ st′
+  pub reporting-over : {s s′ : List ℕ} {st st′ : State} {bs : List Breach} → Reporting f fit g (fold f (sink s st) bs) (sink s′ st′) [] → Recorded f fit s st bs s′ st′
   unfolding fold gather
-  reporting-over r = record { sound = r .sound; is = r .same }
+  reporting-over r = record { still = r .still; is = r .same }
 
 -- ---- a run: from no report, over a buffer that holds anything
 

@@ -6,7 +6,7 @@ use mathlib.Core.List.{List, [], _∷_, _++_, append-assoc}
 use Prim.Native.Nat.{ℕ, zero, suc, _+_, _-_, _/_, _%_, _≤_, _<_}
 use native.Mathlib.Omega.{arith}
 use native.Mathlib.Nat.{mod-lt, eq-or-lt-of-le}
-use lib.ListN.{length, getD, set, take, drop, length-append, length-set, length-drop}
+use lib.ListN.{length, getD, set, take, drop, replicate, length-append, length-set, length-drop}
 use lib.Seq.{drop-append-seam, drop-drop, getD-set-same, getD-set-other}
 use lib.Dec.{ltb, leb, eqb}
 use borrow.Author.Count.{below-more}
@@ -14,14 +14,16 @@ use borrow.Author.Tests.{ltb-true, ltb-false, lt-ltb, le-ltb, eqb-true, eqb-fals
 use Rattle.names.specs.Lists.{anyOf, gather}
 use Rattle.names.specs.Laws.Lists.{any-append, gather-append}
 use Rattle.names.specs.Names.{same}
+use Rattle.names.specs.Writer.{Stored}
+use Rattle.names.specs.Laws.Writers.{stored-text}
 use Rattle.names.specs.Laws.Names.{same-eq, and-left, and-right}
 use Rattle.reports.specs.declared.State.{State}
 use Rattle.reports.specs.Reports.{Breach, samePair, encoded}
 use Rattle.reports.specs.Decode.{width, size, reports, long, longAt, report, report-encoded, fits-encoded}
-use Rattle.reports.specs.Kept.{Log, step}
-use Rattle.reports.specs.Sink.{Sink, sink, held, append, Sound, written, logOf, start}
-use Rattle.reports.specs.Laws.Sinks.{log-written, length-written, append-written, step-fits, sound-size}
-use Rattle.reports.specs.Slots.{hashed, firstSlot, slotAt, Met, taken, EntryOf, Tabled, FreeFor, Finds, room, isOpen, Filed}
+use Rattle.reports.specs.Kept.{fold, Log, step}
+use Rattle.reports.specs.Sink.{Sink, sink, held, append, push, Sound, written, logOf, start}
+use Rattle.reports.specs.Laws.Sinks.{log-written, length-written, append-written, step-fits, sound-size, sound-start, sound-push}
+use Rattle.reports.specs.Slots.{hashed, firstSlot, slotAt, Met, taken, EntryOf, Tabled, FreeFor, Finds, room, isOpen, Filed, Empty, Lent, Pushed}
 
 -- ---- the reports of a sound buffer, by the size of those before them
 
@@ -290,12 +292,12 @@ module _ (bs : List Breach) (table : List ℕ) (tabled : Tabled bs table) (b : B
   }
 
 -- no report is in a table of free slots
-pub taken-none : (table : List ℕ) → ((j : ℕ) → getD table j 0 ≡ 0) → taken table ≡ 0
+pub taken-none : (table : List ℕ) → Empty table → taken table ≡ 0
 unfolding taken
 taken-none [] h = refl
 taken-none (e ∷ es) h = rw (eq-eqb e 0 (h 0)) (taken-none es (λ j. h (suc j)))
 
-pub tabled-none : (table : List ℕ) → ((j : ℕ) → getD table j 0 ≡ 0) → Tabled [] table
+pub tabled-none : (table : List ℕ) → Empty table → Tabled [] table
 tabled-none table free = record {
   number = taken-none table free;
   entries = λ j l. absurd (omega (arith, free j));
@@ -345,7 +347,7 @@ module _ (s : Sink) (p : Sound s) where
         ∙ length-written (s .bytes) (step (length (s .bytes)) (logOf s) b .kept) (step-fits (length (s .bytes)) (logOf s) b (sound-size s p))
 
 -- the table at the start of a run
-pub filed-start : (old table : List ℕ) → ((j : ℕ) → getD table j 0 ≡ 0) → Filed (start old) table
+pub filed-start : (old table : List ℕ) → Empty table → Filed (start old) table
 unfolding reports
 filed-start old table free = record { tabled = λ few short. tabled-none table free }
 
@@ -405,3 +407,23 @@ module _ (s : List ℕ) (st : State) (table : List ℕ) (p : Sound (sink s st)) 
               let shorter : length s < 4294967295 = omega arith in
               absurd (true≢false (sym (known ∙ rw (lt-ltb (st .count) (room (length table)) fewer, lt-ltb (length s) 4294967295 shorter)) ∙ e));
         }
+
+-- ---- what is lent, from call to call
+
+-- a table of nothing but zeros, and what is lent to the first call of a run
+pub zeros-empty : (n : ℕ) → Empty (replicate n 0)
+zeros-empty zero j = refl
+zeros-empty (suc n) zero = refl
+zeros-empty (suc n) (suc j) = zeros-empty n j
+
+pub lent-start : (old table : List ℕ) → Empty table → Lent (start old) table
+lent-start old table free = record { sound = sound-start old; filed = filed-start old table free }
+
+-- one breach; one whose message was composed in a scratch
+pub pushed-one : {s s′ : List ℕ} {st st′ : State} {table table′ : List ℕ} → Lent (sink s st) table → (b : Breach) → sink s′ st′ ≡ push (sink s st) b → Filed (sink s′ st′) table′ → Pushed s st (b ∷ []) s′ st′ table′
+unfolding fold
+pushed-one {s} {s′} {st} p b e filed = record { still = record { sound = subst Sound (sym e) (sound-push (sink s st) b (p .sound)); filed = filed }; is = e }
+
+pub pushed-composed : (start end : ℕ) {old new m : List ℕ} {n : ℕ} → Stored old 0 m new n → {s s′ : List ℕ} {st st′ : State} {table′ : List ℕ}
+    → Pushed s st (record { start = start; end = end; message = take n new } ∷ []) s′ st′ table′ → Pushed s st (record { start = start; end = end; message = m } ∷ []) s′ st′ table′
+pushed-composed start end w p = rw (stored-text w) at p

@@ -11,4 +11,5 @@ arithmetic-spec =
     (λ c κs. search operand-kinds)
     (λ c. search operand-kinds)
     (λ c. search operand-kinds)
+    (λ c. search operand-kinds)
     (λ c. search operand-kinds))

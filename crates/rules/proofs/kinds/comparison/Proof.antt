@@ -12,4 +12,5 @@ comparison-spec =
     (λ c κs. (search comparisons, (search comparisons, search comparisons)))
     (λ c κs. (search comparisons, search comparisons))
     (λ c. search comparisons)
+    (λ c. search comparisons)
     (λ c. search comparisons))

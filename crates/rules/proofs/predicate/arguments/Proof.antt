@@ -13,12 +13,12 @@ use Rattle.rules.proofs.predicate.arguments.Statement.{statement}
 use Rattle.rules.proofs.predicate.arguments.Tie as tie
 
 abbrev Inv-loop : tie.InvT-loop
-Inv-loop buf₀ schema condition targets env facts applied span now₀ left₀ at₀ buf now left at =
-    (length buf ≡ length buf₀)
-    × Arguing (factsIn schema condition targets facts) schema condition (spanIn span) (wordAt condition (applied .name)) (foundIn (actionIn schema) (applied .action)) (pushAll (sink buf₀ now₀) (argumentsAt schema condition targets facts applied)) (sink buf now) left at
+Inv-loop buf₀ table₀ schema condition targets env facts applied span now₀ left₀ at₀ buf table now left at =
+    (length buf ≡ length buf₀) × (length table ≡ length table₀)
+    × Arguing (factsIn schema condition targets facts) schema condition (spanIn span) (wordAt condition (applied .name)) (foundIn (actionIn schema) (applied .action)) (pushAll (sink buf₀ now₀) (argumentsAt schema condition targets facts applied)) (sink buf now) table left at
 
 abbrev μ-loop : tie.MeasureT-loop
-μ-loop buf₀ schema condition targets env facts applied span now₀ left₀ at₀ buf now left at = left
+μ-loop buf₀ table₀ schema condition targets env facts applied span now₀ left₀ at₀ buf table now left at = left
 
 pub arguments-spec : {M : Type 1} → statement M
 arguments-spec =
@@ -32,6 +32,7 @@ arguments-spec =
     (λ c κs. search arguing)
     (λ c. search arguing)
     (λ c. search arguing)
-    (λ c. (omega (arith, c .before .before .report .kept .0, c .before .before .before .before .before .before .before .loop .inv .0), arguing-turn _ _ _ _ _ _ _ _ (c .before .before .before .before .before .before .before .loop .inv .1) _ (c .before .before .before .before .before .argument-at .ensures) (c .before .before .before .before .argument .ensures) (c .before .before .report .ensures)))
+    (λ c. (omega (arith, c .before .before .before .before .report .kept .0, c .before .before .before .before .before .before .before .before .before .before .loop .inv .0), omega (arith, c .before .before .before .before .report .kept .1, c .before .before .before .before .before .before .before .before .before .before .loop .inv .1), arguing-turn _ _ _ _ _ _ _ _ (c .before .before .before .before .before .before .before .before .before .before .loop .inv .2) _ (c .before .before .before .before .before .before .before .before .argument-at .ensures) (c .before .before .before .before .before .before .before .argument .ensures) (c .before .before .before .before .report .ensures)))
+    (λ c. search arguing)
     (λ c. search arguing)
     (λ c. search arguing))

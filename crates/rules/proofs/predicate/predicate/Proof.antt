@@ -10,4 +10,5 @@ predicate-spec =
     (λ c κs. search of-predicate)
     (λ c κs. (search of-predicate, (search of-predicate, (search of-predicate, search of-predicate))))
     (λ c. search of-predicate)
+    (λ c. search of-predicate)
     (λ c. search of-predicate))

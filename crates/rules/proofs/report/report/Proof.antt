@@ -16,4 +16,5 @@ report-spec =
     (λ c. search reporting)
     (λ c κs. search reporting)
     (λ c. search reporting)
+    (λ c. search reporting)
     (λ c. search reporting))

@@ -14,12 +14,12 @@ use Rattle.typecheck.proofs.run.all_targets.Statement.{statement}
 use Rattle.typecheck.proofs.run.all_targets.Tie as tie
 
 abbrev Inv-loop : tie.InvT-loop
-Inv-loop buf₀ schema condition targets places env common now₀ rest₀ at₀ buf now rest at =
-    (length buf ≡ length buf₀)
-    × TargetsLeft (breachesUnder (schemaIn schema) (recordIn condition) (targetsIn targets .scope)) targets (pushAll (sink buf₀ now₀) (gather (breachesUnder (schemaIn schema) (recordIn condition) (targetsIn targets .scope)) (targetsIn targets .list))) (sink buf now) rest at
+Inv-loop buf₀ table₀ schema condition targets places env common now₀ rest₀ at₀ buf table now rest at =
+    (length buf ≡ length buf₀) × (length table ≡ length table₀)
+    × TargetsLeft (breachesUnder (schemaIn schema) (recordIn condition) (targetsIn targets .scope)) targets (pushAll (sink buf₀ now₀) (gather (breachesUnder (schemaIn schema) (recordIn condition) (targetsIn targets .scope)) (targetsIn targets .list))) (sink buf now) table rest at
 
 abbrev μ-loop : tie.MeasureT-loop
-μ-loop buf₀ schema condition targets places env common now₀ rest₀ at₀ buf now rest at = rest
+μ-loop buf₀ table₀ schema condition targets places env common now₀ rest₀ at₀ buf table now rest at = rest
 
 pub all-targets-spec : {M : Type 1} → statement M
 all-targets-spec =
@@ -30,11 +30,12 @@ all-targets-spec =
     (λ c κs. search each-target)
     (λ c κs. search each-target)
     (λ c. search each-target)
-    (λ c κs. search each-target)
-    (λ c κs. search each-target)
-    (λ c κs. targets-stand _ _ _ _ (c .before .before .before .before .before .before .loop .inv .1) (c .before .before .before .before .before .loop-test .taken))
+    (λ c κs. (search each-target, (search each-target, (search each-target, search each-target))))
+    (λ c κs. (search each-target, (search each-target, search each-target)))
+    (λ c κs. targets-stand _ _ _ _ (c .before .before .before .before .before .before .before .before .before .loop .inv .2) (c .before .before .before .before .before .before .before .before .loop-test .taken))
     (λ c. search needs)
     (λ c. search needs)
-    (λ c. (omega (arith, c .before .before .before .under .kept .0, c .before .before .before .before .before .before .before .loop .inv .0), target-turn _ _ _ _ _ _ (c .before .before .before .before .before .under-target .ensures) _ (c .before .before .before .before .before .before .before .loop .inv .1) (c .before .before .before .before .before .before .loop-test .taken) (c .before .before .before .under .ensures) _ (c .next-target .ensures)))
+    (λ c. (omega (arith, c .before .before .before .before .before .under .kept .0, c .before .before .before .before .before .before .before .before .before .before .loop .inv .0), omega (arith, c .before .before .before .before .before .under .kept .1, c .before .before .before .before .before .before .before .before .before .before .loop .inv .1), target-turn _ _ _ _ _ _ (c .before .before .before .before .before .before .before .before .under-target .ensures) _ (c .before .before .before .before .before .before .before .before .before .before .loop .inv .2) (c .before .before .before .before .before .before .before .before .before .loop-test .taken) (c .before .before .before .before .before .under .ensures) _ (c .next-target .ensures)))
+    (λ c. search each-target)
     (λ c. search each-target)
     (λ c. search each-target))

@@ -1,5 +1,5 @@
 -- `typecheck::run::check` meets its contract. Assumes nothing.
-use Rattle.typecheck.proofs.Running.{reading}
+use Rattle.typecheck.proofs.Running.{answering}
 use Rattle.typecheck.proofs.run.check.Statement.{statement}
 use Rattle.typecheck.proofs.run.check.Tie as tie
 
@@ -7,24 +7,12 @@ pub check-spec : {M : Type 1} → statement M
 check-spec =
     tie.close
     (tie.spec
-    (λ c κs. search reading)
-    (λ c. search reading)
-    (λ c. search reading)
-    (λ c κs. search reading)
-    (λ c κs. search reading)
-    (λ c. search reading)
-    (λ c κs. search reading)
-    (λ c. search reading)
-    (λ c. search reading)
-    (λ c κs. search reading)
-    (λ c κs. search reading)
-    (λ c. search reading)
-    (λ c κs. search reading)
-    (λ c. search reading)
-    (λ c. search reading)
-    (λ c κs. search reading)
-    (λ c κs. search reading)
-    (λ c. search reading)
-    (λ c κs. search reading)
-    (λ c. search reading)
-    (λ c. search reading))
+    (λ c κs. search answering)
+    (λ c. search answering)
+    (λ c κs. search answering)
+    (λ c. search answering)
+    (λ c. search answering)
+    (λ c. search answering)
+    (λ c κs. search answering)
+    (λ c. search answering)
+    (λ c. search answering))

@@ -13,4 +13,5 @@ checked-spec =
     (λ c. search indexed)
     (λ c κs. search indexed)
     (λ c. search indexed)
+    (λ c. search indexed)
     (λ c. search indexed))

@@ -12,11 +12,11 @@ use Rattle.typecheck.proofs.run.nodes.Statement.{statement}
 use Rattle.typecheck.proofs.run.nodes.Tie as tie
 
 abbrev Inv-loop : tie.InvT-loop
-Inv-loop buf₀ schema condition targets places env facts now₀ i₀ buf now i =
-    (length buf ≡ length buf₀) × NodesLeft (nodeBreaches (factsIn schema condition targets facts)) condition (pushAll (sink buf₀ now₀) (gather (nodeBreaches (factsIn schema condition targets facts)) (nodesOf condition))) (sink buf now) i
+Inv-loop buf₀ table₀ schema condition targets places env facts now₀ i₀ buf table now i =
+    (length buf ≡ length buf₀) × (length table ≡ length table₀) × NodesLeft (nodeBreaches (factsIn schema condition targets facts)) condition (pushAll (sink buf₀ now₀) (gather (nodeBreaches (factsIn schema condition targets facts)) (nodesOf condition))) (sink buf now) table i
 
 abbrev μ-loop : tie.MeasureT-loop
-μ-loop buf₀ schema condition targets places env facts now₀ i₀ buf now i = length places - i
+μ-loop buf₀ table₀ schema condition targets places env facts now₀ i₀ buf table now i = length places - i
 
 pub nodes-spec : {M : Type 1} → statement M
 nodes-spec =
@@ -26,6 +26,7 @@ nodes-spec =
     μ-loop
     (λ c. search each-node)
     (λ c κs. search each-node)
+    (λ c. search each-node)
     (λ c κs. search each-node)
     (λ c. search each-node)
     (λ c. search each-node)

@@ -15,4 +15,5 @@ over-places-spec =
     (λ c κs. search indexed)
     (λ c κs. search indexed)
     (λ c. search indexed)
+    (λ c. search indexed)
     (λ c. search indexed))

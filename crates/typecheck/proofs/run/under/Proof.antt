@@ -10,6 +10,7 @@ under-spec =
     (λ c. search where-checked)
     (λ c. search where-checked)
     (λ c. search where-checked)
-    (λ c κs. search where-checked)
+    (λ c κs. (search where-checked, (search where-checked, search where-checked)))
+    (λ c. search where-checked)
     (λ c. search where-checked)
     (λ c. search where-checked))
