@@ -7,7 +7,7 @@ ghost use Rattle.schema.specs.Schema.{schemaRecord};
 ghost use Rattle.condition.specs.Condition.{conditionRecord};
 ghost use Rattle.targets.specs.Targets.{targetRecord};
 ghost use Rattle.targets.specs.PathRecord.{pathRecord};
-ghost use Rattle.reports.specs.Answers.{outcomeOf};
+ghost use Rattle.reports.specs.Answers.{outcomeOf, Spared};
 ghost use Rattle.sums.specs.Sums.{sums};
 ghost use Rattle.lookup.specs.Lookup.{lookup};
 ghost use Rattle.typecheck.specs.Check.{check};
@@ -68,6 +68,23 @@ pub extern "C" fn dogwood_check<'a>(
     ensures { λ r. ⌜ outcomeOf r (now (reports .exit)) ≡ check (now (schema .entry)) (now (condition .entry)) (now (targets .entry)) (now (reports .entry)) ⌝ }
 {
     typecheck::check(schema, condition, targets, reports)
+}
+
+// The same check with workspace that the caller lends: slots in which it finds repeats. They may be of any number and hold anything, and the answer does not
+// depend on them; with four slots for every three reports that the buffer holds, time is linear in the reports. No bit of `rules` has a meaning yet.
+#[no_mangle]
+pub extern "C" fn dogwood_check_with<'a>(
+    rules: u8,
+    schema: &'a [u8],
+    condition: &'a [u8],
+    targets: &[u8],
+    reports: &mut [u8],
+    workspace: &mut [u32],
+) -> Answer
+    ensures { λ r. ⌜ outcomeOf r (now (reports .exit)) ≡ check (now (schema .entry)) (now (condition .entry)) (now (targets .entry)) (now (reports .entry)) ⌝ }
+    ensures { λ r. ⌜ Spared r (now (workspace .entry)) (now (workspace .exit)) ⌝ }
+{
+    typecheck::check_with(schema, condition, targets, reports, workspace)
 }
 
 // The sums of a condition: the answer, and a report for each whose summand is not declared Long.

@@ -98,7 +98,17 @@ pub fn arithmetic<'a>(
     ensures { λ after. ⌜ Pushed (now (buf .entry)) state (arithmeticOf (now (schema .entry)) (now (condition .entry)) (now (targets .entry)) facts operand) (now (buf .exit)) after (now (table .exit)) ⌝ }
 {
     if nodes::term_kind_at(condition, operand.at) == 12 {
-        return leaves(buf, table, state, schema, condition, targets, env, facts, operand);
+        return leaves(
+            buf,
+            table,
+            state,
+            schema,
+            condition,
+            targets,
+            env,
+            facts,
+            operand,
+        );
     }
     state
 }

@@ -65,8 +65,28 @@ fn arithmetics<'a>(
         span,
         at: parts.right,
     };
-    let after = arithmetic(buf, table, state, schema, condition, targets, env, facts, left);
-    arithmetic(buf, table, after, schema, condition, targets, env, facts, right)
+    let after = arithmetic(
+        buf,
+        table,
+        state,
+        schema,
+        condition,
+        targets,
+        env,
+        facts,
+        left,
+    );
+    arithmetic(
+        buf,
+        table,
+        after,
+        schema,
+        condition,
+        targets,
+        env,
+        facts,
+        right,
+    )
 }
 
 // The types of the two operands.
@@ -107,7 +127,17 @@ fn comparison<'a>(
     ensures { λ after. ⌜ Pushed (now (buf .entry)) state (nodeAt (now (schema .entry)) (now (condition .entry)) (now (targets .entry)) facts at) (now (buf .exit)) after (now (table .exit)) ⌝ }
 {
     let parts = compared_at(condition, at);
-    let after = arithmetics(buf, table, state, schema, condition, targets, env, facts, parts);
+    let after = arithmetics(
+        buf,
+        table,
+        state,
+        schema,
+        condition,
+        targets,
+        env,
+        facts,
+        parts,
+    );
     let finding = operand_types(schema, condition, targets, env, facts, parts);
     let span = parts.span;
     report(buf, table, after, schema, condition, span, finding)
@@ -155,10 +185,7 @@ fn judged_tp<'a>(
     let span = nodes::span_at(condition, at);
     let slot = nodes::first_part(condition, at);
     let finding = timepoint(schema, condition, targets, env, facts, slot);
-    Judged {
-        span,
-        finding,
-    }
+    Judged { span, finding }
 }
 
 // A `tp`.
@@ -204,13 +231,43 @@ pub fn node<'a>(
 {
     let kind = nodes::kind_at(condition, at);
     if kind == 7 {
-        return predicate(buf, table, state, schema, condition, targets, env, facts, at);
+        return predicate(
+            buf,
+            table,
+            state,
+            schema,
+            condition,
+            targets,
+            env,
+            facts,
+            at,
+        );
     }
     if kind == 8 {
-        return comparison(buf, table, state, schema, condition, targets, env, facts, at);
+        return comparison(
+            buf,
+            table,
+            state,
+            schema,
+            condition,
+            targets,
+            env,
+            facts,
+            at,
+        );
     }
     if kind == 10 {
-        return tp(buf, table, state, schema, condition, targets, env, facts, at);
+        return tp(
+            buf,
+            table,
+            state,
+            schema,
+            condition,
+            targets,
+            env,
+            facts,
+            at,
+        );
     }
     state
 }

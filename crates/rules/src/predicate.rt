@@ -116,5 +116,15 @@ pub fn predicate<'a>(
     ensures { λ after. ⌜ Pushed (now (buf .entry)) state (nodeAt (now (schema .entry)) (now (condition .entry)) (now (targets .entry)) facts at) (now (buf .exit)) after (now (table .exit)) ⌝ }
 {
     let applied = applied_at(schema, facts.common.actions, condition, at);
-    arguments(buf, table, state, schema, condition, targets, env, facts, applied)
+    arguments(
+        buf,
+        table,
+        state,
+        schema,
+        condition,
+        targets,
+        env,
+        facts,
+        applied,
+    )
 }

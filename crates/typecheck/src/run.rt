@@ -71,7 +71,17 @@ fn under<'a>(
     let Under::Checked(facts) = target else {
         return state;
     };
-    nodes(buf, table, state, schema, condition, targets, places, env, facts)
+    nodes(
+        buf,
+        table,
+        state,
+        schema,
+        condition,
+        targets,
+        places,
+        env,
+        facts,
+    )
 }
 
 // Whether a target is checked: its action is undeclared, or admits an environment.
@@ -129,7 +139,17 @@ fn all_targets<'a>(
     let mut at = targets::first_target(targets);
     while 0 < rest {
         let target = under_target(schema, targets, common, at);
-        now = under(buf, table, now, schema, condition, targets, places, env, target);
+        now = under(
+            buf,
+            table,
+            now,
+            schema,
+            condition,
+            targets,
+            places,
+            env,
+            target,
+        );
         at = targets::next_target(targets, at);
         rest -= 1;
     }
