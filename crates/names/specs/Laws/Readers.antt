@@ -268,17 +268,27 @@ u16-place s at e =
     let a = split (bytes 2 s at) _ e in
     sym (got-place (a .rest)) ∙ bytes-view s at 2 (a .first) .2
 
-pub heading-place : (mark : List ℕ) (newest : ℕ) (s : List ℕ) {v n : ℕ} → heading mark newest s 0 ≡ got v n → n ≡ length mark + 2
-unfolding heading
-heading-place mark newest s {v} {n} e =
-    let a = split (bytes (length mark) s 0) _ e in
-    let b = split (holds 3 (same (a .value) mark) (a .value) s (a .place)) _ (a .rest) in
-    let d = split (u16 s (b .place)) _ (b .rest) in
-    let i = bytes-view s 0 (length mark) (a .first) .2 in
-    let j = held 3 (same (a .value) mark) s (b .first) .place in
-    let k = u16-place s (b .place) (d .first) in
-    let l = held 4 (leb 1 (d .value) && leb (d .value) newest) s (d .rest) .place in
-    sym l ∙ k ∙ ap (λ (m : ℕ). m + 2) (sym j ∙ i ∙ zero-add (length mark))
+-- a heading, accepted: the place behind it, and the version, which stands behind the mark
+module _ (mark : List ℕ) (newest : ℕ) (s : List ℕ) {v n : ℕ} (e : heading mark newest s 0 ≡ got v n) where
+  heading-view : (n ≡ length mark + 2) × (v ≡ number 0 (take 2 (drop (length mark) s)))
+  unfolding heading
+  heading-view =
+      let a = split (bytes (length mark) s 0) _ e in
+      let b = split (holds 3 (same (a .value) mark) (a .value) s (a .place)) _ (a .rest) in
+      let d = split (u16 s (b .place)) _ (b .rest) in
+      let i = bytes-view s 0 (length mark) (a .first) .2 in
+      let j = held 3 (same (a .value) mark) s (b .first) .place in
+      let l = held 4 (leb 1 (d .value) && leb (d .value) newest) s (d .rest) in
+      let p : b .place ≡ length mark = sym j ∙ i ∙ zero-add (length mark) in (
+        sym (l .place) ∙ u16-place s (b .place) (d .first) ∙ ap (λ (m : ℕ). m + 2) p,
+        sym (l .value) ∙ u16-value s (b .place) (d .first) ∙ ap (λ (m : ℕ). number 0 (take 2 (drop m s))) p,
+      )
+
+  pub heading-place : n ≡ length mark + 2
+  heading-place = heading-view .0
+
+  pub heading-version : v ≡ number 0 (take 2 (drop (length mark) s))
+  heading-version = heading-view .1
 
 pub finished-value : {A : Type 0} (a : A) (s : List ℕ) (at : ℕ) {b : A} {n : ℕ} → finished a s at ≡ got b n → a ≡ b
 unfolding finished
