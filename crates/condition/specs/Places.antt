@@ -1,9 +1,10 @@
 -- What a position of an accepted condition record stands for. A law says that what is read with fewer levels left is read alike with all 32, so a
--- position alone denotes a condition, a term, a list of arguments; where none stands there, any.
+-- position alone denotes a condition, a term, a list of arguments; where none stands there, any. Its version is the one that stands in the record.
 use Prim.Native.Nat.{ℕ}
 use mathlib.Core.Bool.{Bool, false}
 use mathlib.Core.List.{List, []}
-use Rattle.names.specs.Fields.{Reader, levels, whole}
+use lib.ListN.{take, drop}
+use Rattle.names.specs.Fields.{Reader, levels, number, whole}
 use Rattle.names.specs.Paths.{pathOf}
 use Rattle.names.specs.Read.{accepted, valueOr}
 use Rattle.condition.specs.Condition.{Span, Condition, Term, Terms, Arguments, Aggregate, Slot, Annotation, Binder, opaque, wildcard, noArgument, nil, call, paramRef, timepoint, conditionAt, termAt, arguments, elements, aggregateOf, slot, annotation, binder, conditionRecord}
@@ -18,23 +19,33 @@ isRecord s = accepted (whole conditionRecord s)
 unfoldable pub recordIn : List ℕ → Condition
 recordIn s = valueOr (opaque nowhere) (whole conditionRecord s)
 
--- a condition stands there, and the condition
+-- the version that stands behind the mark
+unfoldable pub versionIn : List ℕ → ℕ
+versionIn s = number 0 (take 2 (drop 3 s))
+
+-- what is read there as a condition; that one stands there, and the condition
+abbrev pub conditionHere : Reader Condition
+conditionHere s = conditionAt (versionIn s) levels s
+
 abbrev pub isCondition : List ℕ → ℕ → Bool
-isCondition s at = accepted (conditionAt levels s at)
+isCondition s at = accepted (conditionHere s at)
 
 unfoldable pub conditionIn : List ℕ → ℕ → Condition
-conditionIn s at = valueOr (opaque nowhere) (conditionAt levels s at)
+conditionIn s at = valueOr (opaque nowhere) (conditionHere s at)
 
 -- a term
+abbrev pub termHere : Reader Term
+termHere s = termAt (versionIn s) levels false s
+
 abbrev pub isTerm : List ℕ → ℕ → Bool
-isTerm s at = accepted (termAt levels false s at)
+isTerm s at = accepted (termHere s at)
 
 unfoldable pub termIn : List ℕ → ℕ → Term
-termIn s at = valueOr wildcard (termAt levels false s at)
+termIn s at = valueOr wildcard (termHere s at)
 
 -- an aggregate, from its own kind byte on
 abbrev pub aggregateAt : Reader Aggregate
-aggregateAt = aggregateOf (conditionAt levels) (termAt levels)
+aggregateAt s = aggregateOf (versionIn s) (conditionAt (versionIn s) levels) (termAt (versionIn s) levels) s
 
 abbrev pub isAggregate : List ℕ → ℕ → Bool
 isAggregate s at = accepted (aggregateAt s at)
@@ -43,18 +54,24 @@ unfoldable pub aggregateIn : List ℕ → ℕ → Aggregate
 aggregateIn s at = valueOr (call nowhere) (aggregateAt s at)
 
 -- so many arguments of a predicate
+abbrev pub argumentsAt : ℕ → Reader Arguments
+argumentsAt n s = arguments (versionIn s) (conditionAt (versionIn s) levels) (termAt (versionIn s) levels) n s
+
 abbrev pub isArguments : List ℕ → ℕ → ℕ → Bool
-isArguments s n at = accepted (arguments (conditionAt levels) (termAt levels) n s at)
+isArguments s n at = accepted (argumentsAt n s at)
 
 unfoldable pub argumentsIn : List ℕ → ℕ → ℕ → Arguments
-argumentsIn s n at = valueOr noArgument (arguments (conditionAt levels) (termAt levels) n s at)
+argumentsIn s n at = valueOr noArgument (argumentsAt n s at)
 
 -- so many elements of an array
+abbrev pub elementsAt : ℕ → Reader Terms
+elementsAt n s = elements (versionIn s) (conditionAt (versionIn s) levels) (termAt (versionIn s) levels) n s
+
 abbrev pub isElements : List ℕ → ℕ → ℕ → Bool
-isElements s n at = accepted (elements (conditionAt levels) (termAt levels) n s at)
+isElements s n at = accepted (elementsAt n s at)
 
 unfoldable pub elementsIn : List ℕ → ℕ → ℕ → Terms
-elementsIn s n at = valueOr nil (elements (conditionAt levels) (termAt levels) n s at)
+elementsIn s n at = valueOr nil (elementsAt n s at)
 
 -- a path of plain strings
 abbrev pub isPath : List ℕ → ℕ → Bool

@@ -10,3 +10,4 @@ pub use read::read_condition;
 pub use read::read_slot;
 pub use read::read_subcondition;
 pub use read::read_term;
+pub use read::version;

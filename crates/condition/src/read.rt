@@ -6,6 +6,7 @@ ghost use mathlib.Core.Bool.{true, false};
 ghost use Rattle.names.specs.Read.{ending};
 ghost use Rattle.names.specs.Fields.{each, counted, whole};
 ghost use Rattle.condition.specs.Condition.{One, Two, span, slot, annotation, binder, operator, timepointOf, argumentList, elementList, unary, binary, predicateOf, comparisonOf, existsOf, sumOf, countOf, aggregateOf, arithOf, conditionAt, termAt, conditionRecord};
+ghost use Rattle.condition.specs.Places.{versionIn};
 
 // Two 32-bit numbers, the ends of a span.
 pub fn read_span(s: &[u8], at: usize) -> Read
@@ -96,9 +97,16 @@ fn read_timepoint(s: &[u8], at: usize) -> Read
     read_slot(s, n)
 }
 
-// The condition whose kind byte stands at `at`, with so many levels left.
-pub fn read_subcondition(s: &[u8], at: usize, left: usize) -> Read
-    ensures { λ r. ⌜ r ≡ ending (conditionAt left (now (s .entry)) at) ⌝ }
+// The version that a record says it has, of the bytes that there are.
+pub fn version(s: &[u8]) -> usize
+    ensures { λ r. ⌜ r ≡ versionIn (now (s .entry)) ⌝ }
+{
+    names::u16_at(s, 3)
+}
+
+// The condition whose kind byte stands at `at`, read in a version, with so many levels left.
+pub fn read_subcondition(s: &[u8], at: usize, version: usize, left: usize) -> Read
+    ensures { λ r. ⌜ r ≡ ending (conditionAt version left (now (s .entry)) at) ⌝ }
 {
     if s.len() <= at {
         return Read::Refused(2);
@@ -114,60 +122,60 @@ pub fn read_subcondition(s: &[u8], at: usize, left: usize) -> Read
         return Read::Refused(7);
     }
     if kind <= 2 {
-        return read_binary(s, at + 1, left - 1);
+        return read_binary(s, at + 1, version, left - 1);
     }
     if kind <= 5 {
-        return read_unary(s, at + 1, left - 1);
+        return read_unary(s, at + 1, version, left - 1);
     }
     if 12 < kind {
-        return read_unary(s, at + 1, left - 1);
+        return read_unary(s, at + 1, version, left - 1);
     }
     if 10 < kind {
         return read_span(s, at + 1);
     }
     if kind == 6 {
-        return read_binary(s, at + 1, left - 1);
+        return read_binary(s, at + 1, version, left - 1);
     }
     if kind == 7 {
-        return read_predicate(s, at + 1, left - 1);
+        return read_predicate(s, at + 1, version, left - 1);
     }
     if kind == 8 {
-        return read_comparison(s, at + 1, left - 1);
+        return read_comparison(s, at + 1, version, left - 1);
     }
     if kind == 9 {
-        return read_exists(s, at + 1, left - 1);
+        return read_exists(s, at + 1, version, left - 1);
     }
     read_timepoint(s, at + 1)
 }
 
 // A span and a condition: Not, Formerly, Previous, Refine.
-fn read_unary(s: &[u8], at: usize, left: usize) -> Read
-    ensures { λ r. ⌜ ((k : One) → r ≡ ending (unary (conditionAt left) (termAt left) k (now (s .entry)) at)) ⌝ }
+fn read_unary(s: &[u8], at: usize, version: usize, left: usize) -> Read
+    ensures { λ r. ⌜ ((k : One) → r ≡ ending (unary version (conditionAt version left) (termAt version left) k (now (s .entry)) at)) ⌝ }
 {
     let span = read_span(s, at);
     let Read::Next(n) = span else {
         return span;
     };
-    read_subcondition(s, n, left)
+    read_subcondition(s, n, version, left)
 }
 
 // A span and two conditions: And, Or, Since.
-fn read_binary(s: &[u8], at: usize, left: usize) -> Read
-    ensures { λ r. ⌜ ((k : Two) → r ≡ ending (binary (conditionAt left) (termAt left) k (now (s .entry)) at)) ⌝ }
+fn read_binary(s: &[u8], at: usize, version: usize, left: usize) -> Read
+    ensures { λ r. ⌜ ((k : Two) → r ≡ ending (binary version (conditionAt version left) (termAt version left) k (now (s .entry)) at)) ⌝ }
 {
     let span = read_span(s, at);
     let Read::Next(n) = span else {
         return span;
     };
-    let first = read_subcondition(s, n, left);
+    let first = read_subcondition(s, n, version, left);
     let Read::Next(m) = first else {
         return first;
     };
-    read_subcondition(s, m, left)
+    read_subcondition(s, m, version, left)
 }
 
-fn read_predicate(s: &[u8], at: usize, left: usize) -> Read
-    ensures { λ r. ⌜ r ≡ ending (predicateOf (conditionAt left) (termAt left) (now (s .entry)) at) ⌝ }
+fn read_predicate(s: &[u8], at: usize, version: usize, left: usize) -> Read
+    ensures { λ r. ⌜ r ≡ ending (predicateOf version (conditionAt version left) (termAt version left) (now (s .entry)) at) ⌝ }
 {
     let span = read_span(s, at);
     let Read::Next(n) = span else {
@@ -185,12 +193,12 @@ fn read_predicate(s: &[u8], at: usize, left: usize) -> Read
     let Read::Next(q) = action else {
         return action;
     };
-    read_arguments(s, q, left)
+    read_arguments(s, q, version, left)
 }
 
 // A count of arguments and the arguments: a name, a path and a term each.
-fn read_arguments(s: &[u8], start: usize, left: usize) -> Read
-    ensures { λ r. ⌜ r ≡ ending (argumentList (conditionAt left) (termAt left) (now (s .entry)) start) ⌝ }
+fn read_arguments(s: &[u8], start: usize, version: usize, left: usize) -> Read
+    ensures { λ r. ⌜ r ≡ ending (argumentList version (conditionAt version left) (termAt version left) (now (s .entry)) start) ⌝ }
 {
     if s.len() <= start {
         return Read::Refused(2);
@@ -206,7 +214,7 @@ fn read_arguments(s: &[u8], start: usize, left: usize) -> Read
         let Read::Next(m) = field else {
             return field;
         };
-        let value = read_term(s, m, left, false);
+        let value = read_term(s, m, version, left, false);
         let Read::Next(p) = value else {
             return value;
         };
@@ -216,8 +224,8 @@ fn read_arguments(s: &[u8], start: usize, left: usize) -> Read
     Read::Next(at)
 }
 
-fn read_comparison(s: &[u8], at: usize, left: usize) -> Read
-    ensures { λ r. ⌜ r ≡ ending (comparisonOf (conditionAt left) (termAt left) (now (s .entry)) at) ⌝ }
+fn read_comparison(s: &[u8], at: usize, version: usize, left: usize) -> Read
+    ensures { λ r. ⌜ r ≡ ending (comparisonOf version (conditionAt version left) (termAt version left) (now (s .entry)) at) ⌝ }
 {
     let span = read_span(s, at);
     let Read::Next(n) = span else {
@@ -227,15 +235,15 @@ fn read_comparison(s: &[u8], at: usize, left: usize) -> Read
     let Read::Next(m) = operator else {
         return operator;
     };
-    let first = read_term(s, m, left, false);
+    let first = read_term(s, m, version, left, false);
     let Read::Next(p) = first else {
         return first;
     };
-    read_term(s, p, left, false)
+    read_term(s, p, version, left, false)
 }
 
-fn read_exists(s: &[u8], at: usize, left: usize) -> Read
-    ensures { λ r. ⌜ r ≡ ending (existsOf (conditionAt left) (termAt left) (now (s .entry)) at) ⌝ }
+fn read_exists(s: &[u8], at: usize, version: usize, left: usize) -> Read
+    ensures { λ r. ⌜ r ≡ ending (existsOf version (conditionAt version left) (termAt version left) (now (s .entry)) at) ⌝ }
 {
     let span = read_span(s, at);
     let Read::Next(n) = span else {
@@ -245,12 +253,12 @@ fn read_exists(s: &[u8], at: usize, left: usize) -> Read
     let Read::Next(m) = binder else {
         return binder;
     };
-    read_subcondition(s, m, left)
+    read_subcondition(s, m, version, left)
 }
 
-// The term whose kind byte stands at `at`, with so many levels left; below an array or not.
-pub fn read_term(s: &[u8], at: usize, left: usize, in_array: bool) -> Read
-    ensures { λ r. ⌜ r ≡ ending (termAt left in_array (now (s .entry)) at) ⌝ }
+// The term whose kind byte stands at `at`, read in a version, with so many levels left; below an array or not.
+pub fn read_term(s: &[u8], at: usize, version: usize, left: usize, in_array: bool) -> Read
+    ensures { λ r. ⌜ r ≡ ending (termAt version left in_array (now (s .entry)) at) ⌝ }
 {
     if s.len() <= at {
         return Read::Refused(2);
@@ -284,30 +292,30 @@ pub fn read_term(s: &[u8], at: usize, left: usize, in_array: bool) -> Read
         return Read::Next(at + 1);
     }
     if kind == 10 {
-        return read_elements(s, at + 1, left - 1);
+        return read_elements(s, at + 1, version, left - 1);
     }
     if kind == 11 {
         if in_array {
             return Read::Refused(9);
         }
-        return read_aggregate(s, at + 1, left - 1);
+        return read_aggregate(s, at + 1, version, left - 1);
     }
-    read_arith(s, at + 1, left - 1, in_array)
+    read_arith(s, at + 1, version, left - 1, in_array)
 }
 
-fn read_arith(s: &[u8], at: usize, left: usize, in_array: bool) -> Read
-    ensures { λ r. ⌜ r ≡ ending (arithOf (conditionAt left) (termAt left) in_array (now (s .entry)) at) ⌝ }
+fn read_arith(s: &[u8], at: usize, version: usize, left: usize, in_array: bool) -> Read
+    ensures { λ r. ⌜ r ≡ ending (arithOf version (conditionAt version left) (termAt version left) in_array (now (s .entry)) at) ⌝ }
 {
-    let first = read_term(s, at, left, in_array);
+    let first = read_term(s, at, version, left, in_array);
     let Read::Next(n) = first else {
         return first;
     };
-    read_term(s, n, left, in_array)
+    read_term(s, n, version, left, in_array)
 }
 
 // A count of an array's elements and the elements.
-fn read_elements(s: &[u8], start: usize, left: usize) -> Read
-    ensures { λ r. ⌜ r ≡ ending (elementList (conditionAt left) (termAt left) (now (s .entry)) start) ⌝ }
+fn read_elements(s: &[u8], start: usize, version: usize, left: usize) -> Read
+    ensures { λ r. ⌜ r ≡ ending (elementList version (conditionAt version left) (termAt version left) (now (s .entry)) start) ⌝ }
 {
     if s.len() <= start {
         return Read::Refused(2);
@@ -315,7 +323,7 @@ fn read_elements(s: &[u8], start: usize, left: usize) -> Read
     let mut rest = names::wide(s[start]);
     let mut at = start + 1;
     while 0 < rest {
-        let element = read_term(s, at, left, true);
+        let element = read_term(s, at, version, left, true);
         let Read::Next(n) = element else {
             return element;
         };
@@ -325,18 +333,18 @@ fn read_elements(s: &[u8], start: usize, left: usize) -> Read
     Read::Next(at)
 }
 
-fn read_aggregate(s: &[u8], at: usize, left: usize) -> Read
-    ensures { λ r. ⌜ r ≡ ending (aggregateOf (conditionAt left) (termAt left) (now (s .entry)) at) ⌝ }
+fn read_aggregate(s: &[u8], at: usize, version: usize, left: usize) -> Read
+    ensures { λ r. ⌜ r ≡ ending (aggregateOf version (conditionAt version left) (termAt version left) (now (s .entry)) at) ⌝ }
 {
     if s.len() <= at {
         return Read::Refused(2);
     }
     let kind = s[at];
     if kind == 1 {
-        return read_sum(s, at + 1, left);
+        return read_sum(s, at + 1, version, left);
     }
     if kind == 2 {
-        return read_count(s, at + 1, left);
+        return read_count(s, at + 1, version, left);
     }
     if kind == 3 {
         return read_span(s, at + 1);
@@ -344,8 +352,8 @@ fn read_aggregate(s: &[u8], at: usize, left: usize) -> Read
     Read::Refused(5)
 }
 
-fn read_sum(s: &[u8], at: usize, left: usize) -> Read
-    ensures { λ r. ⌜ r ≡ ending (sumOf (conditionAt left) (termAt left) (now (s .entry)) at) ⌝ }
+fn read_sum(s: &[u8], at: usize, version: usize, left: usize) -> Read
+    ensures { λ r. ⌜ r ≡ ending (sumOf version (conditionAt version left) (termAt version left) (now (s .entry)) at) ⌝ }
 {
     let span = read_span(s, at);
     let Read::Next(n) = span else {
@@ -359,11 +367,11 @@ fn read_sum(s: &[u8], at: usize, left: usize) -> Read
     let Read::Next(p) = binders else {
         return binders;
     };
-    read_subcondition(s, p, left)
+    read_subcondition(s, p, version, left)
 }
 
-fn read_count(s: &[u8], at: usize, left: usize) -> Read
-    ensures { λ r. ⌜ r ≡ ending (countOf (conditionAt left) (termAt left) (now (s .entry)) at) ⌝ }
+fn read_count(s: &[u8], at: usize, version: usize, left: usize) -> Read
+    ensures { λ r. ⌜ r ≡ ending (countOf version (conditionAt version left) (termAt version left) (now (s .entry)) at) ⌝ }
 {
     let span = read_span(s, at);
     let Read::Next(n) = span else {
@@ -373,7 +381,7 @@ fn read_count(s: &[u8], at: usize, left: usize) -> Read
     let Read::Next(m) = binders else {
         return binders;
     };
-    read_subcondition(s, m, left)
+    read_subcondition(s, m, version, left)
 }
 
 // The whole record.
@@ -384,7 +392,7 @@ pub fn read_condition(s: &[u8]) -> Read
     let Read::Next(at) = heading else {
         return heading;
     };
-    let root = read_subcondition(s, at, 32);
+    let root = read_subcondition(s, at, version(s), 32);
     let Read::Next(end) = root else {
         return root;
     };

@@ -15,8 +15,7 @@ use Rattle.names.specs.Paths.{pathOf}
 use Rattle.names.specs.Read.{ending, accepted, row, isRow}
 use Rattle.names.specs.Laws.Readers.{Keeps, u8-got, string-got, string-view, StringView, accept, Accepted, is-accepted, passes}
 use Rattle.names.specs.Laws.Rows.{Opens, opens, row-cons, counted-view, counted-start, each-done, each-turn}
-use Rattle.condition.specs.Condition.{termAt}
-use Rattle.condition.specs.Places.{isTerm, isPath}
+use Rattle.condition.specs.Places.{versionIn, termHere, isTerm, isPath}
 use Rattle.nodes.specs.Offsets.{termPart}
 use Rattle.nodes.specs.Laws.Inside.{term-place}
 use Rattle.nodes.specs.Open.{Skipped, TermOpened}
@@ -121,7 +120,7 @@ pub ruleset by-strings = (needs, names-strings, names-past, path-strings, path-p
 -- ---- terms that are a word or a path
 
 module _ (s : List ℕ) (at : ℕ) (acc : isTerm s at ≡ true) (k : ℕ) (o : TermOpened s at k) (p : ℕ) (place : p ≡ termPart s at) where
-  module _ (class : List ℕ → Bool) (i : ending (stringOf class s p) ≡ ending (termAt levels false s at)) where
+  module _ (class : List ℕ → Bool) (i : ending (stringOf class s p) ≡ ending (termHere s at)) where
     own : Accepted (stringOf class s p)
     own = accept _ (passes (stringOf class s p) refl (i ∙ ended (term-stands s at acc .read)))
 
@@ -131,48 +130,48 @@ module _ (s : List ℕ) (at : ℕ) (acc : isTerm s at ≡ true) (k : ℕ) (o : T
     word-inside : p + 1 + getD s p 0 ≤ length s
     word-inside = rw (← view .place) (view .inside)
 
-    word-past : (n : ℕ) → n ≡ p + 1 + getD s p 0 → Skipped (termAt levels false s at) at n
+    word-past : (n : ℕ) → n ≡ p + 1 + getD s p 0 → Skipped (termHere s at) at n
     word-past n e = record { ends = sym i ∙ ended (own .read) ∙ ap Next (view .place ∙ sym e); ahead = omega (arith, term-place s at p place) }
 
   module _ (is : k ≡ 1) where
-    entity-ends : ending (stringOf pathName s p) ≡ ending (termAt levels false s at)
-    entity-ends = ap (λ j. ending (stringOf pathName s j)) (term-place s at p place) ∙ entity-read s at levels false (o .inside) (λ z. omega arith) _ (raw-term s at acc 1 (λ z. omega arith) (sym (o .kind) ∙ is)) refl
+    entity-ends : ending (stringOf pathName s p) ≡ ending (termHere s at)
+    entity-ends = ap (λ j. ending (stringOf pathName s j)) (term-place s at p place) ∙ entity-read (versionIn s) s at levels false (o .inside) (λ z. omega arith) _ (raw-term s at acc 1 (λ z. omega arith) (sym (o .kind) ∙ is)) refl
 
     pub entity-inside : p + 1 + getD s p 0 ≤ length s
     entity-inside = word-inside pathName entity-ends
 
-    pub entity-past : (n : ℕ) → n ≡ p + 1 + getD s p 0 → Skipped (termAt levels false s at) at n
+    pub entity-past : (n : ℕ) → n ≡ p + 1 + getD s p 0 → Skipped (termHere s at) at n
     entity-past = word-past pathName entity-ends
 
   module _ (is : k ≡ 8) where
-    var-ends : ending (stringOf plain s p) ≡ ending (termAt levels false s at)
-    var-ends = ap (λ j. ending (stringOf plain s j)) (term-place s at p place) ∙ var-read s at levels false (o .inside) (λ z. omega arith) _ (raw-term s at acc 8 (λ z. omega arith) (sym (o .kind) ∙ is)) refl
+    var-ends : ending (stringOf plain s p) ≡ ending (termHere s at)
+    var-ends = ap (λ j. ending (stringOf plain s j)) (term-place s at p place) ∙ var-read (versionIn s) s at levels false (o .inside) (λ z. omega arith) _ (raw-term s at acc 8 (λ z. omega arith) (sym (o .kind) ∙ is)) refl
 
     pub var-inside : p + 1 + getD s p 0 ≤ length s
     var-inside = word-inside plain var-ends
 
-    pub var-past : (n : ℕ) → n ≡ p + 1 + getD s p 0 → Skipped (termAt levels false s at) at n
+    pub var-past : (n : ℕ) → n ≡ p + 1 + getD s p 0 → Skipped (termHere s at) at n
     var-past = word-past plain var-ends
 
   module _ (l : 5 < getD s at 0) (h : getD s at 0 ≤ 7) where
-    path-ends : ending (pathOf s p) ≡ ending (termAt levels false s at)
-    path-ends = ap (λ j. ending (pathOf s j)) (term-place s at p place) ∙ path-read s at levels false (o .inside) (λ z. omega arith) _ l h refl
+    path-ends : ending (pathOf s p) ≡ ending (termHere s at)
+    path-ends = ap (λ j. ending (pathOf s j)) (term-place s at p place) ∙ path-read (versionIn s) s at levels false (o .inside) (λ z. omega arith) _ l h refl
 
-    path-over : (n : ℕ) → Skipped (pathOf s p) p n → Skipped (termAt levels false s at) at n
+    path-over : (n : ℕ) → Skipped (pathOf s p) p n → Skipped (termHere s at) at n
     path-over n z = record { ends = sym path-ends ∙ z .ends; ahead = omega (arith, z .ahead, term-place s at p place) }
 
   module _ (is : k ≡ 6) where
     six : getD s at 0 ≡ 6
     six = raw-term s at acc 6 (λ z. omega arith) (sym (o .kind) ∙ is)
 
-    pub context-past : (n : ℕ) → Skipped (pathOf s p) p n → Skipped (termAt levels false s at) at n
+    pub context-past : (n : ℕ) → Skipped (pathOf s p) p n → Skipped (termHere s at) at n
     context-past = path-over (omega (arith, six)) (omega (arith, six))
 
   module _ (is : k ≡ 7) where
     seven : getD s at 0 ≡ 7
     seven = raw-term s at acc 7 (λ z. omega arith) (sym (o .kind) ∙ is)
 
-    pub scope-past : (n : ℕ) → Skipped (pathOf s p) p n → Skipped (termAt levels false s at) at n
+    pub scope-past : (n : ℕ) → Skipped (pathOf s p) p n → Skipped (termHere s at) at n
     scope-past = path-over (omega (arith, seven)) (omega (arith, seven))
 
 pub ruleset past-terms = (needs, entity-inside, entity-past, var-inside, var-past, context-path, context-past, scope-path, scope-past, skipped-term)

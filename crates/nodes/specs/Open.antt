@@ -4,12 +4,12 @@ use mathlib.Core.Bool.{true, false}
 use mathlib.Core.List.{List, [], _∷_, _++_}
 use Prim.Native.Nat.{ℕ, _+_, _≤_, _<_}
 use lib.ListN.{length}
-use Rattle.names.specs.Fields.{Got, levels}
+use Rattle.names.specs.Fields.{Got}
 use Rattle.names.specs.Read.{ending}
 use Rattle.names.specs.declared.Read.{Read}
 use Rattle.names.specs.declared.Read.the-variants.{Next, Refused}
-use Rattle.condition.specs.Condition.{aggregate, arith, binder, conditionAt, termAt}
-use Rattle.condition.specs.Places.{isCondition, conditionIn, isTerm, termIn, aggregateAt, isAggregate, aggregateIn, isBinder, binderIn}
+use Rattle.condition.specs.Condition.{aggregate, arith, binder}
+use Rattle.condition.specs.Places.{conditionHere, termHere, isCondition, conditionIn, isTerm, termIn, aggregateAt, isAggregate, aggregateIn, isBinder, binderIn}
 use Rattle.nodes.specs.Kinds.{kindOf, termKindOf, aggregateKindOf}
 use Rattle.condition.specs.Walk.{reached, reachedIn, reachedBody, declares}
 
@@ -41,27 +41,27 @@ pub record OneHere (s : List ℕ) (at p : ℕ) : Type 0 where
   pub stands : isCondition s p ≡ true
   pub ahead : at + 9 ≤ p
   pub reaches : reached (conditionIn s at) ≡ conditionIn s at ∷ reached (conditionIn s p)
-  pub ends : ending (conditionAt levels s at) ≡ ending (conditionAt levels s p)
+  pub ends : ending (conditionHere s at) ≡ ending (conditionHere s p)
 
 -- the two conditions in another, of which the second stands where the first ends
 pub record TwoHere (s : List ℕ) (at p : ℕ) : Type 0 where
   pub second : ℕ
   pub stands : isCondition s p ≡ true
   pub ahead : at + 9 ≤ p
-  pub between : ending (conditionAt levels s p) ≡ Next second
+  pub between : ending (conditionHere s p) ≡ Next second
   pub behind : isCondition s second ≡ true
   pub reaches : reached (conditionIn s at) ≡ conditionIn s at ∷ (reached (conditionIn s p) ++ reached (conditionIn s second))
-  pub ends : ending (conditionAt levels s at) ≡ ending (conditionAt levels s second)
+  pub ends : ending (conditionHere s at) ≡ ending (conditionHere s second)
 
 -- the operands of a comparison
 pub record ComparedHere (s : List ℕ) (at p : ℕ) : Type 0 where
   pub second : ℕ
   pub stands : isTerm s p ≡ true
   pub ahead : at + 9 ≤ p
-  pub between : ending (termAt levels false s p) ≡ Next second
+  pub between : ending (termHere s p) ≡ Next second
   pub behind : isTerm s second ≡ true
   pub reaches : reached (conditionIn s at) ≡ conditionIn s at ∷ (reachedIn (termIn s p) ++ reachedIn (termIn s second))
-  pub ends : ending (conditionAt levels s at) ≡ ending (termAt levels false s second)
+  pub ends : ending (conditionHere s at) ≡ ending (termHere s second)
 
 -- the binder and the body of an Exists
 pub record QuantifiedHere (s : List ℕ) (at p : ℕ) : Type 0 where
@@ -72,28 +72,28 @@ pub record QuantifiedHere (s : List ℕ) (at p : ℕ) : Type 0 where
   pub between : ending (binder s p) ≡ Next body
   pub behind : isCondition s body ≡ true
   pub reaches : reached (conditionIn s at) ≡ conditionIn s at ∷ reached (conditionIn s body)
-  pub ends : ending (conditionAt levels s at) ≡ ending (conditionAt levels s body)
+  pub ends : ending (conditionHere s at) ≡ ending (conditionHere s body)
 
 -- the operands of an arithmetic
 pub record AddedHere (s : List ℕ) (at p : ℕ) : Type 0 where
   pub second : ℕ
   pub stands : isTerm s p ≡ true
   pub ahead : at < p
-  pub between : ending (termAt levels false s p) ≡ Next second
+  pub between : ending (termHere s p) ≡ Next second
   pub behind : isTerm s second ≡ true
   pub value : termIn s at ≡ arith (termIn s p) (termIn s second)
-  pub ends : ending (termAt levels false s at) ≡ ending (termAt levels false s second)
+  pub ends : ending (termHere s at) ≡ ending (termHere s second)
 
 -- the aggregate that a term is
 pub record AggregateHere (s : List ℕ) (at p : ℕ) : Type 0 where
   pub stands : isAggregate s p ≡ true
   pub ahead : at < p
   pub value : termIn s at ≡ aggregate (aggregateIn s p)
-  pub ends : ending (termAt levels false s at) ≡ ending (aggregateAt s p)
+  pub ends : ending (termHere s at) ≡ ending (aggregateAt s p)
 
 -- the body of an aggregate
 pub record BodyHere (s : List ℕ) (at p : ℕ) : Type 0 where
   pub stands : isCondition s p ≡ true
   pub value : reachedBody (aggregateIn s at) ≡ reached (conditionIn s p)
-  pub ends : ending (aggregateAt s at) ≡ ending (conditionAt levels s p)
+  pub ends : ending (aggregateAt s at) ≡ ending (conditionHere s p)
   pub ahead : at + 9 ≤ p

@@ -6,7 +6,7 @@ use mathlib.Core.Option.{Option, none, some}
 use Prim.Native.Nat.{ℕ, _+_, _-_, _≤_, _<_}
 use lib.ListN.{getD, take, drop}
 use Rattle.names.specs.Lists.{gather}
-use Rattle.names.specs.Fields.{Reader, levels, number, stringOf, each, counted}
+use Rattle.names.specs.Fields.{Reader, number, stringOf, each, counted}
 use Rattle.names.specs.Names.{pathName, identifier}
 use Rattle.names.specs.declared.Read.the-variants.{Next}
 use Rattle.names.specs.Read.{ending, accepted, valueOr, wordAt, Listed, isRow, rowIn}
@@ -22,9 +22,9 @@ use Rattle.nodes.specs.declared.Bound.{Bound}
 use Rattle.nodes.specs.declared.Bound.the-variants.{Segments, Timepoint, Nothing}
 use Rattle.nodes.specs.declared.NextAggregate.{NextAggregate}
 use Rattle.nodes.specs.declared.NextAggregate.the-variants.{At, Done}
-use Rattle.condition.specs.Condition.{Span, Slot, named, paramRef, binderRef, Annotation, timepoint, path, Binder, Operator, Condition, Term, Aggregate, conditionAt, termAt, predicate, comparison, tp, argument, array, arith, cons, sum, binder}
+use Rattle.condition.specs.Condition.{Span, Slot, named, paramRef, binderRef, Annotation, timepoint, path, Binder, Operator, Condition, Term, Aggregate, predicate, comparison, tp, argument, array, arith, cons, sum, binder}
 use Rattle.condition.specs.Walk.{reached, reachedBody, operandAggregates, declaredBy}
-use Rattle.condition.specs.Places.{isCondition, conditionIn, isTerm, termIn, aggregateAt, isAggregate, aggregateIn, isArguments, argumentsIn, isElements, elementsIn, isPath, pathIn, isSlot, slotIn}
+use Rattle.condition.specs.Places.{conditionHere, termHere, isCondition, conditionIn, isTerm, termIn, aggregateAt, isAggregate, aggregateIn, isArguments, argumentsIn, isElements, elementsIn, isPath, pathIn, isSlot, slotIn}
 use Rattle.nodes.specs.Kinds.{spanOf, ownSpanOf, aggregateSpanOf, operatorNumber}
 
 -- the two numbers of a span that starts there
@@ -112,7 +112,7 @@ pub record BindersHere (s : List ℕ) (at p : ℕ) : Type 0 where
   pub between : ending (counted (each binder) s p) ≡ Next body
   pub behind : isCondition s body ≡ true
   pub reaches : reachedBody (aggregateIn s at) ≡ reached (conditionIn s body)
-  pub ends : ending (aggregateAt s at) ≡ ending (conditionAt levels s body)
+  pub ends : ending (aggregateAt s at) ≡ ending (conditionHere s body)
 
 -- the name of a binder that has one, behind the choice byte of its slot
 unfoldable pub nameIn : List ℕ → ℕ → List ℕ
@@ -154,10 +154,10 @@ stringsAt = counted (each (stringOf (λ w. true)))
 
 -- so many terms in a row, and their aggregates in order
 abbrev pub isTerms : List ℕ → ℕ → ℕ → Bool
-isTerms s n at = isRow (termAt levels false) s n at
+isTerms s n at = isRow termHere s n at
 
 unfoldable pub aggregatesIn : List ℕ → ℕ → ℕ → List Aggregate
-aggregatesIn s n at = gather operandAggregates (rowIn (termAt levels false) s n at)
+aggregatesIn s n at = gather operandAggregates (rowIn termHere s n at)
 
 -- the first of them, and the terms that the others are in; or there is none
 pub record AggregateNext (s : List ℕ) (list : List Aggregate) (p : ℕ) (rest : Several) : Type 0 where

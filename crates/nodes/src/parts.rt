@@ -38,14 +38,14 @@ ghost use mathlib.Core.Bool.{true, false};
 ghost use mathlib.Core.Option.{some};
 ghost use Prim.Native.Nat.{_+_, _<_, _≤_};
 ghost use lib.ListN.{length};
-ghost use Rattle.names.specs.Fields.{each, counted, stringOf, levels};
+ghost use Rattle.names.specs.Fields.{each, counted, stringOf};
 ghost use Rattle.names.specs.Names.{plain, pathName, identifier, lastOf};
 ghost use Rattle.names.specs.Paths.{pathOf};
 ghost use Rattle.names.specs.Read.{accepted, ending, wordAt, Listed};
 ghost use Rattle.names.specs.declared.Read.the-variants.{Next};
-ghost use Rattle.condition.specs.Condition.{slot, binder, conditionAt, termAt};
+ghost use Rattle.condition.specs.Condition.{slot, binder};
 ghost use Rattle.condition.specs.Walk.{hasName};
-ghost use Rattle.condition.specs.Places.{isCondition, conditionIn, isTerm, termIn, isAggregate, aggregateIn, isArguments, isElements, isPath, pathIn, isSlot, slotIn, isAnnotation, annotationIn, isBinder, binderIn};
+ghost use Rattle.condition.specs.Places.{conditionHere, termHere, isCondition, conditionIn, isTerm, termIn, isAggregate, aggregateIn, isArguments, isElements, isPath, pathIn, isSlot, slotIn, isAnnotation, annotationIn, isBinder, binderIn};
 ghost use Rattle.nodes.specs.Kinds.{kindOf, spanOf, ownSpanOf, oneKind, twoKind, termKindOf, aggregateKindOf, aggregateSpanOf};
 ghost use Rattle.nodes.specs.Open.{placeOf, Skipped, Opened, TermOpened, AggregateOpened, BodyHere};
 ghost use Rattle.nodes.specs.Parts.{EndsHere, Spans, ComparisonHere, ArithHere, PredicateHere, ArgumentHere, ElementsHere, ElementHere, BindersHere, isBinders, slotOf, segmentsIn, SegmentsHere, Says, stringsAt, nameIn};
@@ -112,14 +112,14 @@ fn past_path(s: &[u8], at: usize) -> usize
 
 pub fn past_condition(s: &[u8], at: usize) -> usize
     requires { ⌜ isCondition (now s) at ≡ true ⌝ }
-    ensures { λ n. ⌜ Skipped (conditionAt levels (now (s .entry)) at) at n ⌝ }
+    ensures { λ n. ⌜ Skipped (conditionHere (now (s .entry)) at) at n ⌝ }
 {
-    place_of(read_subcondition(s, at, 32), at)
+    place_of(read_subcondition(s, at, condition::version(s), 32), at)
 }
 
 pub fn past_term(s: &[u8], at: usize) -> usize
     requires { ⌜ isTerm (now s) at ≡ true ⌝ }
-    ensures { λ n. ⌜ Skipped (termAt levels false (now (s .entry)) at) at n ⌝ }
+    ensures { λ n. ⌜ Skipped (termHere (now (s .entry)) at) at n ⌝ }
 {
     let kind = term_kind_at(s, at);
     let next = term_part(s, at);
@@ -135,7 +135,7 @@ pub fn past_term(s: &[u8], at: usize) -> usize
     if kind == 7 {
         return past_path(s, next);
     }
-    place_of(read_term(s, at, 32, false), at)
+    place_of(read_term(s, at, condition::version(s), 32, false), at)
 }
 
 // The kind of the condition at `at` by document 01's number; a SigilRef is 11, as a Call.

@@ -46,35 +46,35 @@ timepoint-steady : Steady timepointOf
 unfolding timepointOf
 timepoint-steady = then-steady span-steady (λ at. then-steady slot-steady (λ s. pure-steady))
 
-module _ (f : Reader Condition) (t : Bool → Reader Term) (inner : Steady f) (term : (b : Bool) → Steady (t b)) where
-  arguments-steady : (n : ℕ) → Steady (arguments f t n)
+module _ (version : ℕ) (f : Reader Condition) (t : Bool → Reader Term) (inner : Steady f) (term : (b : Bool) → Steady (t b)) where
+  arguments-steady : (n : ℕ) → Steady (arguments version f t n)
   unfolding arguments
   arguments-steady zero = pure-steady
   arguments-steady (suc n) =
       then-steady (string-steady plain) (λ name. then-steady path-steady (λ field. then-steady (term false) (λ value. then-steady (arguments-steady n) (λ rest. pure-steady))))
 
-  argument-list-steady : Steady (argumentList f t)
+  argument-list-steady : Steady (argumentList version f t)
   unfolding argumentList
   argument-list-steady = then-steady u8-steady arguments-steady
 
-  elements-steady : (n : ℕ) → Steady (elements f t n)
+  elements-steady : (n : ℕ) → Steady (elements version f t n)
   unfolding elements
   elements-steady zero = pure-steady
   elements-steady (suc n) = then-steady (term true) (λ a. then-steady (elements-steady n) (λ rest. pure-steady))
 
-  element-list-steady : Steady (elementList f t)
+  element-list-steady : Steady (elementList version f t)
   unfolding elementList
   element-list-steady = then-steady u8-steady elements-steady
 
-  unary-steady : (k : One) → Steady (unary f t k)
+  unary-steady : (k : One) → Steady (unary version f t k)
   unfolding unary
   unary-steady k = then-steady span-steady (λ at. then-steady inner (λ body. pure-steady))
 
-  binary-steady : (k : Two) → Steady (binary f t k)
+  binary-steady : (k : Two) → Steady (binary version f t k)
   unfolding binary
   binary-steady k = then-steady span-steady (λ at. then-steady inner (λ left. then-steady inner (λ right. pure-steady)))
 
-  predicate-steady : Steady (predicateOf f t)
+  predicate-steady : Steady (predicateOf version f t)
   unfolding predicateOf
   predicate-steady =
       then-steady span-steady
@@ -82,16 +82,16 @@ module _ (f : Reader Condition) (t : Bool → Reader Term) (inner : Steady f) (t
       (λ own. then-steady (counted-steady (λ before. string-steady pathName))
       (λ namespace. then-steady (string-steady plain) (λ action. then-steady argument-list-steady (λ args. pure-steady)))))
 
-  comparison-steady : Steady (comparisonOf f t)
+  comparison-steady : Steady (comparisonOf version f t)
   unfolding comparisonOf
   comparison-steady =
       then-steady span-steady (λ at. then-steady operator-steady (λ op. then-steady (term false) (λ left. then-steady (term false) (λ right. pure-steady))))
 
-  exists-steady : Steady (existsOf f t)
+  exists-steady : Steady (existsOf version f t)
   unfolding existsOf
   exists-steady = then-steady span-steady (λ at. then-steady binder-steady (λ b. then-steady inner (λ body. pure-steady)))
 
-  condition-kinds-steady : (k : ℕ) → Steady (choose k (conditionKinds f t))
+  condition-kinds-steady : (k : ℕ) → Steady (choose k (conditionKinds version f t))
   unfolding choose conditionKinds
   condition-kinds-steady k =
       cond-steady (eqb k 1) (binary-steady _)
@@ -108,25 +108,25 @@ module _ (f : Reader Condition) (t : Bool → Reader Term) (inner : Steady f) (t
       (cond-steady (eqb k 12) (map-steady _ span-steady)
       (cond-steady (eqb k 13) (unary-steady _) (refuse-steady 5 refl)))))))))))))
 
-  sum-steady : Steady (sumOf f t)
+  sum-steady : Steady (sumOf version f t)
   unfolding sumOf
   sum-steady = then-steady span-steady (λ at. then-steady slot-steady (λ summand. then-steady binders-steady (λ binders. then-steady inner (λ body. pure-steady))))
 
-  count-steady : Steady (countOf f t)
+  count-steady : Steady (countOf version f t)
   unfolding countOf
   count-steady = then-steady span-steady (λ at. then-steady binders-steady (λ binders. then-steady inner (λ body. pure-steady)))
 
-  aggregate-steady : Steady (aggregateOf f t)
+  aggregate-steady : Steady (aggregateOf version f t)
   unfolding aggregateOf aggregateKinds choose
   aggregate-steady =
       then-steady u8-steady (λ k.
       cond-steady (eqb k 1) sum-steady (cond-steady (eqb k 2) count-steady (cond-steady (eqb k 3) (map-steady _ span-steady) (refuse-steady 5 refl))))
 
-  arith-steady : (b : Bool) → Steady (arithOf f t b)
+  arith-steady : (b : Bool) → Steady (arithOf version f t b)
   unfolding arithOf
   arith-steady b = then-steady (term b) (λ left. then-steady (term b) (λ right. pure-steady))
 
-  term-kinds-steady : (b : Bool) (k : ℕ) → Steady (choose k (termKinds f t b))
+  term-kinds-steady : (b : Bool) (k : ℕ) → Steady (choose k (termKinds version f t b))
   unfolding choose termKinds
   term-kinds-steady b k =
       cond-steady (eqb k 1) (map-steady _ (string-steady pathName))
@@ -151,14 +151,14 @@ too-deep-steady last = then-steady u8-steady (λ k. cond-steady (leb 1 k && leb 
 mutual
   unfolding conditionAt termAt
 
-  condition-steady : (left : ℕ) → Steady (conditionAt left)
-  condition-steady zero = too-deep-steady 13
-  condition-steady (suc left) = then-steady u8-steady (λ k. condition-kinds-steady (conditionAt left) (λ b. termAt left b) (condition-steady left) (λ b. term-steady left b) k)
+  condition-steady : (version left : ℕ) → Steady (conditionAt version left)
+  condition-steady version zero = too-deep-steady 13
+  condition-steady version (suc left) = then-steady u8-steady (λ k. condition-kinds-steady version (conditionAt version left) (λ b. termAt version left b) (condition-steady version left) (λ b. term-steady version left b) k)
 
-  term-steady : (left : ℕ) (b : Bool) → Steady (termAt left b)
-  term-steady zero b = too-deep-steady 14
-  term-steady (suc left) b = then-steady u8-steady (λ k. term-kinds-steady (conditionAt left) (λ b. termAt left b) (condition-steady left) (λ b. term-steady left b) b k)
+  term-steady : (version left : ℕ) (b : Bool) → Steady (termAt version left b)
+  term-steady version zero b = too-deep-steady 14
+  term-steady version (suc left) b = then-steady u8-steady (λ k. term-kinds-steady version (conditionAt version left) (λ b. termAt version left b) (condition-steady version left) (λ b. term-steady version left b) b k)
 
 pub condition-ends : Ends conditionRecord
 unfolding conditionRecord
-condition-ends = then-ends (heading-steady _ _) (λ _. then-ends (condition-steady levels) (λ c. finished-ends _))
+condition-ends = then-ends (heading-steady _ _) (λ version. then-ends (condition-steady version levels) (λ c. finished-ends _))

@@ -9,12 +9,11 @@ use borrow.Author.Needs.{needs}
 use borrow.Author.Tests.{ne-eqb}
 use lib.Dec.{ltb, eqb, lit<}
 use lib.ListN.{length}
-use Rattle.names.specs.Fields.{levels}
 use Rattle.names.specs.Read.{wordAt}
 use Rattle.condition.specs.Condition as tree
-use Rattle.condition.specs.Condition.{Span, Condition, Term, integer, decimal, string, bool, Slot, named, paramRef, binderRef, Operator, le, lt, ge, gt, eq, notEq, one, two, predicate, comparison, exists, tp, opaque, entity, literal, contextField, scopeField, var, wildcard, array, aggregate, sigil, termAt}
+use Rattle.condition.specs.Condition.{Span, Condition, Term, integer, decimal, string, bool, Slot, named, paramRef, binderRef, Operator, le, lt, ge, gt, eq, notEq, one, two, predicate, comparison, exists, tp, opaque, entity, literal, contextField, scopeField, var, wildcard, array, aggregate, sigil}
 use Rattle.nodes.specs.Kinds.{kindOf, spanOf, termKindOf, operatorNumber}
-use Rattle.condition.specs.Places.{isCondition, conditionIn, isTerm, termIn, isSlot, slotIn}
+use Rattle.condition.specs.Places.{termHere, isCondition, conditionIn, isTerm, termIn, isSlot, slotIn}
 use Rattle.nodes.specs.Offsets.{firstPart, termPart}
 use Rattle.nodes.specs.Laws.Pieces.{timepoint-inside}
 use Rattle.nodes.specs.Laws.Terms.{TermsLeft, TermPassed, one-term-left, none-left, first-stands, term-passed, arith-turn}
@@ -142,7 +141,7 @@ module _ (f : Facts) (c : List ℕ) (span : Span) where
     }
 
     pub leaves-turn : {whole : Sink} {now next table table′ : List ℕ} {st st′ : State} → LeavesLeft whole (sink now st) table n at → 0 < n → (s : List ℕ) {x : Said} → Tells s c (leafBreaches f (termIn c at)) x
-        → Pushed now st (saidBreaches s c x span) next st′ table′ → (m : ℕ) → Skipped (termAt levels false c at) at m → LeavesLeft whole (sink next st′) table′ (n - 1) m
+        → Pushed now st (saidBreaches s c x span) next st′ table′ → (m : ℕ) → Skipped (termHere c at) at m → LeavesLeft whole (sink next st′) table′ (n - 1) m
     leaves-turn l h s g e m z =
         let d = term-passed leavesOf c (l .list) n at (l .left) h m z in
         record {

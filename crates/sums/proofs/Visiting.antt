@@ -20,7 +20,7 @@ use Rattle.condition.specs.Condition.{Binder, Condition, Term, Terms, Aggregate
 use Rattle.condition.specs.Walk.{binders}
 use Rattle.condition.specs.Condition as tree
 use Rattle.nodes.specs.Kinds.{kindOf, termKindOf, aggregateKindOf}
-use Rattle.condition.specs.Places.{recordIn, conditionIn, isTerm, termIn, aggregateIn, isArguments, argumentsIn}
+use Rattle.condition.specs.Places.{versionIn, recordIn, conditionIn, isTerm, termIn, aggregateIn, isArguments, argumentsIn}
 use Rattle.nodes.specs.Laws.Inside.{aggregate-first, aggregate-inside}
 use Rattle.nodes.specs.Open.{Opened, TermOpened, AggregateOpened, AggregateHere}
 use Rattle.nodes.specs.Parts.{ArithHere, ComparisonHere, PredicateHere, ArgumentHere}
@@ -50,31 +50,31 @@ module _ (bs : List Binder) where
   part-free : {A : Type 0} (g : Got A) (make : A → Term) {x : Term} {n : ℕ} → ((a : A) → termBreaches bs (make a) ≡ []) → next g (λ a m. got (make a) m) ≡ got x n → termBreaches bs x ≡ []
   part-free g make i j = let v = made g make j in ap (termBreaches bs) (v .whole) ∙ i (v .part)
 
-  module _ (f : Reader Condition) (t : Bool → Reader Term) (free : (s : List ℕ) (at : ℕ) (x : Term) (n : ℕ) → t true s at ≡ got x n → termBreaches bs x ≡ []) where
-    elements-free : (k : ℕ) (s : List ℕ) (at : ℕ) {l : Terms} {n : ℕ} → elements f t k s at ≡ got l n → termsBreaches bs l ≡ []
+  module _ (v : ℕ) (f : Reader Condition) (t : Bool → Reader Term) (free : (s : List ℕ) (at : ℕ) (x : Term) (n : ℕ) → t true s at ≡ got x n → termBreaches bs x ≡ []) where
+    elements-free : (k : ℕ) (s : List ℕ) (at : ℕ) {l : Terms} {n : ℕ} → elements v f t k s at ≡ got l n → termsBreaches bs l ≡ []
     unfolding elements termsBreaches
     elements-free zero s at e = ap (termsBreaches bs) (sym (got-value e))
     elements-free (suc k) s at e =
         let a = split (t true s at) _ e in
-        let b = split (elements f t k s (a .place)) _ (a .rest) in
+        let b = split (elements v f t k s (a .place)) _ (a .rest) in
         ap (termsBreaches bs) (sym (got-value (b .rest))) ∙ rw (free s at (a .value) (a .place) (a .first), elements-free k s (a .place) (b .first))
 
-    list-free : (s : List ℕ) (at : ℕ) {l : Terms} {n : ℕ} → elementList f t s at ≡ got l n → termsBreaches bs l ≡ []
+    list-free : (s : List ℕ) (at : ℕ) {l : Terms} {n : ℕ} → elementList v f t s at ≡ got l n → termsBreaches bs l ≡ []
     unfolding elementList
     list-free s at e = let a = split (u8 s at) _ e in elements-free (a .value) s (a .place) (a .rest)
 
-    kinds-free : (k : ℕ) (s : List ℕ) (at : ℕ) {x : Term} {n : ℕ} → choose k (termKinds f t true) s at ≡ got x n → termBreaches bs x ≡ []
+    kinds-free : (k : ℕ) (s : List ℕ) (at : ℕ) {x : Term} {n : ℕ} → choose k (termKinds v f t true) s at ≡ got x n → termBreaches bs x ≡ []
     unfolding choose termKinds Each keysUpTo termBreaches arithOf
     kinds-free k s at {x} {n} e =
         let own : (u : Term) → termBreaches bs u ≡ [] → got u at ≡ got x n → termBreaches bs x ≡ [] = λ u i j. ap (termBreaches bs) (sym (got-value j)) ∙ i in
-        let arrays : next (elementList f t s at) (λ a m. got (array a) m) ≡ got x n → termBreaches bs x ≡ [] =
-        λ j. let a = split (elementList f t s at) _ j in ap (termBreaches bs) (sym (got-value (a .rest))) ∙ list-free s at (a .first) in
-        let sums : arithOf f t true s at ≡ got x n → termBreaches bs x ≡ [] =
+        let arrays : next (elementList v f t s at) (λ a m. got (array a) m) ≡ got x n → termBreaches bs x ≡ [] =
+        λ j. let a = split (elementList v f t s at) _ j in ap (termBreaches bs) (sym (got-value (a .rest))) ∙ list-free s at (a .first) in
+        let sums : arithOf v f t true s at ≡ got x n → termBreaches bs x ≡ [] =
         λ j.
         let a = split (t true s at) _ j in
         let b = split (t true s (a .place)) _ (a .rest) in
         ap (termBreaches bs) (sym (got-value (b .rest))) ∙ rw (free s at (a .value) (a .place) (a .first), free s (a .place) (b .value) (b .place) (b .first)) in
-        by-kind s at 14 (termKinds f t true) refl (λ _. termBreaches bs x ≡ [])
+        by-kind s at 14 (termKinds v f t true) refl (λ _. termBreaches bs x ≡ [])
         (((((((((((((((tt, no-value), part-free (stringOf pathName s at) entity (λ _. refl)), own (literal integer) refl), own (literal decimal) refl), own (literal string) refl), own (literal bool) refl), part-free (pathOf s at) contextField (λ _. refl)), part-free (pathOf s at) scopeField (λ _. refl)), part-free (stringOf plain s at) var (λ _. refl)), own wildcard refl), arrays), no-value), sums), own sigil refl), own sigil refl)
         k e
 
@@ -88,16 +88,16 @@ module _ (bs : List Binder) where
       go true p i = no-value i
       go false p i = no-value i
 
-  term-free : (l : ℕ) (s : List ℕ) (at : ℕ) (x : Term) (n : ℕ) → termAt l true s at ≡ got x n → termBreaches bs x ≡ []
+  term-free : (v l : ℕ) (s : List ℕ) (at : ℕ) (x : Term) (n : ℕ) → termAt v l true s at ≡ got x n → termBreaches bs x ≡ []
   unfolding termAt
-  term-free zero s at x n e = too-deep 14 s at e
-  term-free (suc l) s at x n e = let a = split (u8 s at) _ e in kinds-free (conditionAt l) (λ b. termAt l b) (term-free l) (a .value) s (a .place) (a .rest)
+  term-free v zero s at x n e = too-deep 14 s at e
+  term-free v (suc l) s at x n e = let a = split (u8 s at) _ e in kinds-free v (conditionAt v l) (λ b. termAt v l b) (term-free v l) (a .value) s (a .place) (a .rest)
 
   array-free : (s : List ℕ) (at : ℕ) → isTerm s at ≡ true → termKindOf (termIn s at) ≡ 10 → termBreaches bs (termIn s at) ≡ []
   unfolding termBreaches
   array-free s at acc is =
-      let v = array-view s at (term-stands s at acc .read) (raw-term s at acc 10 (λ i. omega arith) is) in
-      ap (termBreaches bs) (v .whole) ∙ list-free (conditionAt levels) (λ b. termAt levels b) (term-free levels) s (at + 1) (v .reads)
+      let v = array-view (versionIn s) s at (term-stands s at acc .read) (raw-term s at acc 10 (λ i. omega arith) is) in
+      ap (termBreaches bs) (v .whole) ∙ list-free (versionIn s) (conditionAt (versionIn s) levels) (λ b. termAt (versionIn s) levels b) (term-free (versionIn s) levels) s (at + 1) (v .reads)
 
   -- a term of any kind but an aggregate, an arithmetic and an array
   leaf-free : (x : Term) → (termKindOf x ≡ 12 → ⊥) → (termKindOf x ≡ 11 → ⊥) → (termKindOf x ≡ 10 → ⊥) → termBreaches bs x ≡ []

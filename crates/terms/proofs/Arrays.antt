@@ -18,7 +18,7 @@ use Rattle.types.specs.declared.Rich.{Rich}
 use Rattle.condition.specs.Condition.{Condition, Term, Terms, nil, cons, elements, elementList, termKinds, conditionAt, termAt}
 use Rattle.condition.specs.Condition as tree
 use Rattle.nodes.specs.Kinds.{termKindOf}
-use Rattle.condition.specs.Places.{isTerm, termIn}
+use Rattle.condition.specs.Places.{versionIn, termHere, isTerm, termIn}
 use Rattle.nodes.specs.Open.{TermOpened, Skipped}
 use Rattle.condition.specs.Laws.Levels.{none-left, term-wider, term-anywhere}
 use Rattle.nodes.specs.Offsets.{termPart}
@@ -118,21 +118,21 @@ module _ (seen : Seen) where
 pub ruleset arraying = (needs, array-empty, array-mixed, array-like, like-fits)
 
 -- The elements of a list, taken apart.
-module _ (f : Reader Condition) (t : Bool → Reader Term) (c : List ℕ) where
+module _ (v : ℕ) (f : Reader Condition) (t : Bool → Reader Term) (c : List ℕ) where
   record ElementsView (n at : ℕ) (list : Terms) (end : ℕ) : Type 0 where
     first : Term
     p : ℕ
     reads : t true c at ≡ got first p
     others : Terms
-    further : elements f t (n - 1) c p ≡ got others end
+    further : elements v f t (n - 1) c p ≡ got others end
     whole : list ≡ cons first others
 
-  elements-view : (n at : ℕ) {list : Terms} {end : ℕ} → 0 < n → elements f t n c at ≡ got list end → ElementsView n at list end
+  elements-view : (n at : ℕ) {list : Terms} {end : ℕ} → 0 < n → elements v f t n c at ≡ got list end → ElementsView n at list end
   unfolding elements
   elements-view zero at h e = absurd (omega arith)
   elements-view (suc n) at {list} {end} h e =
       let a = split (t true c at) _ e in
-      let b = split (elements f t n c (a .place)) _ (a .rest) in
+      let b = split (elements v f t n c (a .place)) _ (a .rest) in
       record {
         first = a .value;
         p = a .place;
@@ -142,26 +142,26 @@ module _ (f : Reader Condition) (t : Bool → Reader Term) (c : List ℕ) where
         whole = sym (got-value (b .rest));
       }
 
-  elements-over : (n at : ℕ) {list : Terms} {end : ℕ} → n ≤ 0 → elements f t n c at ≡ got list end → (list ≡ nil) × (end ≡ at)
+  elements-over : (n at : ℕ) {list : Terms} {end : ℕ} → n ≤ 0 → elements v f t n c at ≡ got list end → (list ≡ nil) × (end ≡ at)
   unfolding elements
   elements-over zero at h e = (sym (got-value e), sym (got-place e))
   elements-over (suc n) at h e = absurd (omega arith)
 
-  by-byte : (at k : ℕ) {x : Term} {n : ℕ} → getD c at 0 ≡ k → next (u8 c at) (λ j p. choose j (termKinds f t false) c p) ≡ got x n → choose k (termKinds f t false) c (at + 1) ≡ got x n
+  by-byte : (at k : ℕ) {x : Term} {n : ℕ} → getD c at 0 ≡ k → next (u8 c at) (λ j p. choose j (termKinds v f t false) c p) ≡ got x n → choose k (termKinds v f t false) c (at + 1) ≡ got x n
   by-byte at k i e =
       let b = split (u8 c at) _ e in
-      let v = u8-view c at (b .first) in
+      let u = u8-view c at (b .first) in
       let r = b .rest in
-      rw (← i, ← v .1, ← v .2) r
+      rw (← i, ← u .1, ← u .2) r
 
   record ListOf (at : ℕ) (x : Term) (n : ℕ) : Type 0 where
     list : Terms
-    reads : elementList f t c at ≡ got list n
+    reads : elementList v f t c at ≡ got list n
     whole : x ≡ tree.array list
 
-  list-of : (at : ℕ) {x : Term} {n : ℕ} → choose 10 (termKinds f t false) c at ≡ got x n → ListOf at x n
+  list-of : (at : ℕ) {x : Term} {n : ℕ} → choose 10 (termKinds v f t false) c at ≡ got x n → ListOf at x n
   unfolding choose termKinds
-  list-of at e = let a = split (elementList f t c at) _ e in record { list = a .value; reads = a .first ∙ ap (got (a .value)) (got-place (a .rest)); whole = sym (got-value (a .rest)) }
+  list-of at e = let a = split (elementList v f t c at) _ e in record { list = a .value; reads = a .first ∙ ap (got (a .value)) (got-place (a .rest)); whole = sym (got-value (a .rest)) }
 
 record ArrayParts (c : List ℕ) (at left : ℕ) (x : Term) (n : ℕ) : Type 0 where
   deeper : 1 ≤ left
@@ -169,17 +169,17 @@ record ArrayParts (c : List ℕ) (at left : ℕ) (x : Term) (n : ℕ) : Type 0 w
   reads : listAt (left - 1) c (at + 1) ≡ got list n
   whole : x ≡ tree.array list
 
-array-parts : (c : List ℕ) (at left : ℕ) {x : Term} {n : ℕ} → termAt left false c at ≡ got x n → getD c at 0 ≡ 10 → ArrayParts c at left x n
+array-parts : (c : List ℕ) (at left : ℕ) {x : Term} {n : ℕ} → termAt (versionIn c) left false c at ≡ got x n → getD c at 0 ≡ 10 → ArrayParts c at left x n
 unfolding termAt
 array-parts c at zero e i = absurd (none-left 14 c at e)
 array-parts c at (suc l) e i =
-    let a = list-of (conditionAt l) (λ b. termAt l b) c (at + 1) (by-byte (conditionAt l) (λ b. termAt l b) c at 10 i e) in
+    let a = list-of (versionIn c) (conditionAt (versionIn c) l) (λ b. termAt (versionIn c) l b) c (at + 1) (by-byte (versionIn c) (conditionAt (versionIn c) l) (λ b. termAt (versionIn c) l b) c at 10 i e) in
     record { deeper = omega arith; list = a .list; reads = rw sub-one (a .reads); whole = a .whole }
 
 -- A term that is read with some levels left stands there.
-module _ (c : List ℕ) (at left : ℕ) (h : left ≤ 32) (acc : accepted (termAt left false c at) ≡ true) where
-  widened : {t : Term} {n : ℕ} → termAt left false c at ≡ got t n → termAt levels false c at ≡ got t n
-  widened {t} {n} e = term-wider false left 32 h c at t n e
+module _ (c : List ℕ) (at left : ℕ) (h : left ≤ 32) (acc : accepted (termAt (versionIn c) left false c at) ≡ true) where
+  widened : {t : Term} {n : ℕ} → termAt (versionIn c) left false c at ≡ got t n → termHere c at ≡ got t n
+  widened {t} {n} e = term-wider (versionIn c) false left 32 h c at t n e
 
   pub any-level : isTerm c at ≡ true
   any-level = is-accepted (widened (accept _ acc .read))
@@ -206,7 +206,7 @@ module _ (c : List ℕ) (at left : ℕ) (h : left ≤ 32) (acc : accepted (termA
       pub array-list : accepted (listAt (left - 1) c p) ≡ true
       array-list = is-accepted listing
 
-      pub array-typed : (s : List ℕ) (r : Element) → TypedAt s c (listAt (left - 1) c p) (some (arrayOf (elementTypes (listIn (left - 1) c p)))) (left - 1 + 1) r → TypedAt s c (termAt levels false c at) (termType none (termIn c at)) left r
+      pub array-typed : (s : List ℕ) (r : Element) → TypedAt s c (listAt (left - 1) c p) (some (arrayOf (elementTypes (listIn (left - 1) c p)))) (left - 1 + 1) r → TypedAt s c (termHere c at) (termType none (termIn c at)) left r
       unfolding termType termIn listIn ending
       array-typed s r h =
           let i : left - 1 + 1 ≡ left = omega (arith, array-level) in
@@ -218,7 +218,7 @@ module _ (c : List ℕ) (at left : ℕ) (h : left ≤ 32) (acc : accepted (termA
           }
 
   -- any other term
-  pub leaf-typed : (s : List ℕ) (r : Typed) (n : ℕ) → LeafTyped c at r → Skipped (termAt levels false c at) at n → TypedAt s c (termAt levels false c at) (termType none (termIn c at)) left (record { typed = r; next = n })
+  pub leaf-typed : (s : List ℕ) (r : Typed) (n : ℕ) → LeafTyped c at r → Skipped (termHere c at) at n → TypedAt s c (termHere c at) (termType none (termIn c at)) left (record { typed = r; next = n })
   leaf-typed s r n h z = record { value = h .value s; ends = z .ends; within = record { layers = omega (arith, h .within .layers); tag = h .within .tag } }
 
   pub not-array : (k : ℕ) → TermOpened c at k → (k ≡ 10 → ⊥) → (termKindOf (termIn c at) ≡ 10 → ⊥)
@@ -231,7 +231,7 @@ module _ (s c : List ℕ) (left start : ℕ) where
   pub record Left (rest at : ℕ) (seen : Seen) : Type 0 where
     pub things : Terms
     pub end : ℕ
-    pub read : elements (conditionAt left) (termAt left) rest c at ≡ got things end
+    pub read : elements (versionIn c) (conditionAt (versionIn c) left) (termAt (versionIn c) left) rest c at ≡ got things end
     pub ends : ending (listAt left c start) ≡ Next end
     pub same : arrayAfter s c seen (elementTypes things) ≡ arrayOf (elementTypes (listIn left c start))
     pub within : Within left (seenType seen)
@@ -258,19 +258,19 @@ module _ (s c : List ℕ) (left start : ℕ) where
     seen-fits h = omega (arith, l .within .layers)
 
     module _ (h : 0 < rest) where
-      own : ElementsView (conditionAt left) (termAt left) c rest at (l .things) (l .end)
-      own = elements-view (conditionAt left) (termAt left) c rest at h (l .read)
+      own : ElementsView (versionIn c) (conditionAt (versionIn c) left) (termAt (versionIn c) left) c rest at (l .things) (l .end)
+      own = elements-view (versionIn c) (conditionAt (versionIn c) left) (termAt (versionIn c) left) c rest at h (l .read)
 
-      here : termAt left false c at ≡ got (own .first) (own .p)
-      here = term-anywhere left c at (own .first) (own .p) (own .reads)
+      here : termAt (versionIn c) left false c at ≡ got (own .first) (own .p)
+      here = term-anywhere (versionIn c) left c at (own .first) (own .p) (own .reads)
 
-      pub next-stands : accepted (termAt left false c at) ≡ true
+      pub next-stands : accepted (termAt (versionIn c) left false c at) ≡ true
       next-stands = is-accepted here
 
-      pub left-turn : left < 32 → (e : Element) → TypedAt s c (termAt levels false c at) (termType none (termIn c at)) left e → (also : Seen) → also ≡ seenWith s c seen (e .typed) → Left (rest - 1) (e .next) also
+      pub left-turn : left < 32 → (e : Element) → TypedAt s c (termHere c at) (termType none (termIn c at)) left e → (also : Seen) → also ≡ seenWith s c seen (e .typed) → Left (rest - 1) (e .next) also
       unfolding termIn elementTypes
       left-turn k e t also is =
-          let w = term-wider false left 32 (omega arith) c at (own .first) (own .p) here in
+          let w = term-wider (versionIn c) false left 32 (omega arith) c at (own .first) (own .p) here in
           let i : e .next ≡ own .p = ends-at w (t .ends) in
           let v : typedOf s c (e .typed) ≡ termType none (own .first) = t .value ∙ ap (termType none) (has-value _ w) in
           record {
@@ -285,7 +285,7 @@ module _ (s c : List ℕ) (left start : ℕ) where
     pub left-over : rest ≤ 0 → (r : Rich) → r ≡ arrayRich seen → TypedAt s c (listAt left c start) (some (arrayOf (elementTypes (listIn left c start)))) (left + 1) (record { typed = As r; next = at })
     unfolding elementTypes
     left-over h r e =
-        let v = elements-over (conditionAt left) (termAt left) c rest at h (l .read) in
+        let v = elements-over (versionIn c) (conditionAt (versionIn c) left) (termAt (versionIn c) left) c rest at h (l .read) in
         record {
           value = ap some (ap (richOf s c) e ∙ array-value s c seen ∙ ap (λ (x : Terms). arrayAfter s c seen (elementTypes x)) (sym (v .0)) ∙ l .same);
           ends = l .ends ∙ ap Next (v .1);

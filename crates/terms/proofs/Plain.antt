@@ -21,7 +21,7 @@ use Rattle.types.specs.declared.Base.the-variants as Base
 use Rattle.condition.specs.Condition.{Term, entity, literal, integer, decimal, string, bool, contextField, scopeField, var, wildcard, array, aggregate, sigil}
 use Rattle.condition.specs.Condition as tree
 use Rattle.nodes.specs.Kinds.{termKindOf}
-use Rattle.condition.specs.Places.{isTerm, termIn}
+use Rattle.condition.specs.Places.{versionIn, isTerm, termIn}
 use Rattle.nodes.specs.Open.{TermOpened}
 use Rattle.nodes.specs.Offsets.{termPart}
 use Rattle.nodes.specs.Laws.Inside.{term-place}
@@ -106,7 +106,7 @@ kind-within sigil = record { layers = omega arith; tag = omega arith }
 module _ (c : List ℕ) (at : ℕ) (acc : isTerm c at ≡ true) (k : ℕ) (o : TermOpened c at k) where
   module _ (e : k ≡ 1) where
     named : PartView (stringOf pathName) entity c at (termIn c at) (term-stands c at acc .end)
-    named = entity-view c at (term-stands c at acc .read) (raw-term c at acc 1 (λ i. omega arith) (sym (o .kind) ∙ e))
+    named = entity-view (versionIn c) c at (term-stands c at acc .read) (raw-term c at acc 1 (λ i. omega arith) (sym (o .kind) ∙ e))
 
     module _ (p : ℕ) (place : p ≡ termPart c at) where
       spelt : stringOf pathName c p ≡ got (named .part) (term-stands c at acc .end)

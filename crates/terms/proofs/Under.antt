@@ -6,7 +6,6 @@ use mathlib.Core.Option.{Option, none, some}
 use Prim.Native.Nat.{ℕ}
 use native.Mathlib.Omega.{arith}
 use borrow.Author.Needs.{needs}
-use Rattle.names.specs.Fields.{levels}
 use Rattle.names.specs.Read.{wordAt}
 use Rattle.types.specs.Laws.Texts.{numbers-small}
 use Rattle.types.specs.Meaning.{layered}
@@ -18,11 +17,11 @@ use Rattle.names.specs.declared.Found.the-variants as Found
 use Rattle.names.specs.declared.Row.{Row}
 use Rattle.targets.specs.Places.{narrowed, targetsIn}
 use Rattle.targets.specs.declared.Narrowed.{Narrowed}
-use Rattle.condition.specs.Condition.{Term, entity, literal, contextField, scopeField, var, wildcard, array, aggregate, sigil, timepoint, path, termAt}
+use Rattle.condition.specs.Condition.{Term, entity, literal, contextField, scopeField, var, wildcard, array, aggregate, sigil, timepoint, path}
 use Rattle.condition.specs.Condition as tree
 use Rattle.condition.specs.Walk.{lastNamed, binders}
 use Rattle.nodes.specs.Kinds.{termKindOf}
-use Rattle.condition.specs.Places.{recordIn, termIn, pathIn}
+use Rattle.condition.specs.Places.{termHere, recordIn, termIn, pathIn}
 use Rattle.nodes.specs.Laws.Pieces.{context-path, scope-path, context-inside, scope-inside, var-inside}
 use Rattle.nodes.specs.Open.{TermOpened}
 use Rattle.nodes.specs.Parts.{PathHere, segmentsIn, SegmentsHere, Says}
@@ -92,7 +91,7 @@ within-small : (s c : List ℕ) (r : Typed) → Within 32 r → smallType (typed
 within-small s c (As t) h = numbers-small s c t (h .layers) (h .tag)
 within-small s c Nothing h = omega arith
 
-pub plain-typed : (s c : List ℕ) (at : ℕ) (e : Element) → TypedAt s c (termAt levels false c at) (termType none (termIn c at)) 32 e → TypeOf s c (termType none (termIn c at)) (e .typed)
+pub plain-typed : (s c : List ℕ) (at : ℕ) (e : Element) → TypedAt s c (termHere c at) (termType none (termIn c at)) 32 e → TypeOf s c (termType none (termIn c at)) (e .typed)
 plain-typed s c at e h = record { value = h .value; small = within-small s c (e .typed) (h .within) }
 
 pub ruleset plainly = (needs, plain-typed)

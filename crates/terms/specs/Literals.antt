@@ -17,7 +17,7 @@ use Rattle.types.specs.declared.Base.the-variants as Base
 use Rattle.types.specs.declared.Scalar.{Scalar}
 use Rattle.types.specs.declared.Scalar.the-variants as Scalar
 use Rattle.condition.specs.Condition.{Terms, nil, elementList, conditionAt, termAt}
-use Rattle.condition.specs.Places.{termIn}
+use Rattle.condition.specs.Places.{versionIn, termIn}
 use Rattle.resolution.specs.Places.{typedOf}
 use Rattle.resolution.specs.declared.Typed.{Typed}
 use Rattle.resolution.specs.declared.Typed.the-variants.{As, Nothing}
@@ -70,7 +70,7 @@ pub record TypedAt {A : Type 0} (s c : List ℕ) (g : Got A) (o : Option Ty) (la
 
 -- a count of elements and the elements, with so many levels left
 abbrev pub listAt : ℕ → Reader Terms
-listAt left = elementList (conditionAt left) (termAt left)
+listAt left c = elementList (versionIn c) (conditionAt (versionIn c) left) (termAt (versionIn c) left) c
 
 unfoldable pub listIn : ℕ → List ℕ → ℕ → Terms
 listIn left c at = valueOr nil (listAt left c at)

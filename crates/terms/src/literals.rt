@@ -16,7 +16,7 @@ ghost use Rattle.names.specs.Fields.{levels};
 ghost use Rattle.names.specs.Read.{accepted};
 ghost use Rattle.condition.specs.Condition.{termAt};
 ghost use Rattle.nodes.specs.Kinds.{termKindOf};
-ghost use Rattle.condition.specs.Places.{isTerm, termIn};
+ghost use Rattle.condition.specs.Places.{versionIn, termHere, isTerm, termIn};
 ghost use Rattle.terms.specs.Terms.{termType, elementTypes, arrayOf};
 ghost use Rattle.terms.specs.Bounds.{layersOf};
 ghost use Rattle.terms.specs.Literals.{kindType, seenWith, seenType, arrayRich, EntityTag, LeafTyped, TypedAt, listAt, listIn};
@@ -148,8 +148,8 @@ fn leaf_type(condition: &[u8], at: usize) -> Typed
 // The type that the term at `at` has without facts, and the place behind it, with so many levels left.
 pub fn element_type<'a>(schema: &'a [u8], condition: &'a [u8], at: usize, left: usize) -> Element
     requires { ⌜ left ≤ 32 ⌝ }
-    requires { ⌜ accepted (termAt left false (now condition) at) ≡ true ⌝ }
-    ensures { λ r. ⌜ TypedAt (now (schema .entry)) (now (condition .entry)) (termAt levels false (now (condition .entry)) at) (termType none (termIn (now (condition .entry)) at)) left r ⌝ }
+    requires { ⌜ accepted (termAt (versionIn (now condition)) left false (now condition) at) ≡ true ⌝ }
+    ensures { λ r. ⌜ TypedAt (now (schema .entry)) (now (condition .entry)) (termHere (now (condition .entry)) at) (termType none (termIn (now (condition .entry)) at)) left r ⌝ }
 {
     if nodes::term_kind_at(condition, at) == 10 {
         return array_type(schema, condition, nodes::term_part(condition, at), left - 1);

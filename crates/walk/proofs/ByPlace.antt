@@ -8,11 +8,10 @@ use native.Mathlib.Omega.{arith}
 use borrow.Author.Needs.{needs}
 use lib.ListN.{length, getD, take, drop}
 use lib.Seq.{length-take-le, getD-take}
-use Rattle.names.specs.Fields.{levels}
 use Rattle.walk.specs.declared.Indexed.{Indexed}
-use Rattle.condition.specs.Condition.{Condition, conditionAt}
+use Rattle.condition.specs.Condition.{Condition}
 use Rattle.condition.specs.Walk.{reached}
-use Rattle.condition.specs.Places.{isRecord, isCondition, conditionIn}
+use Rattle.condition.specs.Places.{conditionHere, isRecord, isCondition, conditionIn}
 use Rattle.walk.specs.Index.{nodesOf, Indexes, Index, Reached, Room, Filled}
 use Rattle.condition.specs.Laws.Records.{record-small, record-starts, record-value}
 use Rattle.walk.proofs.Filling.{indexes-kept}
@@ -41,7 +40,7 @@ module _ (s : List ℕ) (acc : isRecord s ≡ true) where
   pub record-room : {n : ℕ} → 3641 ≤ n → Room s 5 n 0
   record-room h = record { small = record-small s acc; enough = omega (arith, record-small s acc) }
 
-  pub record-index : {t u : List ℕ} {r : Indexed} → Filled s 5 (conditionAt levels s 5) (reached (conditionIn s 5)) t 0 u r → Index s (take (r .count) u)
+  pub record-index : {t u : List ℕ} {r : Indexed} → Filled s 5 (conditionHere s 5) (reached (conditionIn s 5)) t 0 u r → Index s (take (r .count) u)
   record-index {t} {u} {r} f =
       let e : reached (conditionIn s 5) ≡ nodesOf s = ap reached (record-value s acc) in
       let n : r .count ≡ length (reached (conditionIn s 5)) = omega arith in

@@ -7,13 +7,13 @@ use native.Mathlib.Omega.{arith}
 use lib.ListN.{length, getD, length-append}
 use Rattle.names.specs.declared.Read.{Read}
 use Rattle.names.specs.declared.Read.the-variants.{Next}
-use Rattle.names.specs.Fields.{Got, levels}
+use Rattle.names.specs.Fields.{Got}
 use Rattle.names.specs.Read.{ending}
 use Rattle.walk.specs.declared.Indexed.{Indexed}
-use Rattle.condition.specs.Condition.{Condition, Term, Aggregate, One, negation, formerly, previous, refine, Two, and, or, since, one, two, predicate, comparison, exists, tp, opaque, entity, literal, contextField, scopeField, var, wildcard, array, aggregate, sigil, sum, count, call, binder, conditionAt, termAt}
+use Rattle.condition.specs.Condition.{Condition, Term, Aggregate, One, negation, formerly, previous, refine, Two, and, or, since, one, two, predicate, comparison, exists, tp, opaque, entity, literal, contextField, scopeField, var, wildcard, array, aggregate, sigil, sum, count, call, binder}
 use Rattle.condition.specs.Condition as tree
 use Rattle.condition.specs.Walk.{reached, reachedIn, reachedBody}
-use Rattle.condition.specs.Places.{isCondition, conditionIn, isTerm, termIn, isAggregate, aggregateIn, isBinder}
+use Rattle.condition.specs.Places.{conditionHere, termHere, isCondition, conditionIn, isTerm, termIn, isAggregate, aggregateIn, isBinder}
 use Rattle.nodes.specs.Kinds.{kindOf, oneNumber, twoNumber, oneKind, twoKind, termKindOf, aggregateKindOf}
 use Rattle.nodes.specs.Offsets.{firstPart, termPart}
 use Rattle.nodes.specs.Open.{Skipped, Opened, TermOpened, AggregateOpened, OneHere, TwoHere, ComparedHere, QuantifiedHere, AddedHere, AggregateHere, BodyHere}
@@ -131,9 +131,9 @@ module _ (s : List ℕ) (at : ℕ) (acc : isCondition s at ≡ true) (k : ℕ) (
     pub two-first : isCondition s p ≡ true
     two-first = two-is .stands
 
-    module _ {n : ℕ} {t₀ t₁ t₂ : List ℕ} {a : Indexed} (u : Put t₀ n at t₁) (f : Filled s p (conditionAt levels s p) (reached (conditionIn s p)) t₁ (n + 1) t₂ a) where
-      pub two-filled : {t₃ : List ℕ} {b : Indexed} → Filled s (a .next) (conditionAt levels s (a .next)) (reached (conditionIn s (a .next))) t₂ (a .count) t₃ b
-          → Filled s at (conditionAt levels s at) (reached (conditionIn s at)) t₀ n t₃ b
+    module _ {n : ℕ} {t₀ t₁ t₂ : List ℕ} {a : Indexed} (u : Put t₀ n at t₁) (f : Filled s p (conditionHere s p) (reached (conditionIn s p)) t₁ (n + 1) t₂ a) where
+      pub two-filled : {t₃ : List ℕ} {b : Indexed} → Filled s (a .next) (conditionHere s (a .next)) (reached (conditionIn s (a .next))) t₂ (a .count) t₃ b
+          → Filled s at (conditionHere s at) (reached (conditionIn s at)) t₀ n t₃ b
       two-filled g =
           let m : two-is .second ≡ a .next = ends-there (two-is .between) (f .ends) in
           alike s (rw m at (two-is .ends)) (rw m at (two-is .reaches)) (self s acc u (both s f g) (two-is .ahead))
@@ -145,8 +145,8 @@ module _ (s : List ℕ) (at : ℕ) (acc : isCondition s at ≡ true) (k : ℕ) (
     pub one-first : isCondition s p ≡ true
     one-first = one-is .stands
 
-    pub one-filled : {n : ℕ} {t₀ t₁ t₂ : List ℕ} {b : Indexed} → Put t₀ n at t₁ → Filled s p (conditionAt levels s p) (reached (conditionIn s p)) t₁ (n + 1) t₂ b
-        → Filled s at (conditionAt levels s at) (reached (conditionIn s at)) t₀ n t₂ b
+    pub one-filled : {n : ℕ} {t₀ t₁ t₂ : List ℕ} {b : Indexed} → Put t₀ n at t₁ → Filled s p (conditionHere s p) (reached (conditionIn s p)) t₁ (n + 1) t₂ b
+        → Filled s at (conditionHere s at) (reached (conditionIn s at)) t₀ n t₂ b
     one-filled u f = alike s (one-is .ends) (one-is .reaches) (self s acc u f (one-is .ahead))
 
   module _ (is : k ≡ 8) where
@@ -156,9 +156,9 @@ module _ (s : List ℕ) (at : ℕ) (acc : isCondition s at ≡ true) (k : ℕ) (
     pub comparison-first : isTerm s p ≡ true
     comparison-first = compared-is .stands
 
-    module _ {n : ℕ} {t₀ t₁ t₂ : List ℕ} {a : Indexed} (u : Put t₀ n at t₁) (f : Filled s p (termAt levels false s p) (reachedIn (termIn s p)) t₁ (n + 1) t₂ a) where
-      pub comparison-filled : {t₃ : List ℕ} {b : Indexed} → Filled s (a .next) (termAt levels false s (a .next)) (reachedIn (termIn s (a .next))) t₂ (a .count) t₃ b
-          → Filled s at (conditionAt levels s at) (reached (conditionIn s at)) t₀ n t₃ b
+    module _ {n : ℕ} {t₀ t₁ t₂ : List ℕ} {a : Indexed} (u : Put t₀ n at t₁) (f : Filled s p (termHere s p) (reachedIn (termIn s p)) t₁ (n + 1) t₂ a) where
+      pub comparison-filled : {t₃ : List ℕ} {b : Indexed} → Filled s (a .next) (termHere s (a .next)) (reachedIn (termIn s (a .next))) t₂ (a .count) t₃ b
+          → Filled s at (conditionHere s at) (reached (conditionIn s at)) t₀ n t₃ b
       comparison-filled g =
           let m : compared-is .second ≡ a .next = ends-there (compared-is .between) (f .ends) in
           alike s (rw m at (compared-is .ends)) (rw m at (compared-is .reaches)) (self s acc u (both s f g) (compared-is .ahead))
@@ -177,13 +177,13 @@ module _ (s : List ℕ) (at : ℕ) (acc : isCondition s at ≡ true) (k : ℕ) (
       pub exists-next : isCondition s m ≡ true
       exists-next = rw body-is at (quantified-is .behind)
 
-      pub exists-filled : {n : ℕ} {t₀ t₁ t₂ : List ℕ} {r : Indexed} → Put t₀ n at t₁ → Filled s m (conditionAt levels s m) (reached (conditionIn s m)) t₁ (n + 1) t₂ r → Filled s at (conditionAt levels s at) (reached (conditionIn s at)) t₀ n t₂ r
+      pub exists-filled : {n : ℕ} {t₀ t₁ t₂ : List ℕ} {r : Indexed} → Put t₀ n at t₁ → Filled s m (conditionHere s m) (reached (conditionIn s m)) t₁ (n + 1) t₂ r → Filled s at (conditionHere s at) (reached (conditionIn s at)) t₀ n t₂ r
       exists-filled u f = alike s (rw body-is at (quantified-is .ends)) (rw body-is at (quantified-is .reaches)) (self s acc u f (omega (arith, quantified-is .ahead, z .ahead)))
 
 -- any other kind
 module _ (s : List ℕ) (at : ℕ) (acc : isCondition s at ≡ true) (k : ℕ) (o : Opened s at k) where
-  pub alone-filled : {m n : ℕ} {t₀ t₁ : List ℕ} (two-in one-in : Bool) → two-in ≡ twoKind k → two-in ≡ false → one-in ≡ oneKind k → one-in ≡ false → (k ≡ 8 → ⊥) → (k ≡ 9 → ⊥) → Room s at (length t₀) n → Put t₀ n at t₁ → Skipped (conditionAt levels s at) at m
-      → Filled s at (conditionAt levels s at) (reached (conditionIn s at)) t₀ n t₁ (record { next = m; count = n + 1 })
+  pub alone-filled : {m n : ℕ} {t₀ t₁ : List ℕ} (two-in one-in : Bool) → two-in ≡ twoKind k → two-in ≡ false → one-in ≡ oneKind k → one-in ≡ false → (k ≡ 8 → ⊥) → (k ≡ 9 → ⊥) → Room s at (length t₀) n → Put t₀ n at t₁ → Skipped (conditionHere s at) at m
+      → Filled s at (conditionHere s at) (reached (conditionIn s at)) t₀ n t₁ (record { next = m; count = n + 1 })
   alone-filled two-in one-in h h′ i i′ a b room u z =
       let e = alone (conditionIn s at) (rw (← o .kind) (sym h ∙ h′)) (rw (← o .kind) (sym i ∙ i′)) (λ q. a (o .kind ∙ q)) (λ q. b (o .kind ∙ q)) in
       alike s refl e (self s acc u (empty s (z .ends) (condition-ahead s at acc z) (omega arith)) (omega arith))
@@ -194,12 +194,12 @@ module _ (s : List ℕ) (at : ℕ) (acc : isTerm s at ≡ true) (k : ℕ) (o : T
     aggregate-is : AggregateHere s at p
     aggregate-is = aggregate-inside s at acc p place k o is
 
-    pub body-filled : {q n : ℕ} {t u : List ℕ} {b : Indexed} → BodyHere s p q → Filled s q (conditionAt levels s q) (reached (conditionIn s q)) t n u b
-        → Filled s at (termAt levels false s at) (reachedIn (termIn s at)) t n u b
+    pub body-filled : {q n : ℕ} {t u : List ℕ} {b : Indexed} → BodyHere s p q → Filled s q (conditionHere s q) (reached (conditionIn s q)) t n u b
+        → Filled s at (termHere s at) (reachedIn (termIn s at)) t n u b
     unfolding reachedIn
     body-filled y f = alike s (aggregate-is .ends ∙ y .ends) (rw (aggregate-is .value) (y .value)) (onward s f (omega (arith, aggregate-is .ahead, y .ahead)))
 
-    pub call-filled : (j : ℕ) → AggregateOpened s p j → j ≡ 3 → {m n : ℕ} {t : List ℕ} → Room s at (length t) n → Skipped (termAt levels false s at) at m → Filled s at (termAt levels false s at) (reachedIn (termIn s at)) t n t (record { next = m; count = n })
+    pub call-filled : (j : ℕ) → AggregateOpened s p j → j ≡ 3 → {m n : ℕ} {t : List ℕ} → Room s at (length t) n → Skipped (termHere s at) at m → Filled s at (termHere s at) (reachedIn (termIn s at)) t n t (record { next = m; count = n })
     unfolding reachedIn
     call-filled j g h room z =
         alike s refl (ap reachedIn (aggregate-is .value) ∙ calls (aggregateIn s p) (sym (g .kind) ∙ h)) (empty s (z .ends) (z .ahead) (omega arith))
@@ -211,9 +211,9 @@ module _ (s : List ℕ) (at : ℕ) (acc : isTerm s at ≡ true) (k : ℕ) (o : T
     pub arith-first : isTerm s p ≡ true
     arith-first = added-is .stands
 
-    module _ {n : ℕ} {t₀ t₁ : List ℕ} {a : Indexed} (f : Filled s p (termAt levels false s p) (reachedIn (termIn s p)) t₀ n t₁ a) where
-      pub arith-filled : {t₂ : List ℕ} {b : Indexed} → Filled s (a .next) (termAt levels false s (a .next)) (reachedIn (termIn s (a .next))) t₁ (a .count) t₂ b
-          → Filled s at (termAt levels false s at) (reachedIn (termIn s at)) t₀ n t₂ b
+    module _ {n : ℕ} {t₀ t₁ : List ℕ} {a : Indexed} (f : Filled s p (termHere s p) (reachedIn (termIn s p)) t₀ n t₁ a) where
+      pub arith-filled : {t₂ : List ℕ} {b : Indexed} → Filled s (a .next) (termHere s (a .next)) (reachedIn (termIn s (a .next))) t₁ (a .count) t₂ b
+          → Filled s at (termHere s at) (reachedIn (termIn s at)) t₀ n t₂ b
       unfolding reachedIn
       arith-filled g =
           let m : added-is .second ≡ a .next = ends-there (added-is .between) (f .ends) in
@@ -221,17 +221,17 @@ module _ (s : List ℕ) (at : ℕ) (acc : isTerm s at ≡ true) (k : ℕ) (o : T
 
 -- any other kind
 module _ (s : List ℕ) (at : ℕ) (k : ℕ) (o : TermOpened s at k) where
-  pub bare-filled : {m n : ℕ} {t : List ℕ} → (k ≡ 11 → ⊥) → (k ≡ 12 → ⊥) → Room s at (length t) n → Skipped (termAt levels false s at) at m
-      → Filled s at (termAt levels false s at) (reachedIn (termIn s at)) t n t (record { next = m; count = n })
+  pub bare-filled : {m n : ℕ} {t : List ℕ} → (k ≡ 11 → ⊥) → (k ≡ 12 → ⊥) → Room s at (length t) n → Skipped (termHere s at) at m
+      → Filled s at (termHere s at) (reachedIn (termIn s at)) t n t (record { next = m; count = n })
   bare-filled h i room z = rw (bare (termIn s at) (λ e. h (o .kind ∙ e)) (λ e. i (o .kind ∙ e))) (empty s (z .ends) (z .ahead) (omega arith))
 
 -- Where the part behind another stands.
 module _ (s : List ℕ) (p : ℕ) {m n : ℕ} {xs : List Condition} {t u : List ℕ} {a : Indexed} where
-  pub two-next : Filled s m (conditionAt levels s p) xs t n u a → (at k : ℕ) → Opened s at k → p ≡ firstPart s at → (b : Bool) → b ≡ twoKind k → b ≡ true → isCondition s at ≡ true → isCondition s (a .next) ≡ true
+  pub two-next : Filled s m (conditionHere s p) xs t n u a → (at k : ℕ) → Opened s at k → p ≡ firstPart s at → (b : Bool) → b ≡ twoKind k → b ≡ true → isCondition s at ≡ true → isCondition s (a .next) ≡ true
   two-next f at k o place b q is acc = let v = two-is s at acc k o p place b q is in rw (ends-there (f .ends) (v .between)) (v .behind)
 
-  pub comparison-next : Filled s m (termAt levels false s p) xs t n u a → (at : ℕ) → p ≡ firstPart s at → kindOf (conditionIn s at) ≡ 8 → isCondition s at ≡ true → isTerm s (a .next) ≡ true
+  pub comparison-next : Filled s m (termHere s p) xs t n u a → (at : ℕ) → p ≡ firstPart s at → kindOf (conditionIn s at) ≡ 8 → isCondition s at ≡ true → isTerm s (a .next) ≡ true
   comparison-next f at place is acc = let v = compared-inside s at acc p place 8 (sym is) refl in rw (ends-there (f .ends) (v .between)) (v .behind)
 
-  pub arith-next : Filled s m (termAt levels false s p) xs t n u a → (at k : ℕ) → TermOpened s at k → k ≡ 12 → p ≡ termPart s at → isTerm s at ≡ true → isTerm s (a .next) ≡ true
+  pub arith-next : Filled s m (termHere s p) xs t n u a → (at k : ℕ) → TermOpened s at k → k ≡ 12 → p ≡ termPart s at → isTerm s at ≡ true → isTerm s (a .next) ≡ true
   arith-next f at k o is place acc = let v = added-is s at acc k o p place is in rw (ends-there (f .ends) (v .between)) (v .behind)

@@ -15,10 +15,8 @@ ghost use mathlib.Core.Path.{_≡_};
 ghost use mathlib.Core.Bool.{true, false};
 ghost use Prim.Native.Nat.{_≤_, _<_};
 ghost use lib.ListN.{length, take};
-ghost use Rattle.names.specs.Fields.{levels};
-ghost use Rattle.condition.specs.Condition.{conditionAt, termAt};
 ghost use Rattle.condition.specs.Walk.{reached, reachedIn};
-ghost use Rattle.condition.specs.Places.{isRecord, isCondition, conditionIn, isTerm, termIn};
+ghost use Rattle.condition.specs.Places.{conditionHere, termHere, isRecord, isCondition, conditionIn, isTerm, termIn};
 ghost use Rattle.walk.specs.Index.{Index, Room, Put, Filled};
 
 fn put(table: &mut [u16], n: usize, at: usize)
@@ -32,7 +30,7 @@ fn put(table: &mut [u16], n: usize, at: usize)
 fn index(s: &[u8], at: usize, table: &mut [u16], n: usize) -> Indexed
     requires { ⌜ isCondition (now s) at ≡ true ⌝ }
     requires { ⌜ Room (now s) at (length (now table)) n ⌝ }
-    ensures { λ r. ⌜ Filled (now (s .entry)) at (conditionAt levels (now (s .entry)) at) (reached (conditionIn (now (s .entry)) at)) (now (table .entry)) n (now (table .exit)) r ⌝ }
+    ensures { λ r. ⌜ Filled (now (s .entry)) at (conditionHere (now (s .entry)) at) (reached (conditionIn (now (s .entry)) at)) (now (table .entry)) n (now (table .exit)) r ⌝ }
 {
     let kind = kind_at(s, at);
     put(table, n, at);
@@ -67,7 +65,7 @@ fn index(s: &[u8], at: usize, table: &mut [u16], n: usize) -> Indexed
 fn index_operand(s: &[u8], at: usize, table: &mut [u16], n: usize) -> Indexed
     requires { ⌜ isTerm (now s) at ≡ true ⌝ }
     requires { ⌜ Room (now s) at (length (now table)) n ⌝ }
-    ensures { λ r. ⌜ Filled (now (s .entry)) at (termAt levels false (now (s .entry)) at) (reachedIn (termIn (now (s .entry)) at)) (now (table .entry)) n (now (table .exit)) r ⌝ }
+    ensures { λ r. ⌜ Filled (now (s .entry)) at (termHere (now (s .entry)) at) (reachedIn (termIn (now (s .entry)) at)) (now (table .entry)) n (now (table .exit)) r ⌝ }
 {
     let kind = term_kind_at(s, at);
     if kind == 11 {

@@ -1,4 +1,4 @@
--- What a condition, a term, an aggregate is at a position, by the level left and the byte there. Assumes nothing.
+-- What a condition, a term, an aggregate is at a position, by the level left and the byte there, in whatever version. Assumes nothing.
 use mathlib.Core.Path.{_≡_, refl, _∙_}
 use mathlib.Core.Bool.{Bool, true, false}
 use mathlib.Core.List.{List}
@@ -39,189 +39,189 @@ module _ {A : Type 0} (s : List ℕ) (at bound : ℕ) where
       deep-defined k = rw (u8-got s at h, le-leb 1 (getD s at 0) (omega arith), le-leb _ _ k)
 
 -- Each exit of `read_subcondition`.
-module _ (s : List ℕ) (at l : ℕ) where
-  pub condition-end : length s ≤ at → Refused 2 ≡ ending (conditionAt l s at)
+module _ (v : ℕ) (s : List ℕ) (at l : ℕ) where
+  pub condition-end : length s ≤ at → Refused 2 ≡ ending (conditionAt v l s at)
   unfolding conditionAt ending
   condition-end h = go l
     where
-      go : (l : ℕ) → Refused 2 ≡ ending (conditionAt l s at)
+      go : (l : ℕ) → Refused 2 ≡ ending (conditionAt v l s at)
       go zero = rw (deep-end {A = Condition} s at 13 h)
       go (suc l) = rw (u8-end s at h)
 
   module _ (h : at < length s) where
-    condition-kind : (l ≡ 0 → ⊥) → (k : ℕ) → getD s at 0 ≡ k → conditionAt l s at ≡ choose k (conditionKinds (conditionAt (l - 1)) (termAt (l - 1))) s (at + 1)
+    condition-kind : (l ≡ 0 → ⊥) → (k : ℕ) → getD s at 0 ≡ k → conditionAt v l s at ≡ choose k (conditionKinds v (conditionAt v (l - 1)) (termAt v (l - 1))) s (at + 1)
     unfolding conditionAt
     condition-kind z k e = go l z
       where
-        go : (l : ℕ) → (l ≡ 0 → ⊥) → conditionAt l s at ≡ choose k (conditionKinds (conditionAt (l - 1)) (termAt (l - 1))) s (at + 1)
+        go : (l : ℕ) → (l ≡ 0 → ⊥) → conditionAt v l s at ≡ choose k (conditionKinds v (conditionAt v (l - 1)) (termAt v (l - 1))) s (at + 1)
         go zero z = absurd (z refl)
         go (suc l) z = rw sub-one (choice s at _ h k e)
 
-    pub condition-zero : getD s at 0 ≡ 0 → Refused 5 ≡ ending (conditionAt l s at)
+    pub condition-zero : getD s at 0 ≡ 0 → Refused 5 ≡ ending (conditionAt v l s at)
     unfolding conditionAt ending choose conditionKinds
     condition-zero k = go l
       where
-        go : (l : ℕ) → Refused 5 ≡ ending (conditionAt l s at)
+        go : (l : ℕ) → Refused 5 ≡ ending (conditionAt v l s at)
         go zero = rw (deep-zero {A = Condition} s at 13 h k)
-        go (suc l) = via (choice s at (conditionKinds (conditionAt l) (termAt l)) h 0 k) refl
+        go (suc l) = via (choice s at (conditionKinds v (conditionAt v l) (termAt v l)) h 0 k) refl
 
     module _ (y : getD s at 0 ≡ 0 → ⊥) where
-      pub condition-above : 13 < getD s at 0 → Refused 5 ≡ ending (conditionAt l s at)
+      pub condition-above : 13 < getD s at 0 → Refused 5 ≡ ending (conditionAt v l s at)
       unfolding conditionAt ending keysUpTo conditionKinds
       condition-above k = go l
         where
-          go : (l : ℕ) → Refused 5 ≡ ending (conditionAt l s at)
+          go : (l : ℕ) → Refused 5 ≡ ending (conditionAt v l s at)
           go zero = rw (deep-above {A = Condition} s at 13 h y k)
-          go (suc l) = via (choice s at _ h _ refl) (rw (choose-beyond s (at + 1) 13 (getD s at 0) k (conditionKinds (conditionAt l) (termAt l)) refl))
+          go (suc l) = via (choice s at _ h _ refl) (rw (choose-beyond s (at + 1) 13 (getD s at 0) k (conditionKinds v (conditionAt v l) (termAt v l)) refl))
 
-      pub condition-deep : getD s at 0 ≤ 13 → l ≡ 0 → Refused 7 ≡ ending (conditionAt l s at)
+      pub condition-deep : getD s at 0 ≤ 13 → l ≡ 0 → Refused 7 ≡ ending (conditionAt v l s at)
       unfolding conditionAt ending
       condition-deep k z = rw (z, deep-defined {A = Condition} s at 13 h y k)
 
-      pub binary-low : (l ≡ 0 → ⊥) → getD s at 0 ≤ 2 → (x : Read) → ((k : Two) → x ≡ ending (binary (conditionAt (l - 1)) (termAt (l - 1)) k s (at + 1))) → x ≡ ending (conditionAt l s at)
+      pub binary-low : (l ≡ 0 → ⊥) → getD s at 0 ≤ 2 → (x : Read) → ((k : Two) → x ≡ ending (binary v (conditionAt v (l - 1)) (termAt v (l - 1)) k s (at + 1))) → x ≡ ending (conditionAt v l s at)
       unfolding choose conditionKinds Each
-      binary-low z k x e = via (condition-kind z _ refl) (each-in (λ j. x ≡ ending (choose j (conditionKinds (conditionAt (l - 1)) (termAt (l - 1))) s (at + 1))) 1 2 ((tt, e and), e or) (getD s at 0) (omega arith) (omega arith))
+      binary-low z k x e = via (condition-kind z _ refl) (each-in (λ j. x ≡ ending (choose j (conditionKinds v (conditionAt v (l - 1)) (termAt v (l - 1))) s (at + 1))) 1 2 ((tt, e and), e or) (getD s at 0) (omega arith) (omega arith))
 
     module _ (z : l ≡ 0 → ⊥) (x : Read) where
-      pub unary-low : 2 < getD s at 0 → getD s at 0 ≤ 5 → ((k : One) → x ≡ ending (unary (conditionAt (l - 1)) (termAt (l - 1)) k s (at + 1))) → x ≡ ending (conditionAt l s at)
+      pub unary-low : 2 < getD s at 0 → getD s at 0 ≤ 5 → ((k : One) → x ≡ ending (unary v (conditionAt v (l - 1)) (termAt v (l - 1)) k s (at + 1))) → x ≡ ending (conditionAt v l s at)
       unfolding choose conditionKinds Each
-      unary-low a b e = via (condition-kind z _ refl) (each-in (λ j. x ≡ ending (choose j (conditionKinds (conditionAt (l - 1)) (termAt (l - 1))) s (at + 1))) 3 3 (((tt, e negation), e formerly), e previous) (getD s at 0) a (omega arith))
+      unary-low a b e = via (condition-kind z _ refl) (each-in (λ j. x ≡ ending (choose j (conditionKinds v (conditionAt v (l - 1)) (termAt v (l - 1))) s (at + 1))) 3 3 (((tt, e negation), e formerly), e previous) (getD s at 0) a (omega arith))
 
-      pub unary-high : 12 < getD s at 0 → getD s at 0 ≤ 13 → ((k : One) → x ≡ ending (unary (conditionAt (l - 1)) (termAt (l - 1)) k s (at + 1))) → x ≡ ending (conditionAt l s at)
+      pub unary-high : 12 < getD s at 0 → getD s at 0 ≤ 13 → ((k : One) → x ≡ ending (unary v (conditionAt v (l - 1)) (termAt v (l - 1)) k s (at + 1))) → x ≡ ending (conditionAt v l s at)
       unfolding choose conditionKinds
       unary-high a b e = via (condition-kind z 13 (omega arith)) (e refine)
 
-      pub opaque-read : 10 < getD s at 0 → getD s at 0 ≤ 12 → x ≡ ending (span s (at + 1)) → x ≡ ending (conditionAt l s at)
+      pub opaque-read : 10 < getD s at 0 → getD s at 0 ≤ 12 → x ≡ ending (span s (at + 1)) → x ≡ ending (conditionAt v l s at)
       unfolding choose conditionKinds Each
-      opaque-read a b e = via (condition-kind z _ refl) (each-in (λ j. x ≡ ending (choose j (conditionKinds (conditionAt (l - 1)) (termAt (l - 1))) s (at + 1))) 11 2 ((tt, e ∙ last _ _), e ∙ last _ _) (getD s at 0) a (omega arith))
+      opaque-read a b e = via (condition-kind z _ refl) (each-in (λ j. x ≡ ending (choose j (conditionKinds v (conditionAt v (l - 1)) (termAt v (l - 1))) s (at + 1))) 11 2 ((tt, e ∙ last _ _), e ∙ last _ _) (getD s at 0) a (omega arith))
 
-      pub binary-since : getD s at 0 ≡ 6 → ((k : Two) → x ≡ ending (binary (conditionAt (l - 1)) (termAt (l - 1)) k s (at + 1))) → x ≡ ending (conditionAt l s at)
+      pub binary-since : getD s at 0 ≡ 6 → ((k : Two) → x ≡ ending (binary v (conditionAt v (l - 1)) (termAt v (l - 1)) k s (at + 1))) → x ≡ ending (conditionAt v l s at)
       unfolding choose conditionKinds
       binary-since k e = via (condition-kind z 6 k) (e since)
 
-      pub predicate-kind : getD s at 0 ≡ 7 → x ≡ ending (predicateOf (conditionAt (l - 1)) (termAt (l - 1)) s (at + 1)) → x ≡ ending (conditionAt l s at)
+      pub predicate-kind : getD s at 0 ≡ 7 → x ≡ ending (predicateOf v (conditionAt v (l - 1)) (termAt v (l - 1)) s (at + 1)) → x ≡ ending (conditionAt v l s at)
       unfolding choose conditionKinds
       predicate-kind k e = via (condition-kind z 7 k) e
 
-      pub comparison-kind : getD s at 0 ≡ 8 → x ≡ ending (comparisonOf (conditionAt (l - 1)) (termAt (l - 1)) s (at + 1)) → x ≡ ending (conditionAt l s at)
+      pub comparison-kind : getD s at 0 ≡ 8 → x ≡ ending (comparisonOf v (conditionAt v (l - 1)) (termAt v (l - 1)) s (at + 1)) → x ≡ ending (conditionAt v l s at)
       unfolding choose conditionKinds
       comparison-kind k e = via (condition-kind z 8 k) e
 
-      pub exists-kind : getD s at 0 ≡ 9 → x ≡ ending (existsOf (conditionAt (l - 1)) (termAt (l - 1)) s (at + 1)) → x ≡ ending (conditionAt l s at)
+      pub exists-kind : getD s at 0 ≡ 9 → x ≡ ending (existsOf v (conditionAt v (l - 1)) (termAt v (l - 1)) s (at + 1)) → x ≡ ending (conditionAt v l s at)
       unfolding choose conditionKinds
       exists-kind k e = via (condition-kind z 9 k) e
 
-      pub timepoint-kind : 5 < getD s at 0 → getD s at 0 ≤ 10 → (getD s at 0 ≡ 6 → ⊥) → (getD s at 0 ≡ 7 → ⊥) → (getD s at 0 ≡ 8 → ⊥) → (getD s at 0 ≡ 9 → ⊥) → x ≡ ending (timepointOf s (at + 1)) → x ≡ ending (conditionAt l s at)
+      pub timepoint-kind : 5 < getD s at 0 → getD s at 0 ≤ 10 → (getD s at 0 ≡ 6 → ⊥) → (getD s at 0 ≡ 7 → ⊥) → (getD s at 0 ≡ 8 → ⊥) → (getD s at 0 ≡ 9 → ⊥) → x ≡ ending (timepointOf s (at + 1)) → x ≡ ending (conditionAt v l s at)
       unfolding choose conditionKinds
       timepoint-kind a b i j k m e = via (condition-kind z 10 (omega arith)) e
 
 -- Each exit of `read_term`.
-module _ (s : List ℕ) (at l : ℕ) (b : Bool) where
-  pub term-end : length s ≤ at → Refused 2 ≡ ending (termAt l b s at)
+module _ (v : ℕ) (s : List ℕ) (at l : ℕ) (b : Bool) where
+  pub term-end : length s ≤ at → Refused 2 ≡ ending (termAt v l b s at)
   unfolding termAt ending
   term-end h = go l
     where
-      go : (l : ℕ) → Refused 2 ≡ ending (termAt l b s at)
+      go : (l : ℕ) → Refused 2 ≡ ending (termAt v l b s at)
       go zero = rw (deep-end {A = Term} s at 14 h)
       go (suc l) = rw (u8-end s at h)
 
   module _ (h : at < length s) where
-    term-kind : (l ≡ 0 → ⊥) → (k : ℕ) → getD s at 0 ≡ k → termAt l b s at ≡ choose k (termKinds (conditionAt (l - 1)) (termAt (l - 1)) b) s (at + 1)
+    term-kind : (l ≡ 0 → ⊥) → (k : ℕ) → getD s at 0 ≡ k → termAt v l b s at ≡ choose k (termKinds v (conditionAt v (l - 1)) (termAt v (l - 1)) b) s (at + 1)
     unfolding termAt
     term-kind z k e = go l z
       where
-        go : (l : ℕ) → (l ≡ 0 → ⊥) → termAt l b s at ≡ choose k (termKinds (conditionAt (l - 1)) (termAt (l - 1)) b) s (at + 1)
+        go : (l : ℕ) → (l ≡ 0 → ⊥) → termAt v l b s at ≡ choose k (termKinds v (conditionAt v (l - 1)) (termAt v (l - 1)) b) s (at + 1)
         go zero z = absurd (z refl)
         go (suc l) z = rw sub-one (choice s at _ h k e)
 
-    pub term-zero : getD s at 0 ≡ 0 → Refused 5 ≡ ending (termAt l b s at)
+    pub term-zero : getD s at 0 ≡ 0 → Refused 5 ≡ ending (termAt v l b s at)
     unfolding termAt ending choose termKinds
     term-zero k = go l
       where
-        go : (l : ℕ) → Refused 5 ≡ ending (termAt l b s at)
+        go : (l : ℕ) → Refused 5 ≡ ending (termAt v l b s at)
         go zero = rw (deep-zero {A = Term} s at 14 h k)
-        go (suc l) = via (choice s at (termKinds (conditionAt l) (termAt l) b) h 0 k) refl
+        go (suc l) = via (choice s at (termKinds v (conditionAt v l) (termAt v l) b) h 0 k) refl
 
     module _ (y : getD s at 0 ≡ 0 → ⊥) where
-      pub term-above : 14 < getD s at 0 → Refused 5 ≡ ending (termAt l b s at)
+      pub term-above : 14 < getD s at 0 → Refused 5 ≡ ending (termAt v l b s at)
       unfolding termAt ending keysUpTo termKinds
       term-above k = go l
         where
-          go : (l : ℕ) → Refused 5 ≡ ending (termAt l b s at)
+          go : (l : ℕ) → Refused 5 ≡ ending (termAt v l b s at)
           go zero = rw (deep-above {A = Term} s at 14 h y k)
-          go (suc l) = via (choice s at _ h _ refl) (rw (choose-beyond s (at + 1) 14 (getD s at 0) k (termKinds (conditionAt l) (termAt l) b) refl))
+          go (suc l) = via (choice s at _ h _ refl) (rw (choose-beyond s (at + 1) 14 (getD s at 0) k (termKinds v (conditionAt v l) (termAt v l) b) refl))
 
-      pub term-deep : getD s at 0 ≤ 14 → l ≡ 0 → Refused 7 ≡ ending (termAt l b s at)
+      pub term-deep : getD s at 0 ≤ 14 → l ≡ 0 → Refused 7 ≡ ending (termAt v l b s at)
       unfolding termAt ending
       term-deep k z = rw (z, deep-defined {A = Term} s at 14 h y k)
 
-      pub literal-read : (l ≡ 0 → ⊥) → (getD s at 0 ≡ 1 → ⊥) → getD s at 0 ≤ 5 → Next (at + 1) ≡ ending (termAt l b s at)
+      pub literal-read : (l ≡ 0 → ⊥) → (getD s at 0 ≡ 1 → ⊥) → getD s at 0 ≤ 5 → Next (at + 1) ≡ ending (termAt v l b s at)
       unfolding choose termKinds ending Each
-      literal-read z i k = via (term-kind z _ refl) (each-in (λ j. Next (at + 1) ≡ ending (choose j (termKinds (conditionAt (l - 1)) (termAt (l - 1)) b) s (at + 1))) 2 4 ((((tt, refl), refl), refl), refl) (getD s at 0) (omega arith) (omega arith))
+      literal-read z i k = via (term-kind z _ refl) (each-in (λ j. Next (at + 1) ≡ ending (choose j (termKinds v (conditionAt v (l - 1)) (termAt v (l - 1)) b) s (at + 1))) 2 4 ((((tt, refl), refl), refl), refl) (getD s at 0) (omega arith) (omega arith))
 
     module _ (z : l ≡ 0 → ⊥) where
-      pub sigil-read : 12 < getD s at 0 → getD s at 0 ≤ 14 → Next (at + 1) ≡ ending (termAt l b s at)
+      pub sigil-read : 12 < getD s at 0 → getD s at 0 ≤ 14 → Next (at + 1) ≡ ending (termAt v l b s at)
       unfolding choose termKinds ending Each
-      sigil-read i k = via (term-kind z _ refl) (each-in (λ j. Next (at + 1) ≡ ending (choose j (termKinds (conditionAt (l - 1)) (termAt (l - 1)) b) s (at + 1))) 13 2 ((tt, refl), refl) (getD s at 0) i (omega arith))
+      sigil-read i k = via (term-kind z _ refl) (each-in (λ j. Next (at + 1) ≡ ending (choose j (termKinds v (conditionAt v (l - 1)) (termAt v (l - 1)) b) s (at + 1))) 13 2 ((tt, refl), refl) (getD s at 0) i (omega arith))
 
-      pub wildcard-read : getD s at 0 ≡ 9 → Next (at + 1) ≡ ending (termAt l b s at)
+      pub wildcard-read : getD s at 0 ≡ 9 → Next (at + 1) ≡ ending (termAt v l b s at)
       unfolding choose termKinds ending
       wildcard-read k = via (term-kind z 9 k) refl
 
-      pub aggregate-refused : getD s at 0 ≡ 11 → b ≡ true → Refused 9 ≡ ending (termAt l b s at)
+      pub aggregate-refused : getD s at 0 ≡ 11 → b ≡ true → Refused 9 ≡ ending (termAt v l b s at)
       unfolding choose termKinds ending
       aggregate-refused k e = via (term-kind z 11 k) (rw e)
 
       module _ (x : Read) where
-        pub entity-read : getD s at 0 ≡ 1 → x ≡ ending (stringOf (classOf PathName) s (at + 1)) → x ≡ ending (termAt l b s at)
+        pub entity-read : getD s at 0 ≡ 1 → x ≡ ending (stringOf (classOf PathName) s (at + 1)) → x ≡ ending (termAt v l b s at)
         unfolding choose termKinds
         entity-read k e = via (term-kind z 1 k) (e ∙ last _ _)
 
-        pub path-read : 5 < getD s at 0 → getD s at 0 ≤ 7 → x ≡ ending (pathOf s (at + 1)) → x ≡ ending (termAt l b s at)
+        pub path-read : 5 < getD s at 0 → getD s at 0 ≤ 7 → x ≡ ending (pathOf s (at + 1)) → x ≡ ending (termAt v l b s at)
         unfolding choose termKinds Each
-        path-read i k e = via (term-kind z _ refl) (each-in (λ j. x ≡ ending (choose j (termKinds (conditionAt (l - 1)) (termAt (l - 1)) b) s (at + 1))) 6 2 ((tt, e ∙ last _ _), e ∙ last _ _) (getD s at 0) i (omega arith))
+        path-read i k e = via (term-kind z _ refl) (each-in (λ j. x ≡ ending (choose j (termKinds v (conditionAt v (l - 1)) (termAt v (l - 1)) b) s (at + 1))) 6 2 ((tt, e ∙ last _ _), e ∙ last _ _) (getD s at 0) i (omega arith))
 
-        pub var-read : getD s at 0 ≡ 8 → x ≡ ending (stringOf (classOf Plain) s (at + 1)) → x ≡ ending (termAt l b s at)
+        pub var-read : getD s at 0 ≡ 8 → x ≡ ending (stringOf (classOf Plain) s (at + 1)) → x ≡ ending (termAt v l b s at)
         unfolding choose termKinds
         var-read k e = via (term-kind z 8 k) (e ∙ last _ _)
 
-        pub array-read : getD s at 0 ≡ 10 → x ≡ ending (elementList (conditionAt (l - 1)) (termAt (l - 1)) s (at + 1)) → x ≡ ending (termAt l b s at)
+        pub array-read : getD s at 0 ≡ 10 → x ≡ ending (elementList v (conditionAt v (l - 1)) (termAt v (l - 1)) s (at + 1)) → x ≡ ending (termAt v l b s at)
         unfolding choose termKinds
         array-read k e = via (term-kind z 10 k) (e ∙ last _ _)
 
-        pub aggregate-read : getD s at 0 ≡ 11 → b ≡ false → x ≡ ending (aggregateOf (conditionAt (l - 1)) (termAt (l - 1)) s (at + 1)) → x ≡ ending (termAt l b s at)
+        pub aggregate-read : getD s at 0 ≡ 11 → b ≡ false → x ≡ ending (aggregateOf v (conditionAt v (l - 1)) (termAt v (l - 1)) s (at + 1)) → x ≡ ending (termAt v l b s at)
         unfolding choose termKinds
         aggregate-read k i e = via (term-kind z 11 k) (rw i (e ∙ last _ _))
 
-        pub arith-kind : 7 < getD s at 0 → getD s at 0 ≤ 12 → (getD s at 0 ≡ 8 → ⊥) → (getD s at 0 ≡ 9 → ⊥) → (getD s at 0 ≡ 10 → ⊥) → (getD s at 0 ≡ 11 → ⊥) → x ≡ ending (arithOf (conditionAt (l - 1)) (termAt (l - 1)) b s (at + 1)) → x ≡ ending (termAt l b s at)
+        pub arith-kind : 7 < getD s at 0 → getD s at 0 ≤ 12 → (getD s at 0 ≡ 8 → ⊥) → (getD s at 0 ≡ 9 → ⊥) → (getD s at 0 ≡ 10 → ⊥) → (getD s at 0 ≡ 11 → ⊥) → x ≡ ending (arithOf v (conditionAt v (l - 1)) (termAt v (l - 1)) b s (at + 1)) → x ≡ ending (termAt v l b s at)
         unfolding choose termKinds
         arith-kind i j k m n o e = via (term-kind z 12 (omega arith)) e
 
 -- Each exit of `read_aggregate`.
-module _ (c : Reader Condition) (t : Bool → Reader Term) (s : List ℕ) (at : ℕ) where
-  pub aggregate-end : length s ≤ at → Refused 2 ≡ ending (aggregateOf c t s at)
+module _ (v : ℕ) (c : Reader Condition) (t : Bool → Reader Term) (s : List ℕ) (at : ℕ) where
+  pub aggregate-end : length s ≤ at → Refused 2 ≡ ending (aggregateOf v c t s at)
   unfolding aggregateOf ending
   aggregate-end h = rw (u8-end s at h)
 
   module _ (h : at < length s) where
-    aggregate-kind : (k : ℕ) → getD s at 0 ≡ k → aggregateOf c t s at ≡ choose k (aggregateKinds c t) s (at + 1)
+    aggregate-kind : (k : ℕ) → getD s at 0 ≡ k → aggregateOf v c t s at ≡ choose k (aggregateKinds v c t) s (at + 1)
     unfolding aggregateOf
-    aggregate-kind = choice s at (aggregateKinds c t) h
+    aggregate-kind = choice s at (aggregateKinds v c t) h
 
     module _ (x : Read) where
-      pub sum-kind : getD s at 0 ≡ 1 → x ≡ ending (sumOf c t s (at + 1)) → x ≡ ending (aggregateOf c t s at)
+      pub sum-kind : getD s at 0 ≡ 1 → x ≡ ending (sumOf v c t s (at + 1)) → x ≡ ending (aggregateOf v c t s at)
       unfolding choose aggregateKinds
       sum-kind k e = via (aggregate-kind 1 k) e
 
-      pub count-kind : getD s at 0 ≡ 2 → x ≡ ending (countOf c t s (at + 1)) → x ≡ ending (aggregateOf c t s at)
+      pub count-kind : getD s at 0 ≡ 2 → x ≡ ending (countOf v c t s (at + 1)) → x ≡ ending (aggregateOf v c t s at)
       unfolding choose aggregateKinds
       count-kind k e = via (aggregate-kind 2 k) e
 
-      pub call-kind : getD s at 0 ≡ 3 → x ≡ ending (span s (at + 1)) → x ≡ ending (aggregateOf c t s at)
+      pub call-kind : getD s at 0 ≡ 3 → x ≡ ending (span s (at + 1)) → x ≡ ending (aggregateOf v c t s at)
       unfolding choose aggregateKinds
       call-kind k e = via (aggregate-kind 3 k) (e ∙ last _ _)
 
-    pub aggregate-undefined : (getD s at 0 ≡ 1 → ⊥) → (getD s at 0 ≡ 2 → ⊥) → (getD s at 0 ≡ 3 → ⊥) → Refused 5 ≡ ending (aggregateOf c t s at)
+    pub aggregate-undefined : (getD s at 0 ≡ 1 → ⊥) → (getD s at 0 ≡ 2 → ⊥) → (getD s at 0 ≡ 3 → ⊥) → Refused 5 ≡ ending (aggregateOf v c t s at)
     unfolding choose aggregateKinds ending
     aggregate-undefined i j k = via (aggregate-kind _ refl) (rw (ne-eqb (getD s at 0) 1 i, ne-eqb (getD s at 0) 2 j, ne-eqb (getD s at 0) 3 k))
 

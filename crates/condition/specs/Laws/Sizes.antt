@@ -16,7 +16,7 @@ use Rattle.names.specs.Laws.Readers.{split, u8-view, bytes-view, got-value, got
 use Rattle.condition.specs.Condition.{Condition, Term, Aggregate, Binder, Slot, Annotation, named, paramRef, binderRef, Span, Operator, One, Two, one, two, predicate, comparison, exists, tp, opaque, aggregate, call, span, slotKinds, slot, annotation, binder, operators, operator, timepointOf, arguments, argumentList, elements, elementList, unary, binary, predicateOf, comparisonOf, existsOf, conditionKinds, sumOf, countOf, aggregateKinds, aggregateOf, arithOf, termKinds, tooDeep, conditionAt, termAt}
 use Rattle.condition.specs.Condition as tree
 use Rattle.condition.specs.Walk.{declaredBy, operandAggregates, operandBinders, reached, reachedIn, reachedBody, declares, binders, hasName, namedOnes}
-use Rattle.condition.specs.Places.{isRecord, recordIn}
+use Rattle.condition.specs.Places.{isRecord, recordIn, versionIn}
 use Rattle.condition.specs.Laws.Tables.{_also_}
 use Rattle.condition.specs.Laws.Records.{record-read}
 
@@ -225,43 +225,43 @@ light c e h = rw e (first-node c [] ∙ rw h)
 
 -- ---- what nested conditions and terms take, if those in them take as much
 
-module _ (f : Reader Condition) (t : Bool → Reader Term) (p : Owes 0 weight f) (q : (b : Bool) → Owes 0 (λ x. termWeight x + 1) (t b)) where
-  forward-arguments : (n : ℕ) → Forward (arguments f t n)
+module _ (v : ℕ) (f : Reader Condition) (t : Bool → Reader Term) (p : Owes 0 weight f) (q : (b : Bool) → Owes 0 (λ x. termWeight x + 1) (t b)) where
+  forward-arguments : (n : ℕ) → Forward (arguments v f t n)
   unfolding arguments
   forward-arguments zero = stay _ (omega arith)
   forward-arguments (suc n) = on (forward-string _) λ _. on forward-path λ _. on (q false) λ _. on (forward-arguments n) λ _. stay _ (omega arith)
 
-  forward-elements : (n : ℕ) → Forward (elements f t n)
+  forward-elements : (n : ℕ) → Forward (elements v f t n)
   unfolding elements
   forward-elements zero = stay _ (omega arith)
   forward-elements (suc n) = on (q true) λ _. on (forward-elements n) λ _. stay _ (omega arith)
 
-  forward-argument-list : Forward (argumentList f t)
+  forward-argument-list : Forward (argumentList v f t)
   unfolding argumentList
   forward-argument-list = on forward-u8 λ n. forward-arguments n
 
-  forward-element-list : Forward (elementList f t)
+  forward-element-list : Forward (elementList v f t)
   unfolding elementList
   forward-element-list = on forward-u8 λ n. forward-elements n
 
   -- each kind of condition behind its kind byte
-  unary-owes : (k : One) → Owes 1 weight (unary f t k)
+  unary-owes : (k : One) → Owes 1 weight (unary v f t k)
   unfolding unary
   unary-owes k = on eight-span λ at. on p λ c. stay _ (omega (arith, one-weight k at c))
 
-  binary-owes : (k : Two) → Owes 1 weight (binary f t k)
+  binary-owes : (k : Two) → Owes 1 weight (binary v f t k)
   unfolding binary
   binary-owes k = on eight-span λ at. on p λ l. on p λ r. stay _ (omega (arith, two-weight k at l r))
 
-  predicate-owes : Owes 1 weight (predicateOf f t)
+  predicate-owes : Owes 1 weight (predicateOf v f t)
   unfolding predicateOf reached declares
   predicate-owes = on eight-span λ at. on eight-span λ own. on (forward-counted _ (forward-string _)) λ ns. on (forward-string _) λ act. on forward-argument-list λ args. stay _ (omega (arith, light (predicate at own ns act args) refl refl))
 
-  comparison-owes : Owes 1 weight (comparisonOf f t)
+  comparison-owes : Owes 1 weight (comparisonOf v f t)
   unfolding comparisonOf
   comparison-owes = on eight-span λ at. on forward-operator λ op. on (q false) λ l. on (q false) λ r. stay _ (omega (arith, comparison-weight at op l r))
 
-  exists-owes : Owes 1 weight (existsOf f t)
+  exists-owes : Owes 1 weight (existsOf v f t)
   unfolding existsOf
   exists-owes = on eight-span λ at. on binder-owes λ b. on p λ c. stay _ (omega (arith, exists-weight at b c))
 
@@ -273,10 +273,10 @@ module _ (f : Reader Condition) (t : Bool → Reader Term) (p : Owes 0 weight f)
   unfolding reached declares
   opaque-owes = made opaque eight-span λ at. omega (arith, light (opaque at) refl refl)
 
-  conditions-owe : (k : ℕ) → Owes 1 weight (choose k (conditionKinds f t))
+  conditions-owe : (k : ℕ) → Owes 1 weight (choose k (conditionKinds v f t))
   unfolding conditionKinds AllOwe
   conditions-owe k =
-      chosen k (conditionKinds f t)
+      chosen k (conditionKinds v f t)
       (binary-owes _
       also binary-owes _
       also unary-owes _
@@ -292,11 +292,11 @@ module _ (f : Reader Condition) (t : Bool → Reader Term) (p : Owes 0 weight f)
       also unary-owes _
       also tt)
 
-  sum-owes : Owes 0 aggregateWeight (sumOf f t)
+  sum-owes : Owes 0 aggregateWeight (sumOf v f t)
   unfolding sumOf aggregateWeight declaredBy reachedBody weight
   sum-owes = on eight-span λ _. on forward-slot λ _. on binders-owe λ bs. on p λ c. stay _ (omega arith)
 
-  count-owes : Owes 0 aggregateWeight (countOf f t)
+  count-owes : Owes 0 aggregateWeight (countOf v f t)
   unfolding countOf aggregateWeight declaredBy reachedBody weight
   count-owes = on eight-span λ _. on binders-owe λ bs. on p λ c. stay _ (omega arith)
 
@@ -304,19 +304,19 @@ module _ (f : Reader Condition) (t : Bool → Reader Term) (p : Owes 0 weight f)
   unfolding aggregateWeight declaredBy reachedBody bindersWeight nodesWeight namedOnes select gather
   call-owes = made call eight-span λ _. omega arith
 
-  aggregate-owes : Owes 0 aggregateWeight (aggregateOf f t)
+  aggregate-owes : Owes 0 aggregateWeight (aggregateOf v f t)
   unfolding aggregateOf aggregateKinds AllOwe
-  aggregate-owes = on forward-u8 λ k. chosen k (aggregateKinds f t) (sum-owes, (count-owes, (call-owes, tt)))
+  aggregate-owes = on forward-u8 λ k. chosen k (aggregateKinds v f t) (sum-owes, (count-owes, (call-owes, tt)))
 
   -- each kind of term behind its kind byte
-  arith-owes : (b : Bool) → Owes 1 (λ x. termWeight x + 1) (arithOf f t b)
+  arith-owes : (b : Bool) → Owes 1 (λ x. termWeight x + 1) (arithOf v f t b)
   unfolding arithOf
   arith-owes b = on (q b) λ l. on (q b) λ r. stay _ (omega (arith, arith-weight l r))
 
-  terms-owe : (b : Bool) (k : ℕ) → Owes 1 (λ x. termWeight x + 1) (choose k (termKinds f t b))
+  terms-owe : (b : Bool) (k : ℕ) → Owes 1 (λ x. termWeight x + 1) (choose k (termKinds v f t b))
   unfolding termKinds AllOwe termWeight operandBinders operandAggregates reachedIn bindersWeight nodesWeight namedOnes select gather
   terms-owe b k =
-      chosen k (termKinds f t b)
+      chosen k (termKinds v f t b)
       (made _ (forward-string _) (λ _. omega arith)
       also stay _ (omega arith)
       also stay _ (omega arith)
@@ -337,44 +337,44 @@ deep-owes : {A : Type 0} {size : A → ℕ} (last : ℕ) → Owes 0 size (tooDee
 unfolding tooDeep
 deep-owes last = on one-u8 λ k. either-way (leb 1 k && leb k last) (never 7) (never 5)
 
-record AtLevel (l : ℕ) : Type 0 where
-  conditions : Owes 0 weight (conditionAt l)
-  terms : (b : Bool) → Owes 0 (λ x. termWeight x + 1) (termAt l b)
+record AtLevel (v l : ℕ) : Type 0 where
+  conditions : Owes 0 weight (conditionAt v l)
+  terms : (b : Bool) → Owes 0 (λ x. termWeight x + 1) (termAt v l b)
 
-at-level : (l : ℕ) → AtLevel l
+at-level : (v l : ℕ) → AtLevel v l
 unfolding conditionAt termAt
-at-level zero = record { conditions = deep-owes 13; terms = λ b. deep-owes 14 }
-at-level (suc l) =
-    let w = at-level l in
+at-level v zero = record { conditions = deep-owes 13; terms = λ b. deep-owes 14 }
+at-level v (suc l) =
+    let w = at-level v l in
     record {
-      conditions = on one-u8 λ k. conditions-owe (conditionAt l) (termAt l) (w .conditions) (w .terms) k;
-      terms = λ b. on one-u8 λ k. terms-owe (conditionAt l) (termAt l) (w .conditions) (w .terms) b k;
+      conditions = on one-u8 λ k. conditions-owe v (conditionAt v l) (termAt v l) (w .conditions) (w .terms) k;
+      terms = λ b. on one-u8 λ k. terms-owe v (conditionAt v l) (termAt v l) (w .conditions) (w .terms) b k;
     }
 
 -- ---- the statements
 
-module _ (l : ℕ) (s : List ℕ) (at : ℕ) where
+module _ (v l : ℕ) (s : List ℕ) (at : ℕ) where
   -- a condition: nine bytes for each that its walk reaches, three for each named binder
-  pub condition-bytes : {c : Condition} {n : ℕ} → conditionAt l s at ≡ got c n → 9 * length (reached c) + 3 * length (namedOnes (binders c)) + at ≤ n
+  pub condition-bytes : {c : Condition} {n : ℕ} → conditionAt v l s at ≡ got c n → 9 * length (reached c) + 3 * length (namedOnes (binders c)) + at ≤ n
   unfolding weight nodesWeight bindersWeight binders
-  condition-bytes e = omega (arith, at-level l .conditions .on s at e)
+  condition-bytes e = omega (arith, at-level v l .conditions .on s at e)
 
   -- a term: the same for its aggregates' bodies and binders, and its kind byte
-  pub term-bytes : (b : Bool) {x : Term} {n : ℕ} → termAt l b s at ≡ got x n → 9 * length (reachedIn x) + 3 * length (namedOnes (operandBinders x)) + 3 * length (namedOnes (gather declares (reachedIn x))) + 1 + at ≤ n
+  pub term-bytes : (b : Bool) {x : Term} {n : ℕ} → termAt v l b s at ≡ got x n → 9 * length (reachedIn x) + 3 * length (namedOnes (operandBinders x)) + 3 * length (namedOnes (gather declares (reachedIn x))) + 1 + at ≤ n
   unfolding termWeight nodesWeight bindersWeight
-  term-bytes b e = omega (arith, at-level l .terms b .on s at e)
+  term-bytes b e = omega (arith, at-level v l .terms b .on s at e)
 
 -- a whole record, behind its mark and version
 module _ (s : List ℕ) (acc : isRecord s ≡ true) where
   pub record-bytes : 9 * length (reached (recordIn s)) + 3 * length (namedOnes (binders (recordIn s))) + 5 ≤ length s
-  record-bytes = omega (arith, condition-bytes levels s 5 (record-read s acc))
+  record-bytes = omega (arith, condition-bytes (versionIn s) levels s 5 (record-read s acc))
 
   pub record-nodes : 9 * length (reached (recordIn s)) + 5 ≤ length s
   record-nodes = omega (arith, record-bytes)
 
-pub nine-condition : (l : ℕ) → Takes 9 (conditionAt l)
+pub nine-condition : (v l : ℕ) → Takes 9 (conditionAt v l)
 unfolding weight nodesWeight reached
-nine-condition l = record { on = λ s at {a = c} e. omega (arith, at-level l .conditions .on s at e, some-reached c) }
+nine-condition v l = record { on = λ s at {a = c} e. omega (arith, at-level v l .conditions .on s at e, some-reached c) }
   where
     some-reached : (c : Condition) → 1 ≤ length (reached c)
     some-reached (one k at c) = omega arith
@@ -385,12 +385,12 @@ nine-condition l = record { on = λ s at {a = c} e. omega (arith, at-level l .co
     some-reached (tp at x) = omega arith
     some-reached (opaque at) = omega arith
 
-pub forward-condition : (l : ℕ) → Forward (conditionAt l)
-forward-condition l = weaker (nine-condition l)
+pub forward-condition : (v l : ℕ) → Forward (conditionAt v l)
+forward-condition v l = weaker (nine-condition v l)
 
 -- and a term one
-pub one-term : (l : ℕ) (b : Bool) → Takes 1 (termAt l b)
-one-term l b = record { on = λ s at e. omega (arith, at-level l .terms b .on s at e) }
+pub one-term : (v l : ℕ) (b : Bool) → Takes 1 (termAt v l b)
+one-term v l b = record { on = λ s at e. omega (arith, at-level v l .terms b .on s at e) }
 
-pub forward-term : (l : ℕ) (b : Bool) → Forward (termAt l b)
-forward-term l b = weaker (one-term l b)
+pub forward-term : (v l : ℕ) (b : Bool) → Forward (termAt v l b)
+forward-term v l b = weaker (one-term v l b)

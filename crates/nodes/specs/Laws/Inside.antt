@@ -14,7 +14,7 @@ use Rattle.names.specs.Laws.Readers.{is-accepted, has-value}
 use Rattle.condition.specs.Condition.{Condition, aggregate}
 use Rattle.condition.specs.Condition as tree
 use Rattle.condition.specs.Walk.{reached, reachedIn, declares}
-use Rattle.condition.specs.Places.{isCondition, conditionIn, isTerm, termIn, isAggregate, aggregateIn, binderIn}
+use Rattle.condition.specs.Places.{versionIn, isCondition, conditionIn, isTerm, termIn, isAggregate, aggregateIn, binderIn}
 use Rattle.nodes.specs.Kinds.{kindOf, oneKind, twoKind, termKindOf}
 use Rattle.nodes.specs.Offsets.{firstPart, termPart, aggregatePart}
 use Rattle.nodes.specs.Open.{TermOpened, OneHere, TwoHere, ComparedHere, QuantifiedHere, AddedHere, AggregateHere}
@@ -127,7 +127,7 @@ module _ (s : List ℕ) (at : ℕ) where
     pub aggregate-inside : (k : ℕ) → TermOpened s at k → k ≡ 11 → AggregateHere s at p
     unfolding termPart aggregateIn
     aggregate-inside k o is =
-        let v = aggregate-view s at (term-stands s at acc .read) (raw-term s at acc 11 (λ i. omega arith) (sym (o .kind) ∙ is)) in
+        let v = aggregate-view (versionIn s) s at (term-stands s at acc .read) (raw-term s at acc 11 (λ i. omega arith) (sym (o .kind) ∙ is)) in
         rw e (record {
           stands = is-accepted (v .reads);
           ahead = omega arith;

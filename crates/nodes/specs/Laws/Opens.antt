@@ -14,7 +14,7 @@ use Rattle.names.specs.Fields.{Got, got, bad, Reader, levels, each, counted}
 use Rattle.names.specs.Read.{ending, accepted, valueOr}
 use Rattle.names.specs.Laws.Readers.{arrives, has-value}
 use Rattle.condition.specs.Condition.{Condition, Term, Aggregate, sum, count, call, slot, binder, conditionAt, termAt}
-use Rattle.condition.specs.Places.{isCondition, conditionIn, isTerm, termIn, aggregateAt, isAggregate, aggregateIn, isSlot, isBinder}
+use Rattle.condition.specs.Places.{versionIn, conditionHere, termHere, isCondition, conditionIn, isTerm, termIn, aggregateAt, isAggregate, aggregateIn, isSlot, isBinder}
 use Rattle.nodes.specs.Kinds.{kindOf, oneKind, twoKind, termKindOf, aggregateKindOf}
 use Rattle.nodes.specs.Open.{placeOf, Skipped, Opened, TermOpened, AggregateOpened}
 use Rattle.condition.specs.Laws.Sizes.{Forward, nine-condition, forward-slot, forward-binder, forward-counted, forward-condition, forward-term}
@@ -52,11 +52,11 @@ module _ (s : List ℕ) (at : ℕ) (x : Read) (n : ℕ) where
   pub skipped-binders : accepted (counted (each binder) s at) ≡ true → x ≡ ending (counted (each binder) s at) → n ≡ placeOf at x → Skipped (counted (each binder) s at) at n
   skipped-binders = skipped (forward-counted binder forward-binder) s at x n
 
-  pub skipped-condition : isCondition s at ≡ true → x ≡ ending (conditionAt levels s at) → n ≡ placeOf at x → Skipped (conditionAt levels s at) at n
-  skipped-condition = skipped (forward-condition levels) s at x n
+  pub skipped-condition : isCondition s at ≡ true → (v : ℕ) → v ≡ versionIn s → x ≡ ending (conditionAt v levels s at) → n ≡ placeOf at x → Skipped (conditionHere s at) at n
+  skipped-condition acc v i e = skipped (forward-condition (versionIn s) levels) s at x n acc (rw i at e)
 
-  pub skipped-term : isTerm s at ≡ true → x ≡ ending (termAt levels false s at) → n ≡ placeOf at x → Skipped (termAt levels false s at) at n
-  skipped-term = skipped (forward-term levels false) s at x n
+  pub skipped-term : isTerm s at ≡ true → (v : ℕ) → v ≡ versionIn s → x ≡ ending (termAt v levels false s at) → n ≡ placeOf at x → Skipped (termHere s at) at n
+  skipped-term acc v i e = skipped (forward-term (versionIn s) levels false) s at x n acc (rw i at e)
 
 pub ruleset passing = (needs, skipped-slot, skipped-binder, skipped-binders, skipped-condition, skipped-term)
 
@@ -66,17 +66,17 @@ ends-at e h = arrives e (sym h) refl
 
 -- what is read at a place of another name
 module _ (s : List ℕ) {p m n : ℕ} (i : p ≡ m) where
-  pub condition-there : {x : Condition} → conditionAt levels s m ≡ got x n → conditionAt levels s p ≡ got x n
+  pub condition-there : {x : Condition} → conditionHere s m ≡ got x n → conditionHere s p ≡ got x n
   condition-there e = rw i e
 
-  pub condition-value : {x : Condition} → conditionAt levels s m ≡ got x n → conditionIn s p ≡ x
+  pub condition-value : {x : Condition} → conditionHere s m ≡ got x n → conditionIn s p ≡ x
   unfolding conditionIn
   condition-value e = rw i (has-value _ e)
 
-  pub term-there : {x : Term} → termAt levels false s m ≡ got x n → termAt levels false s p ≡ got x n
+  pub term-there : {x : Term} → termHere s m ≡ got x n → termHere s p ≡ got x n
   term-there e = rw i e
 
-  pub term-value : {x : Term} → termAt levels false s m ≡ got x n → termIn s p ≡ x
+  pub term-value : {x : Term} → termHere s m ≡ got x n → termIn s p ≡ x
   unfolding termIn
   term-value e = rw i (has-value _ e)
 
@@ -119,23 +119,23 @@ raw b k other least e h = go (eqb b other) refl e
 
 -- A condition that stands at a position.
 module _ (s : List ℕ) (at : ℕ) (acc : isCondition s at ≡ true) where
-  pub condition-stands : Stands (conditionAt levels s at) (conditionIn s at)
+  pub condition-stands : Stands (conditionHere s at) (conditionIn s at)
   unfolding conditionIn
   condition-stands = stood _ _ acc
 
   condition-head : Head s at (conditionIn s at) (getD s at 0)
-  condition-head = head-view s at (condition-stands .read)
+  condition-head = head-view (versionIn s) s at (condition-stands .read)
 
   pub condition-index : at < length s
-  condition-index = inside s at (condition-stands .read)
+  condition-index = inside (versionIn s) s at (condition-stands .read)
 
   pub condition-room : at + 9 ≤ length s
   condition-room = let v = span-view s (at + 1) (condition-head .spans) in omega arith
 
   -- it takes nine bytes at least
-  pub condition-ahead : {m : ℕ} → Skipped (conditionAt levels s at) at m → at + 9 ≤ m
+  pub condition-ahead : {m : ℕ} → Skipped (conditionHere s at) at m → at + 9 ≤ m
   condition-ahead z =
-      let l = nine-condition levels .on s at (condition-stands .read) in
+      let l = nine-condition (versionIn s) levels .on s at (condition-stands .read) in
       let e = arrives (condition-stands .read) (sym (z .ends)) refl in
       omega arith
 
@@ -150,42 +150,42 @@ module _ (s : List ℕ) (at : ℕ) (acc : isCondition s at ≡ true) where
   raw-kind k h e = raw (getD s at 0) k 12 11 (condition-head .kind ∙ e) h
 
   module _ (k : ℕ) (o : k ≡ kindOf (conditionIn s at)) where
-    pub two-here : twoKind k ≡ true → TwoView s at (conditionIn s at) (condition-stands .end)
+    pub two-here : twoKind k ≡ true → TwoView (versionIn s) s at (conditionIn s at) (condition-stands .end)
     two-here h =
         let i = raw-kind k (λ e. false≢true (rw e at h)) (sym o) in
-        two-view s at (condition-stands .read) (rw i h)
+        two-view (versionIn s) s at (condition-stands .read) (rw i h)
 
-    pub one-here : oneKind k ≡ true → OneView s at (conditionIn s at) (condition-stands .end)
+    pub one-here : oneKind k ≡ true → OneView (versionIn s) s at (conditionIn s at) (condition-stands .end)
     one-here h =
         let i = raw-kind k (λ e. false≢true (rw e at h)) (sym o) in
-        one-view s at (condition-stands .read) (rw i h)
+        one-view (versionIn s) s at (condition-stands .read) (rw i h)
 
-  pub comparison-here : kindOf (conditionIn s at) ≡ 8 → ComparisonView s at (conditionIn s at) (condition-stands .end)
-  comparison-here e = comparison-view s at (condition-stands .read) (raw-kind 8 (λ i. omega arith) e)
+  pub comparison-here : kindOf (conditionIn s at) ≡ 8 → ComparisonView (versionIn s) s at (conditionIn s at) (condition-stands .end)
+  comparison-here e = comparison-view (versionIn s) s at (condition-stands .read) (raw-kind 8 (λ i. omega arith) e)
 
-  pub exists-here : kindOf (conditionIn s at) ≡ 9 → ExistsView s at (conditionIn s at) (condition-stands .end)
-  exists-here e = exists-view s at (condition-stands .read) (raw-kind 9 (λ i. omega arith) e)
+  pub exists-here : kindOf (conditionIn s at) ≡ 9 → ExistsView (versionIn s) s at (conditionIn s at) (condition-stands .end)
+  exists-here e = exists-view (versionIn s) s at (condition-stands .read) (raw-kind 9 (λ i. omega arith) e)
 
 -- A term that stands at a position.
 module _ (s : List ℕ) (at : ℕ) (acc : isTerm s at ≡ true) where
-  pub term-stands : Stands (termAt levels false s at) (termIn s at)
+  pub term-stands : Stands (termHere s at) (termIn s at)
   unfolding termIn
   term-stands = stood _ _ acc
 
   pub term-index : at < length s
-  term-index = term-inside s at (term-stands .read)
+  term-index = term-inside (versionIn s) s at (term-stands .read)
 
   pub term-sigil : getD s at 0 ≡ 14 → TermOpened s at 13
-  term-sigil e = record { inside = term-index; kind = rw e at (term-number s at (term-stands .read)) }
+  term-sigil e = record { inside = term-index; kind = rw e at (term-number (versionIn s) s at (term-stands .read)) }
 
   pub term-itself : (getD s at 0 ≡ 14 → ⊥) → TermOpened s at (getD s at 0)
-  term-itself h = record { inside = term-index; kind = rw (ne-eqb (getD s at 0) 14 h) at (term-number s at (term-stands .read)) }
+  term-itself h = record { inside = term-index; kind = rw (ne-eqb (getD s at 0) 14 h) at (term-number (versionIn s) s at (term-stands .read)) }
 
   pub raw-term : (k : ℕ) → (k ≡ 13 → ⊥) → termKindOf (termIn s at) ≡ k → getD s at 0 ≡ k
-  raw-term k h e = raw (getD s at 0) k 14 13 (term-number s at (term-stands .read) ∙ e) h
+  raw-term k h e = raw (getD s at 0) k 14 13 (term-number (versionIn s) s at (term-stands .read) ∙ e) h
 
-  pub arith-here : termKindOf (termIn s at) ≡ 12 → ArithView s at (termIn s at) (term-stands .end)
-  arith-here e = arith-view s at (term-stands .read) (raw-term 12 (λ i. omega arith) e)
+  pub arith-here : termKindOf (termIn s at) ≡ 12 → ArithView (versionIn s) s at (termIn s at) (term-stands .end)
+  arith-here e = arith-view (versionIn s) s at (term-stands .read) (raw-term 12 (λ i. omega arith) e)
 
 -- An aggregate that stands at a position.
 module _ (s : List ℕ) (at : ℕ) (acc : isAggregate s at ≡ true) where
@@ -195,7 +195,7 @@ module _ (s : List ℕ) (at : ℕ) (acc : isAggregate s at ≡ true) where
 
   pub aggregate-kind-here : AggregateOpened s at (getD s at 0)
   aggregate-kind-here =
-      let v = aggregate-head-view s at (aggregate-stands .read) in
+      let v = aggregate-head-view (versionIn s) s at (aggregate-stands .read) in
       let w = span-view s (at + 1) (v .spans) in
       record { inside = omega arith; kind = v .kind }
 
@@ -208,14 +208,14 @@ module _ (s : List ℕ) (at : ℕ) (acc : isAggregate s at ≡ true) where
   byte-of : (k : ℕ) → k ≡ aggregateKindOf (aggregateIn s at) → getD s at 0 ≡ k
   byte-of k e = aggregate-kind-here .kind ∙ sym e
 
-  pub sum-here : aggregateKindOf (aggregateIn s at) ≡ 1 → SumView s at (aggregateIn s at) (aggregate-stands .end)
-  sum-here e = sum-view s at (aggregate-stands .read) (byte-of 1 (sym e))
+  pub sum-here : aggregateKindOf (aggregateIn s at) ≡ 1 → SumView (versionIn s) s at (aggregateIn s at) (aggregate-stands .end)
+  sum-here e = sum-view (versionIn s) s at (aggregate-stands .read) (byte-of 1 (sym e))
 
-  pub count-here : aggregateKindOf (aggregateIn s at) ≡ 2 → CountView s at (aggregateIn s at) (aggregate-stands .end)
-  count-here e = count-view s at (aggregate-stands .read) (byte-of 2 (sym e))
+  pub count-here : aggregateKindOf (aggregateIn s at) ≡ 2 → CountView (versionIn s) s at (aggregateIn s at) (aggregate-stands .end)
+  count-here e = count-view (versionIn s) s at (aggregate-stands .read) (byte-of 2 (sym e))
 
   pub call-here : aggregateKindOf (aggregateIn s at) ≡ 3 → CallView s at (aggregateIn s at) (aggregate-stands .end)
-  call-here e = call-view s at (aggregate-stands .read) (byte-of 3 (sym e))
+  call-here e = call-view (versionIn s) s at (aggregate-stands .read) (byte-of 3 (sym e))
 
 -- An aggregate is one of three.
 pub counts : (x : Aggregate) → (aggregateKindOf x ≡ 3 → ⊥) → (aggregateKindOf x ≡ 1 → ⊥) → aggregateKindOf x ≡ 2

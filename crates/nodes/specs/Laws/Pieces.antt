@@ -20,7 +20,7 @@ use Rattle.nodes.specs.declared.SlotAt.the-variants.{Named, ParamRef, Bi
 use Rattle.condition.specs.Condition.{Span, Slot, named, binderRef, Binder, Condition, Term, Terms, Arguments, Aggregate, predicate, tp, noArgument, argument, entity, contextField, scopeField, var, array, nil, cons, sum, slotKinds, slot, binder, span, operator, arguments, argumentList, elements, elementList, conditionAt, termAt}
 use Rattle.condition.specs.Condition as tree
 use Rattle.condition.specs.Walk.{reached, reachedBody, declaredBy}
-use Rattle.condition.specs.Places.{isCondition, conditionIn, isTerm, termIn, isAggregate, aggregateIn, isArguments, argumentsIn, isElements, elementsIn, isPath, pathIn, isSlot, slotIn}
+use Rattle.condition.specs.Places.{versionIn, termHere, isCondition, conditionIn, isTerm, termIn, isAggregate, aggregateIn, isArguments, argumentsIn, isElements, elementsIn, isPath, pathIn, isSlot, slotIn, argumentsAt, elementsAt}
 use Rattle.nodes.specs.Offsets.{firstPart, termPart, aggregatePart}
 use Rattle.nodes.specs.Laws.Inside.{same-end, ended, place-other, place-compared, compared-inside, added-inside}
 use Rattle.nodes.specs.Kinds.{kindOf, spanOf, ownSpanOf, termKindOf, aggregateKindOf, aggregateSpanOf}
@@ -60,12 +60,12 @@ module _ (s : List ℕ) (at : ℕ) (acc : isCondition s at ≡ true) where
   span-room = let h = condition-room s at acc in omega arith
 
   pub span-here : (r : Ends) → EndsHere s (at + 1) r → Spans (spanOf (conditionIn s at)) r
-  span-here r h = spans-of (head-view s at (condition-stands s at acc .read) .spans) h
+  span-here r h = spans-of (head-view (versionIn s) s at (condition-stands s at acc .read) .spans) h
 
   -- a predicate
   module _ (is : kindOf (conditionIn s at) ≡ 7) where
-    acting : PredicateView s at (conditionIn s at) (condition-stands s at acc .end)
-    acting = predicate-view s at (condition-stands s at acc .read) (raw-kind s at acc 7 (λ i. omega arith) is)
+    acting : PredicateView (versionIn s) s at (conditionIn s at) (condition-stands s at acc .end)
+    acting = predicate-view (versionIn s) s at (condition-stands s at acc .read) (raw-kind s at acc 7 (λ i. omega arith) is)
 
     pub own-room : at + 9 + 8 ≤ length s
     own-room = span-view s (at + 9) (acting .owns) .inside
@@ -77,7 +77,7 @@ module _ (s : List ℕ) (at : ℕ) (acc : isCondition s at ≡ true) where
   pub timepoint-inside : kindOf (conditionIn s at) ≡ 10 → (p : ℕ) → p ≡ firstPart s at → TimepointHere s at p
   unfolding slotIn
   timepoint-inside is p e =
-      let v = timepoint-view s at (condition-stands s at acc .read) (raw-kind s at acc 10 (λ i. omega arith) is) in
+      let v = timepoint-view (versionIn s) s at (condition-stands s at acc .read) (raw-kind s at acc 10 (λ i. omega arith) is) in
       let i = place-other s at acc p e 10 (sym is) (λ q. omega arith) (λ q. omega arith) in
       rw i (record { stands = is-accepted (v .reads); value = timepoint-value (v .whole) (has-value _ (v .reads)) })
 
@@ -85,11 +85,11 @@ pub aggregate-span-room : (s : List ℕ) (at : ℕ) → isAggregate s at ≡ tru
 aggregate-span-room s at acc = let o = aggregate-kind-here s at acc in omega arith
 
 pub aggregate-span-here : (s : List ℕ) (at : ℕ) → isAggregate s at ≡ true → (r : Ends) → EndsHere s (at + 1) r → Spans (aggregateSpanOf (aggregateIn s at)) r
-aggregate-span-here s at acc r h = spans-of (aggregate-head-view s at (aggregate-stands s at acc .read) .spans) h
+aggregate-span-here s at acc r h = spans-of (aggregate-head-view (versionIn s) s at (aggregate-stands s at acc .read) .spans) h
 
 -- a term takes one byte at least
-pub term-ahead : (s : List ℕ) (at : ℕ) {t : Term} {n : ℕ} → termAt levels false s at ≡ got t n → at < n
-term-ahead s at e = let l = one-term levels false .on s at e in omega arith
+pub term-ahead : (s : List ℕ) (at : ℕ) {t : Term} {n : ℕ} → termHere s at ≡ got t n → at < n
+term-ahead s at e = let l = one-term (versionIn s) levels false .on s at e in omega arith
 
 -- Comparisons and arithmetic.
 module _ (s : List ℕ) (at : ℕ) (acc : isCondition s at ≡ true) (is : kindOf (conditionIn s at) ≡ 8) where
@@ -103,7 +103,7 @@ module _ (s : List ℕ) (at : ℕ) (acc : isCondition s at ≡ true) (is : kindO
     pub comparison-left : isTerm s p ≡ true
     comparison-left = compared .stands
 
-    pub comparison-parts : (k m : ℕ) → k ≡ getD s (at + 9) 0 → Skipped (termAt levels false s p) p m → ComparisonHere s at (record { operator = k; left = p; right = m })
+    pub comparison-parts : (k m : ℕ) → k ≡ getD s (at + 9) 0 → Skipped (termHere s p) p m → ComparisonHere s at (record { operator = k; left = p; right = m })
     comparison-parts k m f z =
         let v = comparison-here s at acc is in
         let j : p ≡ at + 10 = place-compared s at acc p e is in
@@ -124,7 +124,7 @@ module _ (s : List ℕ) (at : ℕ) (acc : isTerm s at ≡ true) (p : ℕ) (e : p
     pub arith-left : isTerm s p ≡ true
     arith-left = added-inside s at acc p e is .stands
 
-    pub arith-parts : (m : ℕ) → Skipped (termAt levels false s p) p m → ArithHere s at (record { left = p; right = m })
+    pub arith-parts : (m : ℕ) → Skipped (termHere s p) p m → ArithHere s at (record { left = p; right = m })
     arith-parts m z =
         let h = added-inside s at acc p e is in
         let w = term-stands s p (h .stands) in
@@ -138,25 +138,25 @@ module _ (s : List ℕ) (at : ℕ) (acc : isTerm s at ≡ true) (p : ℕ) (e : p
     pub entity-inside : k ≡ 1 → termIn s at ≡ entity (wordAt s p)
     unfolding termPart
     entity-inside is =
-        let v = entity-view s at (term-stands s at acc .read) (raw-term s at acc 1 (λ i. omega arith) (sym (o .kind) ∙ is)) in
+        let v = entity-view (versionIn s) s at (term-stands s at acc .read) (raw-term s at acc 1 (λ i. omega arith) (sym (o .kind) ∙ is)) in
         rw e (v .whole ∙ ap entity (string-view pathName s (at + 1) (v .reads) .word))
 
     pub var-inside : k ≡ 8 → termIn s at ≡ var (wordAt s p)
     unfolding termPart
     var-inside is =
-        let v = var-view s at (term-stands s at acc .read) (raw-term s at acc 8 (λ i. omega arith) (sym (o .kind) ∙ is)) in
+        let v = var-view (versionIn s) s at (term-stands s at acc .read) (raw-term s at acc 8 (λ i. omega arith) (sym (o .kind) ∙ is)) in
         rw e (v .whole ∙ ap var (string-view plain s (at + 1) (v .reads) .word))
 
     pub context-inside : k ≡ 6 → PathHere contextField s at p
     unfolding termPart pathIn
     context-inside is =
-        let v = context-view s at (term-stands s at acc .read) (raw-term s at acc 6 (λ i. omega arith) (sym (o .kind) ∙ is)) in
+        let v = context-view (versionIn s) s at (term-stands s at acc .read) (raw-term s at acc 6 (λ i. omega arith) (sym (o .kind) ∙ is)) in
         rw e (record { stands = is-accepted (v .reads); value = v .whole ∙ ap contextField (sym (has-value _ (v .reads))) })
 
     pub scope-inside : k ≡ 7 → PathHere scopeField s at p
     unfolding termPart pathIn
     scope-inside is =
-        let v = scope-view s at (term-stands s at acc .read) (raw-term s at acc 7 (λ i. omega arith) (sym (o .kind) ∙ is)) in
+        let v = scope-view (versionIn s) s at (term-stands s at acc .read) (raw-term s at acc 7 (λ i. omega arith) (sym (o .kind) ∙ is)) in
         rw e (record { stands = is-accepted (v .reads); value = v .whole ∙ ap scopeField (sym (has-value _ (v .reads))) })
 
     pub context-path : k ≡ 6 → isPath s p ≡ true
@@ -207,12 +207,12 @@ module _ (s : List ℕ) (at : ℕ) (acc : isCondition s at ≡ true) (is : kindO
     action-inside = let v = string-view plain s p acts in omega arith
 
     module _ (m : ℕ) (e : m ≡ p + 1 + getD s p 0) where
-      arguments-read : argumentList (conditionAt levels) (termAt levels) s m ≡ got (acting s at acc is .args) (condition-stands s at acc .end)
-      arguments-read = ap (argumentList (conditionAt levels) (termAt levels) s) (e ∙ sym (string-view plain s p acts .place)) ∙ acting s at acc is .lists
+      arguments-read : argumentList (versionIn s) (conditionAt (versionIn s) levels) (termAt (versionIn s) levels) s m ≡ got (acting s at acc is .args) (condition-stands s at acc .end)
+      arguments-read = ap (argumentList (versionIn s) (conditionAt (versionIn s) levels) (termAt (versionIn s) levels) s) (e ∙ sym (string-view plain s p acts .place)) ∙ acting s at acc is .lists
 
       record ListView (l : Arguments) (n : ℕ) : Type 0 where
         inside : m < length s
-        read : arguments (conditionAt levels) (termAt levels) (getD s m 0) s (m + 1) ≡ got l n
+        read : argumentsAt (getD s m 0) s (m + 1) ≡ got l n
 
       list-view : ListView (acting s at acc is .args) (condition-stands s at acc .end)
       unfolding argumentList
@@ -249,18 +249,18 @@ record FirstArgument (s : List ℕ) (n at : ℕ) (l : Arguments) (end : ℕ) : T
   rest : Arguments
   names : stringOf plain s at ≡ got name p
   leads : pathOf s p ≡ got field q
-  reads : termAt levels false s q ≡ got term r
-  goes : arguments (conditionAt levels) (termAt levels) (n - 1) s r ≡ got rest end
+  reads : termHere s q ≡ got term r
+  goes : argumentsAt (n - 1) s r ≡ got rest end
   whole : l ≡ argument name field term rest
 
-first-argument : (s : List ℕ) (n at : ℕ) {l : Arguments} {end : ℕ} → 0 < n → arguments (conditionAt levels) (termAt levels) n s at ≡ got l end → FirstArgument s n at l end
+first-argument : (s : List ℕ) (n at : ℕ) {l : Arguments} {end : ℕ} → 0 < n → argumentsAt n s at ≡ got l end → FirstArgument s n at l end
 unfolding arguments
 first-argument s zero at h e = absurd (omega arith)
 first-argument s (suc n) at h e =
     let a = split (stringOf plain s at) _ e in
     let b = split (pathOf s (a .place)) _ (a .rest) in
-    let d = split (termAt levels false s (b .place)) _ (b .rest) in
-    let f = split (arguments (conditionAt levels) (termAt levels) n s (d .place)) _ (d .rest) in
+    let d = split (termHere s (b .place)) _ (b .rest) in
+    let f = split (argumentsAt n s (d .place)) _ (d .rest) in
     record {
       name = a .value;
       p = a .place;
@@ -277,7 +277,7 @@ first-argument s (suc n) at h e =
     }
 
 module _ (s : List ℕ) (n at : ℕ) (acc : isArguments s n at ≡ true) (h : 0 < n) where
-  arguments-stand : Stands (arguments (conditionAt levels) (termAt levels) n s at) (argumentsIn s n at)
+  arguments-stand : Stands (argumentsAt n s at) (argumentsIn s n at)
   unfolding argumentsIn
   arguments-stand = stood _ _ acc
 
@@ -295,17 +295,17 @@ module _ (s : List ℕ) (n at : ℕ) (acc : isArguments s n at ≡ true) (h : 0 
     field-stands = is-accepted leading
 
     module _ (q : ℕ) (z : Skipped (pathOf s p) p q) where
-      reading : termAt levels false s q ≡ got (first-of .term) (first-of .r)
+      reading : termHere s q ≡ got (first-of .term) (first-of .r)
       reading = term-there s (ends-at leading (z .ends)) (first-of .reads)
 
       pub value-stands : isTerm s q ≡ true
       value-stands = is-accepted reading
 
-      pub argument-parts : (r : ℕ) → Skipped (termAt levels false s q) q r → ArgumentHere s n at (record { field = p; term = q; next = r })
+      pub argument-parts : (r : ℕ) → Skipped (termHere s q) q r → ArgumentHere s n at (record { field = p; term = q; next = r })
       unfolding pathIn argumentsIn
       argument-parts r y =
           let i = ends-at reading (y .ends) in
-          let goes = ap (arguments (conditionAt levels) (termAt levels) (n - 1) s) i ∙ first-of .goes in
+          let goes = ap (argumentsAt (n - 1) s) i ∙ first-of .goes in
           let l = term-ahead s q reading in
           record {
             field = field-stands;
@@ -325,11 +325,11 @@ arguments-over s (suc n) at h = absurd (omega arith)
 module _ (s : List ℕ) (at : ℕ) (acc : isTerm s at ≡ true) (is : termKindOf (termIn s at) ≡ 10) where
   record ElementsView (l : Terms) (n : ℕ) : Type 0 where
     inside : at + 1 < length s
-    read : elements (conditionAt levels) (termAt levels) (getD s (at + 1) 0) s (at + 2) ≡ got l n
+    read : elementsAt (getD s (at + 1) 0) s (at + 2) ≡ got l n
     whole : termIn s at ≡ array l
 
-  arrays : PartView (elementList (conditionAt levels) (termAt levels)) array s at (termIn s at) (term-stands s at acc .end)
-  arrays = array-view s at (term-stands s at acc .read) (raw-term s at acc 10 (λ i. omega arith) is)
+  arrays : PartView (elementList (versionIn s) (conditionAt (versionIn s) levels) (termAt (versionIn s) levels)) array s at (termIn s at) (term-stands s at acc .end)
+  arrays = array-view (versionIn s) s at (term-stands s at acc .read) (raw-term s at acc 10 (λ i. omega arith) is)
 
   elements-view : ElementsView (arrays .part) (term-stands s at acc .end)
   unfolding elementList
@@ -356,27 +356,27 @@ record FirstElement (s : List ℕ) (n at : ℕ) (l : Terms) (end : ℕ) : Type 0
   term : Term
   p : ℕ
   rest : Terms
-  reads : termAt levels false s at ≡ got term p
-  goes : elements (conditionAt levels) (termAt levels) (n - 1) s p ≡ got rest end
+  reads : termHere s at ≡ got term p
+  goes : elementsAt (n - 1) s p ≡ got rest end
   whole : l ≡ cons term rest
 
-first-element : (s : List ℕ) (n at : ℕ) {l : Terms} {end : ℕ} → 0 < n → elements (conditionAt levels) (termAt levels) n s at ≡ got l end → FirstElement s n at l end
+first-element : (s : List ℕ) (n at : ℕ) {l : Terms} {end : ℕ} → 0 < n → elementsAt n s at ≡ got l end → FirstElement s n at l end
 unfolding elements
 first-element s zero at h e = absurd (omega arith)
 first-element s (suc n) at h e =
-    let a = split (termAt levels true s at) _ e in
-    let b = split (elements (conditionAt levels) (termAt levels) n s (a .place)) _ (a .rest) in
+    let a = split (termAt (versionIn s) levels true s at) _ e in
+    let b = split (elementsAt n s (a .place)) _ (a .rest) in
     record {
       term = a .value;
       p = a .place;
       rest = b .value;
-      reads = term-anywhere levels s at (a .value) (a .place) (a .first);
+      reads = term-anywhere (versionIn s) levels s at (a .value) (a .place) (a .first);
       goes = rw sub-one (b .first ∙ ap (got (b .value)) (got-place (b .rest)));
       whole = sym (got-value (b .rest));
     }
 
 module _ (s : List ℕ) (n at : ℕ) (acc : isElements s n at ≡ true) (h : 0 < n) where
-  elements-stand : Stands (elements (conditionAt levels) (termAt levels) n s at) (elementsIn s n at)
+  elements-stand : Stands (elementsAt n s at) (elementsIn s n at)
   unfolding elementsIn
   elements-stand = stood _ _ acc
 
@@ -386,11 +386,11 @@ module _ (s : List ℕ) (n at : ℕ) (acc : isElements s n at ≡ true) (h : 0 <
   pub element-stands : isTerm s at ≡ true
   element-stands = is-accepted (element-of .reads)
 
-  pub element-parts : (p : ℕ) → Skipped (termAt levels false s at) at p → ElementHere s n at p
+  pub element-parts : (p : ℕ) → Skipped (termHere s at) at p → ElementHere s n at p
   unfolding elementsIn
   element-parts p z =
       let i = ends-at (element-of .reads) (z .ends) in
-      let goes = ap (elements (conditionAt levels) (termAt levels) (n - 1) s) i ∙ element-of .goes in
+      let goes = ap (elementsAt (n - 1) s) i ∙ element-of .goes in
       let l = term-ahead s at (element-of .reads) in
       record {
         element = element-stands;

@@ -9,14 +9,14 @@ use native.Mathlib.Omega.{arith}
 use borrow.Author.Needs.{needs}
 use lib.ListN.{length}
 use Rattle.names.specs.Lists.{gather}
-use Rattle.names.specs.Fields.{Got, got, many, levels}
+use Rattle.names.specs.Fields.{Got, got, many}
 use Rattle.names.specs.Read.{row, rowIn}
 use Rattle.names.specs.Laws.Readers.{is-accepted, has-value}
 use Rattle.names.specs.Laws.Rows.{Opens, opens, row-cons, row-empty}
-use Rattle.condition.specs.Condition.{Span, Operator, Condition, Term, Aggregate, comparison, entity, literal, contextField, scopeField, var, wildcard, array, aggregate, sigil, termAt}
+use Rattle.condition.specs.Condition.{Span, Operator, Condition, Term, Aggregate, comparison, entity, literal, contextField, scopeField, var, wildcard, array, aggregate, sigil}
 use Rattle.condition.specs.Condition as tree
 use Rattle.condition.specs.Walk.{operandAggregates}
-use Rattle.condition.specs.Places.{isCondition, conditionIn, isTerm, termIn, aggregateIn}
+use Rattle.condition.specs.Places.{termHere, isCondition, conditionIn, isTerm, termIn, aggregateIn}
 use Rattle.nodes.specs.Kinds.{kindOf, spanOf, termKindOf}
 use Rattle.nodes.specs.Offsets.{firstPart, termPart}
 use Rattle.nodes.specs.Laws.Inside.{place-compared, term-place, aggregate-inside}
@@ -41,23 +41,23 @@ no-aggregates sigil a b = refl
 
 -- terms in a row
 module _ (s : List ℕ) (n at : ℕ) where
-  terms-stand : isTerms s n at ≡ true → Stands (row (termAt levels false) n s at) (rowIn (termAt levels false) s n at)
+  terms-stand : isTerms s n at ≡ true → Stands (row termHere n s at) (rowIn termHere s n at)
   terms-stand acc = stood _ _ acc
 
 -- they have a byte each
-row-room : (s : List ℕ) (n at : ℕ) {l : List Term} {e : ℕ} → row (termAt levels false) (suc n) s at ≡ got l e → at + suc n ≤ length s
-row-room s zero at h = let o = opens (termAt levels false) s 1 at (omega arith) h in let i = term-index s at (is-accepted (o .here)) in omega arith
+row-room : (s : List ℕ) (n at : ℕ) {l : List Term} {e : ℕ} → row termHere (suc n) s at ≡ got l e → at + suc n ≤ length s
+row-room s zero at h = let o = opens termHere s 1 at (omega arith) h in let i = term-index s at (is-accepted (o .here)) in omega arith
 row-room s (suc n) at h =
-    let o = opens (termAt levels false) s (suc (suc n)) at (omega arith) h in
+    let o = opens termHere s (suc (suc n)) at (omega arith) h in
     let j = term-ahead s at (o .here) in
     let i = row-room s n (o .p) (rw sub-one at (o .rest)) in
     omega arith
 
 -- two more in place of the first
-two-more : (s : List ℕ) (n at : ℕ) {l r : Term} {others : List Term} {m p e : ℕ} → 0 < n → termAt levels false s (at + 1) ≡ got l m → termAt levels false s m ≡ got r p → row (termAt levels false) (n - 1) s p ≡ got others e
-    → row (termAt levels false) (n + 1) s (at + 1) ≡ got (l ∷ r ∷ others) e
+two-more : (s : List ℕ) (n at : ℕ) {l r : Term} {others : List Term} {m p e : ℕ} → 0 < n → termHere s (at + 1) ≡ got l m → termHere s m ≡ got r p → row termHere (n - 1) s p ≡ got others e
+    → row termHere (n + 1) s (at + 1) ≡ got (l ∷ r ∷ others) e
 two-more s zero at h i j k = absurd (omega arith)
-two-more s (suc n) at {l} {r} {others} {m} {p} {e} h i j k = rw add-one (row-cons (termAt levels false) s (suc n) (at + 1) i (row-cons (termAt levels false) s n m j (rw sub-one at k)))
+two-more s (suc n) at {l} {r} {others} {m} {p} {e} h i j k = rw add-one (row-cons termHere s (suc n) (at + 1) i (row-cons termHere s n m j (rw sub-one at k)))
 
 same-place : {A : Type 0} {g : Got A} {a b : A} {n m : ℕ} → g ≡ got a n → g ≡ got b m → n ≡ m
 same-place e f = cc
@@ -74,7 +74,7 @@ module _ {A : Type 0} (g : Term → List A) where
   pub record TermsLeft (s : List ℕ) (list : List A) (n at : ℕ) : Type 0 where
     pub stands : isTerms s n at ≡ true
     pub small : n ≤ length s
-    pub value : gather g (rowIn (termAt levels false) s n at) ≡ list
+    pub value : gather g (rowIn termHere s n at) ≡ list
 
   -- the first of them is passed: what was collected of it, and what is left
   pub record TermPassed (s : List ℕ) (list : List A) (n at m : ℕ) : Type 0 where
@@ -82,13 +82,13 @@ module _ {A : Type 0} (g : Term → List A) where
     pub parted : list ≡ g (termIn s at) ++ others
     pub left : TermsLeft s others (n - 1) m
 
-  pub terms-left : (s : List ℕ) (n at : ℕ) → isTerms s n at ≡ true → TermsLeft s (gather g (rowIn (termAt levels false) s n at)) n at
+  pub terms-left : (s : List ℕ) (n at : ℕ) → isTerms s n at ≡ true → TermsLeft s (gather g (rowIn termHere s n at)) n at
   terms-left s n at acc = record { stands = acc; small = few s n at acc; value = refl }
 
   pub one-term-left : (s : List ℕ) (at : ℕ) → isTerm s at ≡ true → TermsLeft s (g (termIn s at)) 1 at
   unfolding gather many termIn
   one-term-left s at acc =
-      let r = row-cons (termAt levels false) s 0 at (term-stands s at acc .read) refl in
+      let r = row-cons termHere s 0 at (term-stands s at acc .read) refl in
       record {
         stands = is-accepted r;
         small = few s 1 at (is-accepted r);
@@ -98,11 +98,11 @@ module _ {A : Type 0} (g : Term → List A) where
   module _ (s : List ℕ) (list : List A) (n at : ℕ) (inv : TermsLeft s list n at) where
     pub none-left : n ≤ 0 → list ≡ []
     unfolding gather
-    none-left h = sym (inv .value) ∙ ap (gather g) (row-empty (termAt levels false) s n at h (terms-stand s n at (inv .stands) .read))
+    none-left h = sym (inv .value) ∙ ap (gather g) (row-empty termHere s n at h (terms-stand s n at (inv .stands) .read))
 
     module _ (h : 0 < n) where
-      first : Opens (termAt levels false) s n at (rowIn (termAt levels false) s n at) (terms-stand s n at (inv .stands) .end)
-      first = opens (termAt levels false) s n at h (terms-stand s n at (inv .stands) .read)
+      first : Opens termHere s n at (rowIn termHere s n at) (terms-stand s n at (inv .stands) .end)
+      first = opens termHere s n at h (terms-stand s n at (inv .stands) .read)
 
       pub first-stands : isTerm s at ≡ true
       first-stands = is-accepted (first .here)
@@ -112,9 +112,9 @@ module _ {A : Type 0} (g : Term → List A) where
       unfolding gather termIn
       first-parted = sym (inv .value) ∙ ap (gather g) (first .all) ∙ ap (λ t. g t ++ gather g (first .others)) (sym (has-value _ (first .here)))
 
-      pub term-passed : (m : ℕ) → Skipped (termAt levels false s at) at m → TermPassed s list n at m
+      pub term-passed : (m : ℕ) → Skipped (termHere s at) at m → TermPassed s list n at m
       term-passed m z =
-          let r : row (termAt levels false) (n - 1) s m ≡ got (first .others) (terms-stand s n at (inv .stands) .end) = ap (row (termAt levels false) (n - 1) s) (ends-at (first .here) (z .ends)) ∙ first .rest in
+          let r : row termHere (n - 1) s m ≡ got (first .others) (terms-stand s n at (inv .stands) .end) = ap (row termHere (n - 1) s) (ends-at (first .here) (z .ends)) ∙ first .rest in
           record {
             others = gather g (first .others);
             parted = first-parted;
@@ -127,7 +127,7 @@ module _ {A : Type 0} (g : Term → List A) where
         turned =
             let v = arith-here s at first-stands (sym (o .kind) ∙ is) in
             let e = same-place (term-stands s at first-stands .read) (first .here) in
-            let r = two-more s n at h (v .reads) (v .further) (ap (row (termAt levels false) (n - 1) s) e ∙ first .rest) in
+            let r = two-more s n at h (v .reads) (v .further) (ap (row termHere (n - 1) s) e ∙ first .rest) in
             record {
               stands = is-accepted r;
               small = few s (n + 1) (at + 1) (is-accepted r);
@@ -161,7 +161,7 @@ module _ (s : List ℕ) (list : List Aggregate) (n at : ℕ) (inv : AggregatesLe
     pub operand-stands : isTerm s at ≡ true
     operand-stands = first-stands operandAggregates s list n at inv h
 
-    module _ (m : ℕ) (z : Skipped (termAt levels false s at) at m) where
+    module _ (m : ℕ) (z : Skipped (termHere s at) at m) where
       passed : TermPassed operandAggregates s list n at m
       passed = term-passed operandAggregates s list n at inv h m z
 
@@ -187,7 +187,7 @@ unfolding aggregatesIn gather many
 operands-here s at acc is p place =
     let v = comparison-here s at acc is in
     let j : p ≡ at + 10 = place-compared s at acc p place is in
-    let r = row-cons (termAt levels false) s 1 p (term-there s j (v .reads)) (row-cons (termAt levels false) s 0 (v .middle) (v .further) refl) in
+    let r = row-cons termHere s 1 p (term-there s j (v .reads)) (row-cons termHere s 0 (v .middle) (v .further) refl) in
     record {
       op = v .test;
       left = v .left;

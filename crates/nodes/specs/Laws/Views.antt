@@ -1,5 +1,5 @@
 -- Accepted bytes taken apart: what stands at the parts of a condition, a term, an aggregate, a list, by the byte of its kind. A part is read with all
--- 32 levels, as a position denotes it. Assumes nothing.
+-- 32 levels, as a position denotes it, and in the version of the whole. Assumes nothing.
 use mathlib.Core.Path.{_≡_, refl, sym, ap, _∙_}
 use mathlib.Core.Bool.{Bool, true, false, cond, false≢true}
 use mathlib.Core.List.{List}
@@ -75,26 +75,26 @@ module _ {A : Type 0} (s : List ℕ) (at : ℕ) {x : A} {n : ℕ} (f : Span → 
       record { own = a .value; spans = a .first ∙ ap (got (a .value)) i; rest = rw (← i) (a .rest) }
 
 -- Conditions.
-pub record OneView (s : List ℕ) (at : ℕ) (x : Condition) (n : ℕ) : Type 0 where
+pub record OneView (version : ℕ) (s : List ℕ) (at : ℕ) (x : Condition) (n : ℕ) : Type 0 where
   pub kind : One
   pub own : Span
   pub body : Condition
   pub spans : span s (at + 1) ≡ got own (at + 9)
-  pub reads : conditionAt levels s (at + 9) ≡ got body n
+  pub reads : conditionAt version levels s (at + 9) ≡ got body n
   pub whole : x ≡ one kind own body
 
-pub record TwoView (s : List ℕ) (at : ℕ) (x : Condition) (n : ℕ) : Type 0 where
+pub record TwoView (version : ℕ) (s : List ℕ) (at : ℕ) (x : Condition) (n : ℕ) : Type 0 where
   pub kind : Two
   pub own : Span
   pub left : Condition
   pub middle : ℕ
   pub right : Condition
   pub spans : span s (at + 1) ≡ got own (at + 9)
-  pub reads : conditionAt levels s (at + 9) ≡ got left middle
-  pub further : conditionAt levels s middle ≡ got right n
+  pub reads : conditionAt version levels s (at + 9) ≡ got left middle
+  pub further : conditionAt version levels s middle ≡ got right n
   pub whole : x ≡ two kind own left right
 
-pub record PredicateView (s : List ℕ) (at : ℕ) (x : Condition) (n : ℕ) : Type 0 where
+pub record PredicateView (version : ℕ) (s : List ℕ) (at : ℕ) (x : Condition) (n : ℕ) : Type 0 where
   pub around : Span
   pub own : Span
   pub namespace : List (List ℕ)
@@ -106,10 +106,10 @@ pub record PredicateView (s : List ℕ) (at : ℕ) (x : Condition) (n : ℕ) : T
   pub owns : span s (at + 9) ≡ got own (at + 17)
   pub lies : counted (each (stringOf pathName)) s (at + 17) ≡ got namespace name
   pub acts : stringOf plain s name ≡ got action list
-  pub lists : argumentList (conditionAt levels) (termAt levels) s list ≡ got args n
+  pub lists : argumentList version (conditionAt version levels) (termAt version levels) s list ≡ got args n
   pub whole : x ≡ predicate around own namespace action args
 
-pub record ComparisonView (s : List ℕ) (at : ℕ) (x : Condition) (n : ℕ) : Type 0 where
+pub record ComparisonView (version : ℕ) (s : List ℕ) (at : ℕ) (x : Condition) (n : ℕ) : Type 0 where
   pub own : Span
   pub test : Operator
   pub left : Term
@@ -117,18 +117,18 @@ pub record ComparisonView (s : List ℕ) (at : ℕ) (x : Condition) (n : ℕ) : 
   pub right : Term
   pub spans : span s (at + 1) ≡ got own (at + 9)
   pub tests : operator s (at + 9) ≡ got test (at + 10)
-  pub reads : termAt levels false s (at + 10) ≡ got left middle
-  pub further : termAt levels false s middle ≡ got right n
+  pub reads : termAt version levels false s (at + 10) ≡ got left middle
+  pub further : termAt version levels false s middle ≡ got right n
   pub whole : x ≡ comparison own test left right
 
-pub record ExistsView (s : List ℕ) (at : ℕ) (x : Condition) (n : ℕ) : Type 0 where
+pub record ExistsView (version : ℕ) (s : List ℕ) (at : ℕ) (x : Condition) (n : ℕ) : Type 0 where
   pub own : Span
   pub declared : Binder
   pub middle : ℕ
   pub body : Condition
   pub spans : span s (at + 1) ≡ got own (at + 9)
   pub declares : binder s (at + 9) ≡ got declared middle
-  pub reads : conditionAt levels s middle ≡ got body n
+  pub reads : conditionAt version levels s middle ≡ got body n
   pub whole : x ≡ exists own declared body
 
 pub record TimepointView (s : List ℕ) (at : ℕ) (x : Condition) (n : ℕ) : Type 0 where
@@ -159,20 +159,20 @@ operator-view s at {o} {n} e =
     let p = choose-place (a .value) s (a .place) (a .rest) in
     (p .0 ∙ v .2, p .1 ∙ v .1)
 
-module _ (s : List ℕ) (at : ℕ) {x : Condition} {n : ℕ} where
-  unary-view : (k : One) → unary (conditionAt levels) (termAt levels) k s (at + 1) ≡ got x n → OneView s at x n
+module _ (version : ℕ) (s : List ℕ) (at : ℕ) {x : Condition} {n : ℕ} where
+  unary-view : (k : One) → unary version (conditionAt version levels) (termAt version levels) k s (at + 1) ≡ got x n → OneView version s at x n
   unfolding unary
   unary-view k e =
       let a = after-span s at _ e in
-      let b = split (conditionAt levels s (at + 9)) _ (a .rest) in
+      let b = split (conditionAt version levels s (at + 9)) _ (a .rest) in
       record { kind = k; own = a .own; body = b .value; spans = a .spans; reads = b .first ∙ ap (got (b .value)) (got-place (b .rest)); whole = sym (got-value (b .rest)) }
 
-  binary-view : (k : Two) → binary (conditionAt levels) (termAt levels) k s (at + 1) ≡ got x n → TwoView s at x n
+  binary-view : (k : Two) → binary version (conditionAt version levels) (termAt version levels) k s (at + 1) ≡ got x n → TwoView version s at x n
   unfolding binary
   binary-view k e =
       let a = after-span s at _ e in
-      let b = split (conditionAt levels s (at + 9)) _ (a .rest) in
-      let d = split (conditionAt levels s (b .place)) _ (b .rest) in
+      let b = split (conditionAt version levels s (at + 9)) _ (a .rest) in
+      let d = split (conditionAt version levels s (b .place)) _ (b .rest) in
       record {
         kind = k;
         own = a .own;
@@ -185,7 +185,7 @@ module _ (s : List ℕ) (at : ℕ) {x : Condition} {n : ℕ} where
         whole = sym (got-value (d .rest));
       }
 
-  acting-view : predicateOf (conditionAt levels) (termAt levels) s (at + 1) ≡ got x n → PredicateView s at x n
+  acting-view : predicateOf version (conditionAt version levels) (termAt version levels) s (at + 1) ≡ got x n → PredicateView version s at x n
   unfolding predicateOf
   acting-view e =
       let a = after-span s at _ e in
@@ -194,7 +194,7 @@ module _ (s : List ℕ) (at : ℕ) {x : Condition} {n : ℕ} where
       let i : b .place ≡ at + 17 = omega arith in
       let d = split (counted (each (stringOf pathName)) s (b .place)) _ (b .rest) in
       let f = split (stringOf plain s (d .place)) _ (d .rest) in
-      let g = split (argumentList (conditionAt levels) (termAt levels) s (f .place)) _ (f .rest) in
+      let g = split (argumentList version (conditionAt version levels) (termAt version levels) s (f .place)) _ (f .rest) in
       record {
         around = a .own;
         own = b .value;
@@ -211,15 +211,15 @@ module _ (s : List ℕ) (at : ℕ) {x : Condition} {n : ℕ} where
         whole = sym (got-value (g .rest));
       }
 
-  testing-view : comparisonOf (conditionAt levels) (termAt levels) s (at + 1) ≡ got x n → ComparisonView s at x n
+  testing-view : comparisonOf version (conditionAt version levels) (termAt version levels) s (at + 1) ≡ got x n → ComparisonView version s at x n
   unfolding comparisonOf
   testing-view e =
       let a = after-span s at _ e in
       let b = split (operator s (at + 9)) _ (a .rest) in
       let h = operator-view s (at + 9) (b .first) .0 in
       let i : b .place ≡ at + 10 = omega arith in
-      let d = split (termAt levels false s (b .place)) _ (b .rest) in
-      let f = split (termAt levels false s (d .place)) _ (d .rest) in
+      let d = split (termAt version levels false s (b .place)) _ (b .rest) in
+      let f = split (termAt version levels false s (d .place)) _ (d .rest) in
       record {
         own = a .own;
         test = b .value;
@@ -228,17 +228,17 @@ module _ (s : List ℕ) (at : ℕ) {x : Condition} {n : ℕ} where
         right = f .value;
         spans = a .spans;
         tests = b .first ∙ ap (got (b .value)) i;
-        reads = ap (termAt levels false s) (sym i) ∙ d .first;
+        reads = ap (termAt version levels false s) (sym i) ∙ d .first;
         further = f .first ∙ ap (got (f .value)) (got-place (f .rest));
         whole = sym (got-value (f .rest));
       }
 
-  binding-view : existsOf (conditionAt levels) (termAt levels) s (at + 1) ≡ got x n → ExistsView s at x n
+  binding-view : existsOf version (conditionAt version levels) (termAt version levels) s (at + 1) ≡ got x n → ExistsView version s at x n
   unfolding existsOf
   binding-view e =
       let a = after-span s at _ e in
       let b = split (binder s (at + 9)) _ (a .rest) in
-      let d = split (conditionAt levels s (b .place)) _ (b .rest) in
+      let d = split (conditionAt version levels s (b .place)) _ (b .rest) in
       record {
         own = a .own;
         declared = b .value;
@@ -250,6 +250,7 @@ module _ (s : List ℕ) (at : ℕ) {x : Condition} {n : ℕ} where
         whole = sym (got-value (d .rest));
       }
 
+module _ (s : List ℕ) (at : ℕ) {x : Condition} {n : ℕ} where
   pointing-view : timepointOf s (at + 1) ≡ got x n → TimepointView s at x n
   unfolding timepointOf
   pointing-view e =
@@ -277,13 +278,13 @@ head k spans whole kind = record { spans = rw whole spans; kind = rw whole kind 
 pub no-value : {A : Type 0} {P : Type 0} {a : A} {n r : ℕ} → bad r ≡ got a n → P
 no-value e = let z : _≡_ {A = ℕ} 0 1 = cc in absurd (omega arith)
 
-module _ (s : List ℕ) (at : ℕ) {x : Condition} {n : ℕ} where
-  pub heads : (k : ℕ) → choose k (conditionKinds (conditionAt levels) (termAt levels)) s (at + 1) ≡ got x n → Head s at x k
+module _ (version : ℕ) (s : List ℕ) (at : ℕ) {x : Condition} {n : ℕ} where
+  pub heads : (k : ℕ) → choose k (conditionKinds version (conditionAt version levels) (termAt version levels)) s (at + 1) ≡ got x n → Head s at x k
   unfolding choose conditionKinds Each keysUpTo unary-view binary-view
   heads =
-      let ones : (j : One) → conditionNumber (oneNumber j) ≡ oneNumber j → unary (conditionAt levels) (termAt levels) j s (at + 1) ≡ got x n → Head s at x (oneNumber j) = λ j i e. let v = unary-view s at j e in head (oneNumber j) (v .spans) (v .whole) i in
-      let twos : (j : Two) → conditionNumber (twoNumber j) ≡ twoNumber j → binary (conditionAt levels) (termAt levels) j s (at + 1) ≡ got x n → Head s at x (twoNumber j) = λ j i e. let v = binary-view s at j e in head (twoNumber j) (v .spans) (v .whole) i in
-      by-kind s (at + 1) 13 (conditionKinds (conditionAt levels) (termAt levels)) refl (Head s at x)
+      let ones : (j : One) → conditionNumber (oneNumber j) ≡ oneNumber j → unary version (conditionAt version levels) (termAt version levels) j s (at + 1) ≡ got x n → Head s at x (oneNumber j) = λ j i e. let v = unary-view version s at j e in head (oneNumber j) (v .spans) (v .whole) i in
+      let twos : (j : Two) → conditionNumber (twoNumber j) ≡ twoNumber j → binary version (conditionAt version levels) (termAt version levels) j s (at + 1) ≡ got x n → Head s at x (twoNumber j) = λ j i e. let v = binary-view version s at j e in head (twoNumber j) (v .spans) (v .whole) i in
+      by-kind s (at + 1) 13 (conditionKinds version (conditionAt version levels) (termAt version levels)) refl (Head s at x)
       (tt
       & no-value
       & twos and refl
@@ -292,25 +293,25 @@ module _ (s : List ℕ) (at : ℕ) {x : Condition} {n : ℕ} where
       & ones formerly refl
       & ones previous refl
       & twos since refl
-      & (λ e. let v = acting-view s at e in head 7 (v .spans) (v .whole) refl)
-      & (λ e. let v = testing-view s at e in head 8 (v .spans) (v .whole) refl)
-      & (λ e. let v = binding-view s at e in head 9 (v .spans) (v .whole) refl)
+      & (λ e. let v = acting-view version s at e in head 7 (v .spans) (v .whole) refl)
+      & (λ e. let v = testing-view version s at e in head 8 (v .spans) (v .whole) refl)
+      & (λ e. let v = binding-view version s at e in head 9 (v .spans) (v .whole) refl)
       & (λ e. let v = pointing-view s at e in head 10 (v .spans) (v .whole) refl)
       & (λ e. let v = bare-view s at e in head 11 (v .spans) (v .whole) refl)
       & (λ e. let v = bare-view s at e in head 12 (v .spans) (v .whole) refl)
       & ones refine refl)
 
-  pub ones : (k : ℕ) → choose k (conditionKinds (conditionAt levels) (termAt levels)) s (at + 1) ≡ got x n → oneKind k ≡ true → OneView s at x n
+  pub ones : (k : ℕ) → choose k (conditionKinds version (conditionAt version levels) (termAt version levels)) s (at + 1) ≡ got x n → oneKind k ≡ true → OneView version s at x n
   unfolding choose conditionKinds Each keysUpTo
   ones =
-      by-kind s (at + 1) 13 (conditionKinds (conditionAt levels) (termAt levels)) refl (λ k. oneKind k ≡ true → OneView s at x n)
+      by-kind s (at + 1) 13 (conditionKinds version (conditionAt version levels) (termAt version levels)) refl (λ k. oneKind k ≡ true → OneView version s at x n)
       (tt
       & (λ _ h. absurd (false≢true h))
       & (λ _ h. absurd (false≢true h))
       & (λ _ h. absurd (false≢true h))
-      & (λ e h. unary-view s at negation e)
-      & (λ e h. unary-view s at formerly e)
-      & (λ e h. unary-view s at previous e)
+      & (λ e h. unary-view version s at negation e)
+      & (λ e h. unary-view version s at formerly e)
+      & (λ e h. unary-view version s at previous e)
       & (λ _ h. absurd (false≢true h))
       & (λ _ h. absurd (false≢true h))
       & (λ _ h. absurd (false≢true h))
@@ -318,20 +319,20 @@ module _ (s : List ℕ) (at : ℕ) {x : Condition} {n : ℕ} where
       & (λ _ h. absurd (false≢true h))
       & (λ _ h. absurd (false≢true h))
       & (λ _ h. absurd (false≢true h))
-      & (λ e h. unary-view s at refine e))
+      & (λ e h. unary-view version s at refine e))
 
-  pub twos : (k : ℕ) → choose k (conditionKinds (conditionAt levels) (termAt levels)) s (at + 1) ≡ got x n → twoKind k ≡ true → TwoView s at x n
+  pub twos : (k : ℕ) → choose k (conditionKinds version (conditionAt version levels) (termAt version levels)) s (at + 1) ≡ got x n → twoKind k ≡ true → TwoView version s at x n
   unfolding choose conditionKinds Each keysUpTo
   twos =
-      by-kind s (at + 1) 13 (conditionKinds (conditionAt levels) (termAt levels)) refl (λ k. twoKind k ≡ true → TwoView s at x n)
+      by-kind s (at + 1) 13 (conditionKinds version (conditionAt version levels) (termAt version levels)) refl (λ k. twoKind k ≡ true → TwoView version s at x n)
       (tt
       & (λ _ h. absurd (false≢true h))
-      & (λ e h. binary-view s at and e)
-      & (λ e h. binary-view s at or e)
+      & (λ e h. binary-view version s at and e)
+      & (λ e h. binary-view version s at or e)
       & (λ _ h. absurd (false≢true h))
       & (λ _ h. absurd (false≢true h))
       & (λ _ h. absurd (false≢true h))
-      & (λ e h. binary-view s at since e)
+      & (λ e h. binary-view version s at since e)
       & (λ _ h. absurd (false≢true h))
       & (λ _ h. absurd (false≢true h))
       & (λ _ h. absurd (false≢true h))
@@ -341,54 +342,54 @@ module _ (s : List ℕ) (at : ℕ) {x : Condition} {n : ℕ} where
       & (λ _ h. absurd (false≢true h)))
 
 -- One view for each shape, by the kind byte.
-module _ (s : List ℕ) (at : ℕ) {x : Condition} {n : ℕ} (e : conditionAt levels s at ≡ got x n) where
+module _ (version : ℕ) (s : List ℕ) (at : ℕ) {x : Condition} {n : ℕ} (e : conditionAt version levels s at ≡ got x n) where
   pub inside : at < length s
   unfolding conditionAt
   inside = u8-view s at (split (u8 s at) _ e .first) .0
 
-  inner : choose (getD s at 0) (conditionKinds (conditionAt levels) (termAt levels)) s (at + 1) ≡ got x n
+  inner : choose (getD s at 0) (conditionKinds version (conditionAt version levels) (termAt version levels)) s (at + 1) ≡ got x n
   unfolding conditionAt
   inner =
-      let a = split (u8 s at) _ (condition-wider 32 33 (omega arith) s at x n e) in
+      let a = split (u8 s at) _ (condition-wider version 32 33 (omega arith) s at x n e) in
       let v = u8-view s at (a .first) in
       let r = a .rest in
       rw (← v .1, ← v .2) r
 
-  of-kind : (k : ℕ) → getD s at 0 ≡ k → choose k (conditionKinds (conditionAt levels) (termAt levels)) s (at + 1) ≡ got x n
+  of-kind : (k : ℕ) → getD s at 0 ≡ k → choose k (conditionKinds version (conditionAt version levels) (termAt version levels)) s (at + 1) ≡ got x n
   of-kind k i = rw (← i) inner
 
   pub head-view : Head s at x (getD s at 0)
-  head-view = heads s at (getD s at 0) inner
+  head-view = heads version s at (getD s at 0) inner
 
-  pub one-view : oneKind (getD s at 0) ≡ true → OneView s at x n
-  one-view = ones s at (getD s at 0) inner
+  pub one-view : oneKind (getD s at 0) ≡ true → OneView version s at x n
+  one-view = ones version s at (getD s at 0) inner
 
-  pub two-view : twoKind (getD s at 0) ≡ true → TwoView s at x n
-  two-view = twos s at (getD s at 0) inner
+  pub two-view : twoKind (getD s at 0) ≡ true → TwoView version s at x n
+  two-view = twos version s at (getD s at 0) inner
 
-  pub predicate-view : getD s at 0 ≡ 7 → PredicateView s at x n
+  pub predicate-view : getD s at 0 ≡ 7 → PredicateView version s at x n
   unfolding choose conditionKinds
-  predicate-view k = acting-view s at (of-kind 7 k)
+  predicate-view k = acting-view version s at (of-kind 7 k)
 
-  pub comparison-view : getD s at 0 ≡ 8 → ComparisonView s at x n
+  pub comparison-view : getD s at 0 ≡ 8 → ComparisonView version s at x n
   unfolding choose conditionKinds
-  comparison-view k = testing-view s at (of-kind 8 k)
+  comparison-view k = testing-view version s at (of-kind 8 k)
 
-  pub exists-view : getD s at 0 ≡ 9 → ExistsView s at x n
+  pub exists-view : getD s at 0 ≡ 9 → ExistsView version s at x n
   unfolding choose conditionKinds
-  exists-view k = binding-view s at (of-kind 9 k)
+  exists-view k = binding-view version s at (of-kind 9 k)
 
   pub timepoint-view : getD s at 0 ≡ 10 → TimepointView s at x n
   unfolding choose conditionKinds
   timepoint-view k = pointing-view s at (of-kind 10 k)
 
 -- Terms.
-pub record ArithView (s : List ℕ) (at : ℕ) (t : Term) (n : ℕ) : Type 0 where
+pub record ArithView (version : ℕ) (s : List ℕ) (at : ℕ) (t : Term) (n : ℕ) : Type 0 where
   pub left : Term
   pub middle : ℕ
   pub right : Term
-  pub reads : termAt levels false s (at + 1) ≡ got left middle
-  pub further : termAt levels false s middle ≡ got right n
+  pub reads : termAt version levels false s (at + 1) ≡ got left middle
+  pub further : termAt version levels false s middle ≡ got right n
   pub whole : t ≡ tree.arith left right
 
 -- a term that is one part behind its kind byte
@@ -408,20 +409,20 @@ termNumber k = cond (eqb k 14) 13 k
 abbrev pub isLeaf : ℕ → Bool
 isLeaf k = cond (eqb k 11) false (cond (eqb k 12) false true)
 
-module _ (s : List ℕ) (at : ℕ) {t : Term} {n : ℕ} where
-  adding-view : arithOf (conditionAt levels) (termAt levels) false s (at + 1) ≡ got t n → ArithView s at t n
+module _ (version : ℕ) (s : List ℕ) (at : ℕ) {t : Term} {n : ℕ} where
+  adding-view : arithOf version (conditionAt version levels) (termAt version levels) false s (at + 1) ≡ got t n → ArithView version s at t n
   unfolding arithOf
   adding-view e =
-      let a = split (termAt levels false s (at + 1)) _ e in
-      let b = split (termAt levels false s (a .place)) _ (a .rest) in
+      let a = split (termAt version levels false s (at + 1)) _ e in
+      let b = split (termAt version levels false s (a .place)) _ (a .rest) in
       record { left = a .value; middle = a .place; right = b .value; reads = a .first; further = b .first ∙ ap (got (b .value)) (got-place (b .rest)); whole = sym (got-value (b .rest)) }
 
-  numbers : (k : ℕ) → choose k (termKinds (conditionAt levels) (termAt levels) false) s (at + 1) ≡ got t n → termNumber k ≡ termKindOf t
+  numbers : (k : ℕ) → choose k (termKinds version (conditionAt version levels) (termAt version levels) false) s (at + 1) ≡ got t n → termNumber k ≡ termKindOf t
   unfolding choose termKinds Each keysUpTo
   numbers =
       let own : (u : Term) → got u (at + 1) ≡ got t n → termKindOf u ≡ termKindOf t = λ u e. ap termKindOf (got-value e) in
       let is : (u : Term) → t ≡ u → termKindOf u ≡ termKindOf t = λ u e. ap termKindOf (sym e) in
-      by-kind s (at + 1) 14 (termKinds (conditionAt levels) (termAt levels) false) refl (λ k. termNumber k ≡ termKindOf t)
+      by-kind s (at + 1) 14 (termKinds version (conditionAt version levels) (termAt version levels) false) refl (λ k. termNumber k ≡ termKindOf t)
       (tt
       & no-value
       & (λ e. is _ (part-view (stringOf pathName) entity s at e .whole))
@@ -433,31 +434,31 @@ module _ (s : List ℕ) (at : ℕ) {t : Term} {n : ℕ} where
       & (λ e. is _ (part-view pathOf scopeField s at e .whole))
       & (λ e. is _ (part-view (stringOf plain) var s at e .whole))
       & own wildcard
-      & (λ e. is _ (part-view (elementList (conditionAt levels) (termAt levels)) array s at e .whole))
-      & (λ e. is _ (part-view (aggregateOf (conditionAt levels) (termAt levels)) aggregate s at e .whole))
+      & (λ e. is _ (part-view (elementList version (conditionAt version levels) (termAt version levels)) array s at e .whole))
+      & (λ e. is _ (part-view (aggregateOf version (conditionAt version levels) (termAt version levels)) aggregate s at e .whole))
       & (λ e. is _ (adding-view e .whole))
       & own sigil
       & own sigil)
 
 -- One view for each shape, by the kind byte.
-module _ (s : List ℕ) (at : ℕ) {t : Term} {n : ℕ} (e : termAt levels false s at ≡ got t n) where
+module _ (version : ℕ) (s : List ℕ) (at : ℕ) {t : Term} {n : ℕ} (e : termAt version levels false s at ≡ got t n) where
   pub term-inside : at < length s
   unfolding termAt
   term-inside = u8-view s at (split (u8 s at) _ e .first) .0
 
-  inner-term : choose (getD s at 0) (termKinds (conditionAt levels) (termAt levels) false) s (at + 1) ≡ got t n
+  inner-term : choose (getD s at 0) (termKinds version (conditionAt version levels) (termAt version levels) false) s (at + 1) ≡ got t n
   unfolding termAt
   inner-term =
-      let a = split (u8 s at) _ (term-wider false 32 33 (omega arith) s at t n e) in
+      let a = split (u8 s at) _ (term-wider version false 32 33 (omega arith) s at t n e) in
       let v = u8-view s at (a .first) in
       let r = a .rest in
       rw (← v .1, ← v .2) r
 
-  of-term-kind : (k : ℕ) → getD s at 0 ≡ k → choose k (termKinds (conditionAt levels) (termAt levels) false) s (at + 1) ≡ got t n
+  of-term-kind : (k : ℕ) → getD s at 0 ≡ k → choose k (termKinds version (conditionAt version levels) (termAt version levels) false) s (at + 1) ≡ got t n
   of-term-kind k i = rw (← i) inner-term
 
   pub term-number : termNumber (getD s at 0) ≡ termKindOf t
-  term-number = numbers s at (getD s at 0) inner-term
+  term-number = numbers version s at (getD s at 0) inner-term
 
   pub entity-view : getD s at 0 ≡ 1 → PartView (stringOf pathName) entity s at t n
   unfolding choose termKinds
@@ -475,20 +476,20 @@ module _ (s : List ℕ) (at : ℕ) {t : Term} {n : ℕ} (e : termAt levels false
   unfolding choose termKinds
   var-view k = part-view _ _ s at (of-term-kind 8 k)
 
-  pub array-view : getD s at 0 ≡ 10 → PartView (elementList (conditionAt levels) (termAt levels)) array s at t n
+  pub array-view : getD s at 0 ≡ 10 → PartView (elementList version (conditionAt version levels) (termAt version levels)) array s at t n
   unfolding choose termKinds
   array-view k = part-view _ _ s at (of-term-kind 10 k)
 
-  pub aggregate-view : getD s at 0 ≡ 11 → PartView (aggregateOf (conditionAt levels) (termAt levels)) aggregate s at t n
+  pub aggregate-view : getD s at 0 ≡ 11 → PartView (aggregateOf version (conditionAt version levels) (termAt version levels)) aggregate s at t n
   unfolding choose termKinds
   aggregate-view k = part-view _ _ s at (of-term-kind 11 k)
 
-  pub arith-view : getD s at 0 ≡ 12 → ArithView s at t n
+  pub arith-view : getD s at 0 ≡ 12 → ArithView version s at t n
   unfolding choose termKinds
-  arith-view k = adding-view s at (of-term-kind 12 k)
+  arith-view k = adding-view version s at (of-term-kind 12 k)
 
 -- Aggregates, from their own kind byte on.
-pub record SumView (s : List ℕ) (at : ℕ) (x : Aggregate) (n : ℕ) : Type 0 where
+pub record SumView (version : ℕ) (s : List ℕ) (at : ℕ) (x : Aggregate) (n : ℕ) : Type 0 where
   pub own : Span
   pub summand : Slot
   pub list : ℕ
@@ -498,17 +499,17 @@ pub record SumView (s : List ℕ) (at : ℕ) (x : Aggregate) (n : ℕ) : Type 0 
   pub spans : span s (at + 1) ≡ got own (at + 9)
   pub adds : slot s (at + 9) ≡ got summand list
   pub declares : counted (each binder) s list ≡ got declared middle
-  pub reads : conditionAt levels s middle ≡ got body n
+  pub reads : conditionAt version levels s middle ≡ got body n
   pub whole : x ≡ sum own summand declared body
 
-pub record CountView (s : List ℕ) (at : ℕ) (x : Aggregate) (n : ℕ) : Type 0 where
+pub record CountView (version : ℕ) (s : List ℕ) (at : ℕ) (x : Aggregate) (n : ℕ) : Type 0 where
   pub own : Span
   pub declared : List Binder
   pub middle : ℕ
   pub body : Condition
   pub spans : span s (at + 1) ≡ got own (at + 9)
   pub declares : counted (each binder) s (at + 9) ≡ got declared middle
-  pub reads : conditionAt levels s middle ≡ got body n
+  pub reads : conditionAt version levels s middle ≡ got body n
   pub whole : x ≡ count own declared body
 
 pub record CallView (s : List ℕ) (at : ℕ) (x : Aggregate) (n : ℕ) : Type 0 where
@@ -525,13 +526,19 @@ aggregate-head : {s : List ℕ} {at : ℕ} {x y : Aggregate} (k : ℕ) → span 
 aggregate-head k spans whole kind = record { spans = rw whole spans; kind = rw whole kind }
 
 module _ (s : List ℕ) (at : ℕ) {x : Aggregate} {n : ℕ} where
-  summing-view : sumOf (conditionAt levels) (termAt levels) s (at + 1) ≡ got x n → SumView s at x n
+  calling-view : next (span s (at + 1)) (λ v m. got (call v) m) ≡ got x n → CallView s at x n
+  calling-view e =
+      let a = after-span s at _ e in
+      record { own = a .own; spans = a .spans; end = sym (got-place (a .rest)); whole = sym (got-value (a .rest)) }
+
+module _ (version : ℕ) (s : List ℕ) (at : ℕ) {x : Aggregate} {n : ℕ} where
+  summing-view : sumOf version (conditionAt version levels) (termAt version levels) s (at + 1) ≡ got x n → SumView version s at x n
   unfolding sumOf
   summing-view e =
       let a = after-span s at _ e in
       let b = split (slot s (at + 9)) _ (a .rest) in
       let d = split (counted (each binder) s (b .place)) _ (b .rest) in
-      let f = split (conditionAt levels s (d .place)) _ (d .rest) in
+      let f = split (conditionAt version levels s (d .place)) _ (d .rest) in
       record {
         own = a .own;
         summand = b .value;
@@ -546,12 +553,12 @@ module _ (s : List ℕ) (at : ℕ) {x : Aggregate} {n : ℕ} where
         whole = sym (got-value (f .rest));
       }
 
-  counting-view : countOf (conditionAt levels) (termAt levels) s (at + 1) ≡ got x n → CountView s at x n
+  counting-view : countOf version (conditionAt version levels) (termAt version levels) s (at + 1) ≡ got x n → CountView version s at x n
   unfolding countOf
   counting-view e =
       let a = after-span s at _ e in
       let d = split (counted (each binder) s (at + 9)) _ (a .rest) in
-      let f = split (conditionAt levels s (d .place)) _ (d .rest) in
+      let f = split (conditionAt version levels s (d .place)) _ (d .rest) in
       record {
         own = a .own;
         declared = d .value;
@@ -563,19 +570,14 @@ module _ (s : List ℕ) (at : ℕ) {x : Aggregate} {n : ℕ} where
         whole = sym (got-value (f .rest));
       }
 
-  calling-view : next (span s (at + 1)) (λ v m. got (call v) m) ≡ got x n → CallView s at x n
-  calling-view e =
-      let a = after-span s at _ e in
-      record { own = a .own; spans = a .spans; end = sym (got-place (a .rest)); whole = sym (got-value (a .rest)) }
-
-  aggregate-heads : (k : ℕ) → choose k (aggregateKinds (conditionAt levels) (termAt levels)) s (at + 1) ≡ got x n → AggregateHead s at x k
+  aggregate-heads : (k : ℕ) → choose k (aggregateKinds version (conditionAt version levels) (termAt version levels)) s (at + 1) ≡ got x n → AggregateHead s at x k
   unfolding choose aggregateKinds Each keysUpTo
   aggregate-heads =
-      by-kind s (at + 1) 3 (aggregateKinds (conditionAt levels) (termAt levels)) refl (AggregateHead s at x)
-      ((((tt, no-value), λ e. let v = summing-view e in aggregate-head 1 (v .spans) (v .whole) refl), λ e. let v = counting-view e in aggregate-head 2 (v .spans) (v .whole) refl), λ e. let v = calling-view e in aggregate-head 3 (v .spans) (v .whole) refl)
+      by-kind s (at + 1) 3 (aggregateKinds version (conditionAt version levels) (termAt version levels)) refl (AggregateHead s at x)
+      ((((tt, no-value), λ e. let v = summing-view e in aggregate-head 1 (v .spans) (v .whole) refl), λ e. let v = counting-view e in aggregate-head 2 (v .spans) (v .whole) refl), λ e. let v = calling-view s at e in aggregate-head 3 (v .spans) (v .whole) refl)
 
-module _ (s : List ℕ) (at : ℕ) {x : Aggregate} {n : ℕ} (e : aggregateOf (conditionAt levels) (termAt levels) s at ≡ got x n) where
-  inner-aggregate : choose (getD s at 0) (aggregateKinds (conditionAt levels) (termAt levels)) s (at + 1) ≡ got x n
+module _ (version : ℕ) (s : List ℕ) (at : ℕ) {x : Aggregate} {n : ℕ} (e : aggregateOf version (conditionAt version levels) (termAt version levels) s at ≡ got x n) where
+  inner-aggregate : choose (getD s at 0) (aggregateKinds version (conditionAt version levels) (termAt version levels)) s (at + 1) ≡ got x n
   unfolding aggregateOf
   inner-aggregate =
       let a = split (u8 s at) _ e in
@@ -583,19 +585,19 @@ module _ (s : List ℕ) (at : ℕ) {x : Aggregate} {n : ℕ} (e : aggregateOf (c
       let r = a .rest in
       rw (← v .1, ← v .2) r
 
-  of-aggregate-kind : (k : ℕ) → getD s at 0 ≡ k → choose k (aggregateKinds (conditionAt levels) (termAt levels)) s (at + 1) ≡ got x n
+  of-aggregate-kind : (k : ℕ) → getD s at 0 ≡ k → choose k (aggregateKinds version (conditionAt version levels) (termAt version levels)) s (at + 1) ≡ got x n
   of-aggregate-kind k i = rw (← i) inner-aggregate
 
   pub aggregate-head-view : AggregateHead s at x (getD s at 0)
-  aggregate-head-view = aggregate-heads s at (getD s at 0) inner-aggregate
+  aggregate-head-view = aggregate-heads version s at (getD s at 0) inner-aggregate
 
-  pub sum-view : getD s at 0 ≡ 1 → SumView s at x n
+  pub sum-view : getD s at 0 ≡ 1 → SumView version s at x n
   unfolding choose aggregateKinds
-  sum-view k = summing-view s at (of-aggregate-kind 1 k)
+  sum-view k = summing-view version s at (of-aggregate-kind 1 k)
 
-  pub count-view : getD s at 0 ≡ 2 → CountView s at x n
+  pub count-view : getD s at 0 ≡ 2 → CountView version s at x n
   unfolding choose aggregateKinds
-  count-view k = counting-view s at (of-aggregate-kind 2 k)
+  count-view k = counting-view version s at (of-aggregate-kind 2 k)
 
   pub call-view : getD s at 0 ≡ 3 → CallView s at x n
   unfolding choose aggregateKinds

@@ -65,43 +65,43 @@ use Rattle.condition.proofs.read.+read_aggregate+read_arguments+read_ar
 }
 
 abbrev μ-read-aggregate : Measures 1 read-aggregate-kinds.ps ℕ
-μ-read-aggregate κs a = a .1 .1 .0 + a .1 .1 .0 + a .1 .1 .0 + 2
+μ-read-aggregate κs a = a .1 .1 .1 .0 + a .1 .1 .1 .0 + a .1 .1 .1 .0 + 2
 
 abbrev μ-read-arguments : Measures 1 read-arguments-kinds.ps ℕ
-μ-read-arguments κs a = a .1 .1 .0 + a .1 .1 .0 + a .1 .1 .0 + 1
+μ-read-arguments κs a = a .1 .1 .1 .0 + a .1 .1 .1 .0 + a .1 .1 .1 .0 + 1
 
 abbrev μ-read-arith : Measures 1 read-arith-kinds.ps ℕ
-μ-read-arith κs a = a .1 .1 .0 + a .1 .1 .0 + a .1 .1 .0 + 1
+μ-read-arith κs a = a .1 .1 .1 .0 + a .1 .1 .1 .0 + a .1 .1 .1 .0 + 1
 
 abbrev μ-read-binary : Measures 1 read-binary-kinds.ps ℕ
-μ-read-binary κs a = a .1 .1 .0 + a .1 .1 .0 + a .1 .1 .0 + 1
+μ-read-binary κs a = a .1 .1 .1 .0 + a .1 .1 .1 .0 + a .1 .1 .1 .0 + 1
 
 abbrev μ-read-comparison : Measures 1 read-comparison-kinds.ps ℕ
-μ-read-comparison κs a = a .1 .1 .0 + a .1 .1 .0 + a .1 .1 .0 + 1
+μ-read-comparison κs a = a .1 .1 .1 .0 + a .1 .1 .1 .0 + a .1 .1 .1 .0 + 1
 
 abbrev μ-read-count : Measures 1 read-count-kinds.ps ℕ
-μ-read-count κs a = a .1 .1 .0 + a .1 .1 .0 + a .1 .1 .0 + 1
+μ-read-count κs a = a .1 .1 .1 .0 + a .1 .1 .1 .0 + a .1 .1 .1 .0 + 1
 
 abbrev μ-read-elements : Measures 1 read-elements-kinds.ps ℕ
-μ-read-elements κs a = a .1 .1 .0 + a .1 .1 .0 + a .1 .1 .0 + 1
+μ-read-elements κs a = a .1 .1 .1 .0 + a .1 .1 .1 .0 + a .1 .1 .1 .0 + 1
 
 abbrev μ-read-exists : Measures 1 read-exists-kinds.ps ℕ
-μ-read-exists κs a = a .1 .1 .0 + a .1 .1 .0 + a .1 .1 .0 + 1
+μ-read-exists κs a = a .1 .1 .1 .0 + a .1 .1 .1 .0 + a .1 .1 .1 .0 + 1
 
 abbrev μ-read-predicate : Measures 1 read-predicate-kinds.ps ℕ
-μ-read-predicate κs a = a .1 .1 .0 + a .1 .1 .0 + a .1 .1 .0 + 2
+μ-read-predicate κs a = a .1 .1 .1 .0 + a .1 .1 .1 .0 + a .1 .1 .1 .0 + 2
 
 abbrev μ-read-subcondition : Measures 1 read-subcondition-kinds.ps ℕ
-μ-read-subcondition κs a = a .1 .1 .0 + a .1 .1 .0 + a .1 .1 .0
+μ-read-subcondition κs a = a .1 .1 .1 .0 + a .1 .1 .1 .0 + a .1 .1 .1 .0
 
 abbrev μ-read-sum : Measures 1 read-sum-kinds.ps ℕ
-μ-read-sum κs a = a .1 .1 .0 + a .1 .1 .0 + a .1 .1 .0 + 1
+μ-read-sum κs a = a .1 .1 .1 .0 + a .1 .1 .1 .0 + a .1 .1 .1 .0 + 1
 
 abbrev μ-read-term : Measures 1 read-term-kinds.ps ℕ
-μ-read-term κs a = a .1 .1 .0 + a .1 .1 .0 + a .1 .1 .0
+μ-read-term κs a = a .1 .1 .1 .0 + a .1 .1 .1 .0 + a .1 .1 .1 .0
 
 abbrev μ-read-unary : Measures 1 read-unary-kinds.ps ℕ
-μ-read-unary κs a = a .1 .1 .0 + a .1 .1 .0 + a .1 .1 .0 + 1
+μ-read-unary κs a = a .1 .1 .1 .0 + a .1 .1 .1 .0 + a .1 .1 .1 .0 + 1
 
 -- What a member is given at the measure t, and what a call of it asks below t.
 abbrev read-aggregate-at : ℕ → In 1 read-aggregate-kinds.ps
@@ -207,10 +207,10 @@ abbrev read-arguments-given : ℕ → read-arguments-lts.Claims
 read-arguments-given t = (wide-reads.Asked, wide-reads.Learnt, read-string-reads.Asked, read-string-reads.Learnt, read-path-reads.Asked, read-path-reads.Learnt, read-term-below t, read-term.Post)
 
 abbrev read-arguments-Inv-loop : read-arguments-lts.InvT-loop
-read-arguments-Inv-loop s start left rest₀ at₀ rest at = ending (argumentList (conditionAt left) (termAt left) s start) ≡ ending (arguments (conditionAt left) (termAt left) rest s at)
+read-arguments-Inv-loop s start version left rest₀ at₀ rest at = ending (argumentList version (conditionAt version left) (termAt version left) s start) ≡ ending (arguments version (conditionAt version left) (termAt version left) rest s at)
 
 abbrev read-arguments-μ-loop : read-arguments-lts.MeasureT-loop
-read-arguments-μ-loop s start left rest₀ at₀ rest at = rest
+read-arguments-μ-loop s start version left rest₀ at₀ rest at = rest
 
 read-arguments-met : {M : Type 1} (t : ℕ) → read-arguments-lts.Closed (read-arguments-given t) (read-arguments-at t) read-arguments.Post M
 read-arguments-met t =
@@ -314,10 +314,10 @@ abbrev read-elements-given : ℕ → read-elements-lts.Claims
 read-elements-given t = (wide-reads.Asked, wide-reads.Learnt, read-term-below t, read-term.Post)
 
 abbrev read-elements-Inv-loop : read-elements-lts.InvT-loop
-read-elements-Inv-loop s start left rest₀ at₀ rest at = ending (elementList (conditionAt left) (termAt left) s start) ≡ ending (elements (conditionAt left) (termAt left) rest s at)
+read-elements-Inv-loop s start version left rest₀ at₀ rest at = ending (elementList version (conditionAt version left) (termAt version left) s start) ≡ ending (elements version (conditionAt version left) (termAt version left) rest s at)
 
 abbrev read-elements-μ-loop : read-elements-lts.MeasureT-loop
-read-elements-μ-loop s start left rest₀ at₀ rest at = rest
+read-elements-μ-loop s start version left rest₀ at₀ rest at = rest
 
 read-elements-met : {M : Type 1} (t : ℕ) → read-elements-lts.Closed (read-elements-given t) (read-elements-at t) read-elements.Post M
 read-elements-met t =

@@ -1,15 +1,16 @@
 -- `condition::read::read_condition` meets its contract. Assumes nothing.
-use mathlib.Core.Path.{_≡_}
+use mathlib.Core.Path.{_≡_, sym, ap, _∙_}
 use mathlib.Core.List.{List, [], _∷_}
 use Prim.Native.Nat.{ℕ}
 use borrow.Author.Needs.{needs}
 use Rattle.names.specs.declared.Read.{Read}
 use Rattle.names.specs.declared.Read.the-variants.{Next, Refused}
-use Rattle.names.specs.Fields.{heading, finished, whole, levels}
+use Rattle.names.specs.Fields.{got, heading, finished, whole, levels}
 use Rattle.names.specs.Read.{ending}
-use Rattle.names.specs.Laws.Readers.{stops, goes}
+use Rattle.names.specs.Laws.Readers.{heading-version, stops, goes}
 use Rattle.names.specs.Laws.Records.{start-stops, start-goes, at-end}
 use Rattle.condition.specs.Condition.{conditionAt, conditionRecord}
+use Rattle.condition.specs.Places.{versionIn}
 use Rattle.condition.proofs.read.read_condition.Statement.{statement}
 use Rattle.condition.proofs.read.read_condition.Tie as tie
 
@@ -18,14 +19,19 @@ module _ (s : List ℕ) (x : Read) (is : x ≡ ending (whole (heading (68 ∷ 87
   unfolding conditionRecord
   no-heading r e = start-stops (68 ∷ 87 ∷ 67 ∷ []) 1 s _ x is r e
 
-  module _ (at : ℕ) (e : x ≡ Next at) (y : Read) (is′ : y ≡ ending (conditionAt levels s at)) where
+  module _ (at : ℕ) (e : x ≡ Next at) (version : ℕ) (is-version : version ≡ versionIn s) (y : Read) (is′ : y ≡ ending (conditionAt version levels s at)) where
+    -- the version that the heading gives is the one that the code took
+    root-is : (v : ℕ) → heading (68 ∷ 87 ∷ 67 ∷ []) 1 s 0 ≡ got v at → y ≡ ending (conditionAt v levels s at)
+    unfolding versionIn
+    root-is v h = is′ ∙ ap (λ w. ending (conditionAt w levels s at)) (is-version ∙ sym (heading-version (68 ∷ 87 ∷ 67 ∷ []) 1 s h))
+
     no-root : (r : ℕ) → y ≡ Refused r → y ≡ ending (whole conditionRecord s)
     unfolding conditionRecord
-    no-root r f = start-goes (68 ∷ 87 ∷ 67 ∷ []) 1 s _ x is at e (λ _ _. stops _ _ f is′)
+    no-root r f = start-goes (68 ∷ 87 ∷ 67 ∷ []) 1 s _ x is at e (λ v h. stops _ _ f (root-is v h))
 
     ended : (end : ℕ) → y ≡ Next end → (z : Read) → z ≡ ending (finished end s end) → z ≡ ending (whole conditionRecord s)
     unfolding conditionRecord
-    ended end f z i = start-goes (68 ∷ 87 ∷ 67 ∷ []) 1 s _ x is at e (λ _ _. goes _ _ f is′ λ c _. at-end c s end z i)
+    ended end f z i = start-goes (68 ∷ 87 ∷ 67 ∷ []) 1 s _ x is at e (λ v h. goes _ _ f (root-is v h) λ c _. at-end c s end z i)
 
 ruleset steps = (needs, no-heading, no-root, ended)
 
@@ -38,6 +44,7 @@ read-condition-spec =
     (λ c. search steps)
     (λ c. search steps)
     (λ c. search steps)
+    (λ c κs. search steps)
     (λ c κs. search steps)
     (λ c. search steps)
     (λ c. search steps)

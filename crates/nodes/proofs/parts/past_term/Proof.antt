@@ -8,7 +8,7 @@ past-term-spec =
     tie.close
     (tie.spec
     (λ c κs. search past-terms)
-    (λ c. search past-terms)
+    (λ c κs. search past-terms)
     (λ c κs. search past-terms)
     (λ c. search past-terms)
     (λ c κs. search past-terms)
@@ -17,6 +17,7 @@ past-term-spec =
     (λ c. search past-terms)
     (λ c κs. search past-terms)
     (λ c. search past-terms)
+    (λ c κs. search past-terms)
     (λ c κs. search past-terms)
     (λ c κs. search past-terms)
     (λ c. search past-terms))
