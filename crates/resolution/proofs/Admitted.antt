@@ -18,7 +18,8 @@ use Rattle.types.specs.declared.Tag.{Tag}
 use Rattle.types.specs.declared.Base.the-variants as Base
 use Rattle.schema.specs.Schema.{Schema, EntityType, Action}
 use Rattle.schema.specs.Find.{findEntity}
-use Rattle.schema.specs.Places.{schemaIn, isEntity, entityIn, actionIn, FindsEntity}
+use Rattle.schema.specs.Places.{schemaIn, isEntity, entityIn, actionIn, FindsEntity, Nearby, Near}
+use Rattle.schema.specs.Laws.Nearby.{nearby-all, near-word}
 use Rattle.names.specs.declared.Found.{Found}
 use Rattle.names.specs.declared.Found.the-variants as Found
 use Rattle.names.specs.declared.Row.{Row}
@@ -27,10 +28,12 @@ use Rattle.targets.specs.Places.{narrowed, targetsIn}
 use Rattle.targets.specs.declared.Narrowed.{Narrowed}
 use Rattle.targets.specs.declared.Narrowed.the-variants as Narrowed
 use Rattle.resolution.specs.Resolution.{ancestorsOf, admits, admittedBy, sideAdmits, admitted, admitsAnyEnv, entityOf, scopeType}
-use Rattle.resolution.specs.Places.{areTypes, typesIn, isAbsent, nextIn, Follows, nextFollows, NextOf, typedOf, smallType}
+use Rattle.resolution.specs.Places.{areTypes, typesIn, isAbsent, Nearer, nextIn, Follows, nextFollows, NextOf, NextNearOf, NextPlaced, typedOf, smallType}
 use Rattle.resolution.specs.Laws.Sizes.{Bytes, simple-short, word-short}
 use Rattle.resolution.specs.declared.Next.{Next}
 use Rattle.resolution.specs.declared.Next.the-variants as Next
+use Rattle.resolution.specs.declared.NextNear.{NextNear}
+use Rattle.resolution.specs.declared.NextNear.the-variants as NextNear
 use Rattle.resolution.specs.declared.Typed.{Typed}
 use Rattle.resolution.specs.declared.Typed.the-variants as Typed
 
@@ -58,7 +61,7 @@ module _ (s name group : List ℕ) (b : Bool) (is-b : b ≡ same name group) whe
         let i : findEntity (schemaIn s) name ≡ some (entityIn s at) = sym (finds .value) ∙ rw g in
         rw (← is-b, e, i) is
 
-pub ruleset among = (needs, in-itself, in-undeclared, in-declared, in-ancestors)
+pub ruleset among = (needs, near-word, in-itself, in-undeclared, in-declared, in-ancestors)
 
 -- The narrowings.
 module _ (s : Schema) (n name : List ℕ) (x : Narrowed) where
@@ -87,7 +90,64 @@ module _ (s : Schema) (n name : List ℕ) (x : Narrowed) where
     unfolding admittedBy admits
     narrow-member e is = rw (e, ← is-w) is
 
-pub ruleset narrowing = (needs, narrow-absent, narrow-any, narrow-type, narrow-uid, narrow-member)
+-- Where the next search for an entity type begins.
+module _ (s name : List ℕ) (x : Narrowed) (r : Row) where
+  pub nearer-absent : x ≡ Narrowed.Absent → Nearby s r → Nearer s name x r
+  nearer-absent e l = record { row = l; near = rw e l }
+
+  pub nearer-any : x ≡ Narrowed.Any → Nearby s r → Nearer s name x r
+  nearer-any e l = record { row = l; near = rw e l }
+
+  pub nearer-type : (p : ℕ) → x ≡ Narrowed.IsType p → Nearby s r → Nearer s name x r
+  nearer-type p e l = record { row = l; near = rw e l }
+
+  pub nearer-uid : (p : ℕ) → x ≡ Narrowed.Uid p → Nearby s r → Nearer s name x r
+  nearer-uid p e l = record { row = l; near = rw e l }
+
+  pub nearer-member : (p : ℕ) → x ≡ Narrowed.Member p → Near s name r → Nearer s name x r
+  nearer-member p e l = record { row = l .row; near = rw e l }
+
+  pub member-near : (p : ℕ) → x ≡ Narrowed.Member p → Nearer s name x r → Near s name r
+  member-near p e l = rw e at (l .near)
+
+-- What a pass found, and where it goes on.
+module _ (s : List ℕ) (test : List ℕ → Bool) (row : Row) (x : NextNear) where
+  pub next-from : NextNearOf s test row x → (p : ℕ) (rest near : Row) → x ≡ NextNear.Name p rest near → Nearby s near
+  next-from l p rest near e = rw e at (l .near)
+
+  pub plain-name : NextNearOf s test row x → (p : ℕ) (rest near : Row) → x ≡ NextNear.Name p rest near → NextOf s test row (Next.Name p rest)
+  plain-name l p rest near e = rw e at (l .next)
+
+  pub plain-over : NextNearOf s test row x → x ≡ NextNear.Over → NextOf s test row Next.Over
+  plain-over l e = rw e at (l .next)
+
+-- The same with the search for its entity type.
+module _ (s : List ℕ) (test : List ℕ → Bool) (row : Row) (x : NextNear) where
+  module _ (l : NextNearOf s test row x) where
+    pub placed-name : (p : ℕ) (rest around : Row) → x ≡ NextNear.Name p rest around → (w : List ℕ) → w ≡ wordAt s p → (near : Row) → Near s w near → NextPlaced s test row (NextNear.Name p rest near)
+    placed-name p rest around e w is-w near at = record { next = plain-name s test row x l p rest around e; near = rw (← is-w) at }
+
+    pub placed-over : x ≡ NextNear.Over → NextPlaced s test row NextNear.Over
+    placed-over e = record { next = plain-over s test row x l e; near = omega arith }
+
+  pub placed-near : NextPlaced s test row x → (p : ℕ) (rest near : Row) → x ≡ NextNear.Name p rest near → Near s (wordAt s p) near
+  placed-near l p rest near e = rw e at (l .near)
+
+  pub placed-nearby : NextPlaced s test row x → (p : ℕ) (rest near : Row) → x ≡ NextNear.Name p rest near → Nearby s near
+  placed-nearby l p rest near e = placed-near l p rest near e .row
+
+pub ruleset placing = (needs, next-from, placed-name, placed-over)
+
+pub ruleset nearby = (needs, nearby-all, nearer-absent, nearer-any, nearer-type, nearer-uid, nearer-member, plain-name, plain-over)
+
+-- for a walk along both rows, what is known of the one beside where the search in the other goes on
+pub record Along (P : Type 0) (s : List ℕ) (near : Row) : Type 0 where
+  pub own : P
+  pub begins : Nearby s near
+
+pub ruleset alongside = (nearby-all, near-word, placed-near, placed-nearby)
+
+pub ruleset narrowing = (needs, member-near, narrow-absent, narrow-any, narrow-type, narrow-uid, narrow-member)
 
 -- A pass over a row of names, by a test.
 module _ (s : List ℕ) (test : List ℕ → Bool) (row : Row) where

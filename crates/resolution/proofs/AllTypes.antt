@@ -14,16 +14,17 @@ use Rattle.types.specs.declared.Rich.{Rich}
 use Rattle.schema.specs.Schema.{Schema, EntityType}
 use Rattle.schema.specs.Find.{findEntity}
 use Rattle.schema.specs.Places.{schemaIn, isEntity, entityIn, FindsEntity}
+use Rattle.schema.specs.Laws.Nearby.{nearby-all}
 use Rattle.names.specs.declared.Found.{Found}
 use Rattle.names.specs.declared.Found.the-variants as Found
 use Rattle.names.specs.declared.Row.{Row}
 use Rattle.targets.specs.Targets.{Narrowing}
 use Rattle.resolution.specs.Resolution as Resolution
 use Rattle.resolution.specs.Resolution.{OnType, ambiguous, unknown, typed, typesOf, failed, agreed, failure, verdict, onEntity, onTypes, declaredAll, admittedBy, admitted, scopePath, renderings}
-use Rattle.resolution.specs.Places.{areSegments, segmentsIn, Behind, areTypes, typesIn, nextIn, Follows, nextFollows, NextOf, endOf, smallEnd, smallPath}
+use Rattle.resolution.specs.Places.{areSegments, segmentsIn, Behind, areTypes, typesIn, nextIn, Follows, nextFollows, NextOf, nextOf, NextPlaced, endOf, smallEnd, smallPath}
 use Rattle.resolution.specs.Passes.{scopeOf, briefly, endAlone, endBeside, endAmong, withEnd, aloneOf, amongOf}
-use Rattle.resolution.specs.declared.Next.{Next}
-use Rattle.resolution.specs.declared.Next.the-variants as Next
+use Rattle.resolution.specs.declared.NextNear.{NextNear}
+use Rattle.resolution.specs.declared.NextNear.the-variants as NextNear
 use Rattle.resolution.specs.declared.PathEnd.{PathEnd}
 use Rattle.resolution.specs.declared.PathEnd.the-variants as PathEnd
 use Rattle.resolution.specs.declared.ScopePath.{ScopePath}
@@ -251,17 +252,17 @@ module _ (s c : List ℕ) (N : Option Narrowing) (head : ℕ) (rest : Row) (o : 
   pub pass-small : (row : Row) (a : ScopePath) → Passing row a → smallPath (scopeOf s c a)
   pass-small row a l = l .small
 
-  module _ (row : Row) (a : ScopePath) (l : Passing row a) (x : Next) (next : NextOf s (admittedBy (schemaIn s) N) row x) where
-    pub pass-over : x ≡ Next.Over → scopeOf s c a ≡ o
+  module _ (row : Row) (a : ScopePath) (l : Passing row a) (x : NextNear) (next : NextPlaced s (admittedBy (schemaIn s) N) row x) where
+    pub pass-over : x ≡ NextNear.Over → scopeOf s c a ≡ o
     unfolding declaredAll onTypes onward
-    pass-over e = rw (← (rw e at (next .value))) at (l .same)
+    pass-over e = rw (← (rw e at (next .next .value))) at (l .same)
 
-    module _ (p : ℕ) (others : Row) (e : x ≡ Next.Name p others) where
+    module _ (p : ℕ) (others near : Row) (e : x ≡ NextNear.Name p others near) where
       pub pass-fewer : others .count < row .count
-      pass-fewer = let f : Follows s row p others = rw e at (next .follows) in f .fewer
+      pass-fewer = let f : Follows s row p others = rw e at (next .next .follows) in f .fewer
 
       here : over (schemaIn s) (wordAt c head) (segmentsIn c rest) (scopeOf s c a) (wordAt s p ∷ select (admittedBy (schemaIn s) N) (typesIn s others)) ≡ o
-      here = ap (over (schemaIn s) (wordAt c head) (segmentsIn c rest) (scopeOf s c a)) (rw e at (next .value)) ∙ l .same
+      here = ap (over (schemaIn s) (wordAt c head) (segmentsIn c rest) (scopeOf s c a)) (rw e at (next .next .value)) ∙ l .same
 
       module _ (w : List ℕ) (is-w : w ≡ wordAt s p) (y : Found) (finds : FindsEntity s (findEntity (schemaIn s) w) y) where
         pub pass-undeclared : y ≡ Found.Absent → scopeOf s c ScopePath.Unknown ≡ o
@@ -275,7 +276,7 @@ module _ (s c : List ℕ) (N : Option Narrowing) (head : ℕ) (rest : Row) (o : 
         pub pass-on : (at : ℕ) → y ≡ Found.At at → (end : PathEnd) → endOf s c end ≡ onEntity (wordAt c head) (segmentsIn c rest) (entityIn s at) → smallEnd (endOf s c end) → (b : ScopePath) → scopeOf s c b ≡ withEnd (scopeOf s c a) (endOf s c end) → Passing others b
         pass-on at g end is fits b joins =
             let i : findEntity (schemaIn s) (wordAt s p) ≡ some (entityIn s at) = rw (← is-w) (sym (finds .value) ∙ rw g) in
-            let f : Follows s row p others = rw e at (next .follows) in
+            let f : Follows s row p others = rw e at (next .next .follows) in
             record {
               stands = f .stands;
               same =
@@ -299,4 +300,4 @@ module _ (s c : List ℕ) (S : Schema) (N : Option Narrowing) (names : List (Lis
   pub scope-whole : (rest : Row) → Behind c path rest → (r : ScopePath) → scopeOf s c r ≡ briefly (scopePath S N names (wordAt c (path .at) ∷ segmentsIn c rest)) → scopeOf s c r ≡ briefly (scopePath S N names (segmentsIn c path))
   scope-whole rest b r is = rw (b .value) at is
 
-pub ruleset whole = (needs, scope-empty, scope-whole)
+pub ruleset whole = (needs, nearby-all, scope-empty, scope-whole)

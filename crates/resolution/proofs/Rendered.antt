@@ -26,10 +26,10 @@ use Rattle.names.specs.declared.Row.{Row}
 use Rattle.targets.specs.Targets.{Narrowing}
 use Rattle.resolution.specs.Resolution as Resolution
 use Rattle.resolution.specs.Resolution.{typed, onEntity, admittedBy, renderings}
-use Rattle.resolution.specs.Places.{areSegments, segmentsIn, Behind, areTypes, typesIn, nextIn, Follows, nextFollows, NextOf, endOf, typedOf, smallEnd, smallType}
+use Rattle.resolution.specs.Places.{areSegments, segmentsIn, Behind, areTypes, typesIn, nextIn, Follows, nextFollows, NextOf, nextOf, NextPlaced, endOf, typedOf, smallEnd, smallType}
 use Rattle.resolution.specs.Passes.{rendered, above, under, closest, typeOn, typesOn, renderingsOn, nextRendered, endType}
-use Rattle.resolution.specs.declared.Next.{Next}
-use Rattle.resolution.specs.declared.Next.the-variants as Next
+use Rattle.resolution.specs.declared.NextNear.{NextNear}
+use Rattle.resolution.specs.declared.NextNear.the-variants as NextNear
 use Rattle.resolution.specs.declared.PathEnd.{PathEnd}
 use Rattle.resolution.specs.declared.PathEnd.the-variants as PathEnd
 use Rattle.resolution.specs.declared.Typed.{Typed}
@@ -145,24 +145,24 @@ module _ (s c : List ℕ) (S : Schema) (N : Option Narrowing) (path : List (List
   pub pick-small : (row : Row) (best : Typed) → Picking row best → smallType (typedOf s c best)
   pick-small row best l = l .small
 
-  module _ (row : Row) (best : Typed) (l : Picking row best) (x : Next) (next : NextOf s (admittedBy S N) row x) where
-    pub pick-over : x ≡ Next.Over → typedOf s c best ≡ o
+  module _ (row : Row) (best : Typed) (l : Picking row best) (x : NextNear) (next : NextPlaced s (admittedBy S N) row x) where
+    pub pick-over : x ≡ NextNear.Over → typedOf s c best ≡ o
     unfolding picked
-    pick-over e = rw (← (rw e at (next .value))) at (l .same)
+    pick-over e = rw (← (rw e at (next .next .value))) at (l .same)
 
-    module _ (p : ℕ) (others : Row) (e : x ≡ Next.Name p others) where
+    module _ (p : ℕ) (others near : Row) (e : x ≡ NextNear.Name p others near) where
       pub pick-fewer : others .count < row .count
-      pick-fewer = let f : Follows s row p others = rw e at (next .follows) in f .fewer
+      pick-fewer = let f : Follows s row p others = rw e at (next .next .follows) in f .fewer
 
       pub pick-on : (t : Typed) → typedOf s c t ≡ typeOn S path (wordAt s p) → (b : Typed) → typedOf s c b ≡ closest last (typedOf s c best) (typedOf s c t) → smallType (typedOf s c b) → Picking others b
       unfolding picked
       pick-on t is b joins fits =
-          let f : Follows s row p others = rw e at (next .follows) in
+          let f : Follows s row p others = rw e at (next .next .follows) in
           record {
             stands = f .stands;
             same =
                 ap (λ (d : Option Ty). picked S path last d (select (admittedBy S N) (typesIn s others))) (joins ∙ ap (closest last (typedOf s c best)) is)
-                ∙ ap (picked S path last (typedOf s c best)) (rw e at (next .value))
+                ∙ ap (picked S path last (typedOf s c best)) (rw e at (next .next .value))
                 ∙ l .same;
             small = fits;
           }

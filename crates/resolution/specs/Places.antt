@@ -13,11 +13,14 @@ use Rattle.types.specs.Types.{Ty}
 use Rattle.types.specs.Laws.Texts.{Small}
 use Rattle.types.specs.Meaning.{richOf}
 use Rattle.names.specs.declared.Row.{Row}
+use Rattle.schema.specs.Places.{Nearby, Near}
 use Rattle.targets.specs.declared.Narrowed.{Narrowed}
 use Rattle.targets.specs.declared.Narrowed.the-variants as Narrowed
 use Rattle.resolution.specs.Resolution as Resolution
 use Rattle.resolution.specs.declared.Next.{Next}
 use Rattle.resolution.specs.declared.Next.the-variants as Next
+use Rattle.resolution.specs.declared.NextNear.{NextNear}
+use Rattle.resolution.specs.declared.NextNear.the-variants as NextNear
 use Rattle.resolution.specs.declared.Typed.{Typed}
 use Rattle.resolution.specs.declared.Typed.the-variants as Typed
 use Rattle.resolution.specs.declared.PathResolution.{PathResolution}
@@ -114,3 +117,37 @@ nextFollows s row Next.Over = 0 ≤ row .count
 pub record NextOf (s : List ℕ) (test : List ℕ → Bool) (row : Row) (r : Next) : Type 0 where
   pub value : nextIn s test r ≡ select test (typesIn s row)
   pub follows : nextFollows s row r
+
+-- where searches for entity types go on: where a narrowing asks for the ancestors of a name, its entity type is found there
+abbrev pub nearFor : List ℕ → List ℕ → Narrowed → Row → Type 0
+nearFor s name Narrowed.Absent r = Nearby s r
+nearFor s name Narrowed.Any r = Nearby s r
+nearFor s name (Narrowed.IsType p) r = Nearby s r
+nearFor s name (Narrowed.Uid p) r = Nearby s r
+nearFor s name (Narrowed.Member p) r = Near s name r
+
+pub record Nearer (s name : List ℕ) (x : Narrowed) (r : Row) : Type 0 where
+  pub row : Nearby s r
+  pub near : nearFor s name x r
+
+-- what a pass finds next, and from where on the next search goes
+abbrev pub nextOf : NextNear → Next
+nextOf (NextNear.Name p rest near) = Next.Name p rest
+nextOf NextNear.Over = Next.Over
+
+abbrev pub nearOf : List ℕ → NextNear → Type 0
+nearOf s (NextNear.Name p rest near) = Nearby s near
+nearOf s NextNear.Over = 0 ≤ 0
+
+pub record NextNearOf (s : List ℕ) (test : List ℕ → Bool) (row : Row) (r : NextNear) : Type 0 where
+  pub next : NextOf s test row (nextOf r)
+  pub near : nearOf s r
+
+-- the same where the entity type of what it finds was looked for besides
+abbrev pub placedOf : List ℕ → NextNear → Type 0
+placedOf s (NextNear.Name p rest near) = Near s (wordAt s p) near
+placedOf s NextNear.Over = 0 ≤ 0
+
+pub record NextPlaced (s : List ℕ) (test : List ℕ → Bool) (row : Row) (r : NextNear) : Type 0 where
+  pub next : NextOf s test row (nextOf r)
+  pub near : placedOf s r

@@ -1,10 +1,10 @@
 // Paths on all the entity types that a scope admits.
-use crate::Next;
+use crate::NextNear;
 use crate::PathEnd;
 use crate::ScopePath;
 use crate::along::behind;
 use crate::entity::resolve_one;
-use crate::scope::next_admitted;
+use crate::scope::next_placed;
 use names::Found;
 use names::Row;
 use targets::Narrowed;
@@ -14,7 +14,7 @@ ghost use mathlib.Core.Bool.{true};
 ghost use mathlib.Core.List.{_∷_};
 ghost use Rattle.names.specs.Read.{wordAt};
 ghost use Rattle.types.specs.Meaning.{richOf};
-ghost use Rattle.schema.specs.Places.{isSchema, schemaIn};
+ghost use Rattle.schema.specs.Places.{isSchema, schemaIn, Nearby};
 ghost use Rattle.targets.specs.Places.{narrowed};
 ghost use Rattle.resolution.specs.Resolution.{scopePath};
 ghost use Rattle.resolution.specs.Places.{areSegments, segmentsIn, areTypes, typesIn, endOf, smallPath};
@@ -88,36 +88,40 @@ fn with_end<'a>(s: &'a [u8], c: &'a [u8], known: ScopePath, end: PathEnd) -> Sco
     }
 }
 
-// The path of a head and the other segments, on all admitted entity types of a row.
+// The path of a head and the other segments, on all admitted entity types of a row, which are looked up from `from` on.
 fn over_types<'a>(
     s: &'a [u8],
     n: &[u8],
     narrowing: Narrowed,
     row: Row,
+    from: Row,
     c: &'a [u8],
     head: usize,
     rest: Row,
 ) -> ScopePath
     requires { ⌜ isSchema (now s) ≡ true ⌝ }
     requires { ⌜ areTypes (now s) row ≡ true ⌝ }
+    requires { ⌜ Nearby (now s) from ⌝ }
     requires { ⌜ areSegments (now c) rest ≡ true ⌝ }
     ensures { λ r. ⌜ scopeOf (now (s .entry)) (now (c .entry)) r ≡ briefly (scopePath (schemaIn (now (s .entry))) (narrowed (now (n .entry)) narrowing) (typesIn (now (s .entry)) row) (wordAt (now (c .entry)) head ∷ segmentsIn (now (c .entry)) rest)) ⌝ }
     ensures { λ r. ⌜ smallPath (scopeOf (now (s .entry)) (now (c .entry)) r) ⌝ }
 {
     let mut left = row;
     let mut known = ScopePath::Unknown;
+    let mut near = from;
     loop {
-        let next = next_admitted(s, n, narrowing, left);
-        let Next::Name(p, others) = next else {
+        let next = next_placed(s, n, narrowing, left, near);
+        let NextNear::Name(p, others, around) = next else {
             return known;
         };
-        let own = schema::entity(s, names::word(s, p));
+        let own = schema::entity_here(s, around, names::word(s, p));
         let Found::At(at) = own else {
             return ScopePath::Unknown;
         };
         let end = resolve_one(s, at, c, head, rest);
         known = with_end(s, c, known, end);
         left = others;
+        near = around;
     }
 }
 
@@ -142,5 +146,6 @@ pub fn resolve_scope_path<'a>(
     }
     let head = path.at;
     let rest = behind(c, path);
-    over_types(s, n, narrowing, row, c, head, rest)
+    let all = schema::entity_row(s);
+    over_types(s, n, narrowing, row, all, c, head, rest)
 }

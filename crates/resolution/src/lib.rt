@@ -59,3 +59,9 @@ pub enum Next {
     Name(usize, Row),
     Over,
 }
+
+// The same, with the row of entity types from which the next search for one begins.
+pub enum NextNear {
+    Name(usize, Row, Row),
+    Over,
+}

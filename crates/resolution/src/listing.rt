@@ -1,9 +1,10 @@
 // What the answers of a scope path list, one after the other, each found by a pass over the entity types of the scope.
 use crate::Next;
+use crate::NextNear;
 use crate::PathEnd;
 use crate::along::behind;
 use crate::entity::resolve_one;
-use crate::scope::next_admitted;
+use crate::scope::next_placed;
 use names::Found;
 use names::Row;
 use targets::Narrowed;
@@ -12,7 +13,7 @@ ghost use mathlib.Core.Bool.{true};
 ghost use mathlib.Core.List.{List, _∷_};
 ghost use Prim.Native.Nat.{ℕ};
 ghost use Rattle.names.specs.Read.{wordAt};
-ghost use Rattle.schema.specs.Places.{isSchema, schemaIn};
+ghost use Rattle.schema.specs.Places.{isSchema, schemaIn, Near};
 ghost use Rattle.targets.specs.Places.{narrowed};
 ghost use Rattle.resolution.specs.Resolution.{missingAt};
 ghost use Rattle.resolution.specs.Places.{areSegments, segmentsIn, areTypes, NextOf, endOf};
@@ -28,13 +29,21 @@ fn is_missing_at(c: &[u8], segment: usize, end: PathEnd) -> bool
     }
 }
 
-// Whether the path fails by a missing segment on the entity type whose name stands at `name`.
-fn fails_at(s: &[u8], name: usize, c: &[u8], head: usize, rest: Row, segment: usize) -> bool
-    requires { ⌜ isSchema (now s) ≡ true ⌝ }
+// Whether the path fails by a missing segment on the entity type whose name stands at `name`. The search for it ended at `near`.
+fn fails_at(
+    s: &[u8],
+    near: Row,
+    name: usize,
+    c: &[u8],
+    head: usize,
+    rest: Row,
+    segment: usize,
+) -> bool
+    requires { ⌜ Near (now s) (wordAt (now s) name) near ⌝ }
     requires { ⌜ areSegments (now c) rest ≡ true ⌝ }
     ensures { λ r. ⌜ r ≡ failsAt (schemaIn (now (s .entry))) (wordAt (now (c .entry)) head ∷ segmentsIn (now (c .entry)) rest) (wordAt (now (c .entry)) segment) (wordAt (now (s .entry)) name) ⌝ }
 {
-    let own = schema::entity(s, names::word(s, name));
+    let own = schema::entity_here(s, near, names::word(s, name));
     let Found::At(at) = own else {
         return false;
     };
@@ -58,15 +67,17 @@ fn failing_from(
     ensures { λ r. ⌜ NextOf (now (s .entry)) (failing (schemaIn (now (s .entry))) (narrowed (now (n .entry)) narrowing) (wordAt (now (c .entry)) head ∷ segmentsIn (now (c .entry)) rest) (wordAt (now (c .entry)) segment)) row r ⌝ }
 {
     let mut left = row;
+    let mut near = schema::entity_row(s);
     loop {
-        let next = next_admitted(s, n, narrowing, left);
-        let Next::Name(p, others) = next else {
+        let next = next_placed(s, n, narrowing, left, near);
+        let NextNear::Name(p, others, around) = next else {
             return Next::Over;
         };
-        if fails_at(s, p, c, head, rest, segment) {
+        if fails_at(s, around, p, c, head, rest, segment) {
             return Next::Name(p, others);
         }
         left = others;
+        near = around;
     }
 }
 

@@ -1,10 +1,10 @@
 // The different texts of the types that a path has on the entity types of a scope, in order: each is found by a pass.
-use crate::Next;
+use crate::NextNear;
 use crate::PathEnd;
 use crate::Typed;
 use crate::along::behind;
 use crate::entity::resolve_one;
-use crate::scope::next_admitted;
+use crate::scope::next_placed;
 use names::Found;
 use names::Row;
 use targets::Narrowed;
@@ -19,7 +19,7 @@ ghost use Rattle.names.specs.Read.{wordAt};
 ghost use Rattle.types.specs.Types.{render};
 ghost use Rattle.types.specs.Laws.Texts.{Small};
 ghost use Rattle.types.specs.Meaning.{richOf};
-ghost use Rattle.schema.specs.Places.{isSchema, schemaIn};
+ghost use Rattle.schema.specs.Places.{isSchema, schemaIn, Near};
 ghost use Rattle.targets.specs.Places.{narrowed};
 ghost use Rattle.resolution.specs.Places.{areSegments, segmentsIn, areTypes, typesIn, typedOf, smallType};
 ghost use Rattle.resolution.specs.Passes.{rendered, above, under, closest, typeOn, renderingsOn, nextRendered, endType};
@@ -89,14 +89,14 @@ fn end_type(end: PathEnd) -> Typed
     }
 }
 
-// The type of the path on the entity type whose name stands at `name`.
-fn type_on(s: &[u8], name: usize, c: &[u8], head: usize, rest: Row) -> Typed
-    requires { ⌜ isSchema (now s) ≡ true ⌝ }
+// The type of the path on the entity type whose name stands at `name`. The search for it ended at `near`.
+fn type_on(s: &[u8], near: Row, name: usize, c: &[u8], head: usize, rest: Row) -> Typed
+    requires { ⌜ Near (now s) (wordAt (now s) name) near ⌝ }
     requires { ⌜ areSegments (now c) rest ≡ true ⌝ }
     ensures { λ r. ⌜ typedOf (now (s .entry)) (now (c .entry)) r ≡ typeOn (schemaIn (now (s .entry))) (wordAt (now (c .entry)) head ∷ segmentsIn (now (c .entry)) rest) (wordAt (now (s .entry)) name) ⌝ }
     ensures { λ r. ⌜ smallType (typedOf (now (s .entry)) (now (c .entry)) r) ⌝ }
 {
-    let own = schema::entity(s, names::word(s, name));
+    let own = schema::entity_here(s, near, names::word(s, name));
     let Found::At(at) = own else {
         return Typed::Nothing;
     };
@@ -123,14 +123,16 @@ fn rendering_from<'a>(
 {
     let mut left = row;
     let mut best = Typed::Nothing;
+    let mut near = schema::entity_row(s);
     loop {
-        let next = next_admitted(s, n, narrowing, left);
-        let Next::Name(p, others) = next else {
+        let next = next_placed(s, n, narrowing, left, near);
+        let NextNear::Name(p, others, around) = next else {
             return best;
         };
-        let own = type_on(s, p, c, head, rest);
+        let own = type_on(s, around, p, c, head, rest);
         best = closer(s, c, last, best, own);
         left = others;
+        near = around;
     }
 }
 

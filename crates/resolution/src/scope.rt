@@ -1,5 +1,6 @@
 // What a rule's scope admits.
 use crate::Next;
+use crate::NextNear;
 use crate::Typed;
 use names::Found;
 use names::Row;
@@ -12,29 +13,43 @@ ghost use mathlib.Core.List.{List};
 ghost use Prim.Native.Nat.{ℕ};
 ghost use Rattle.names.specs.Lists.{anyOf};
 ghost use Rattle.names.specs.Names.{same};
-ghost use Rattle.schema.specs.Places.{isSchema, schemaIn, isAction, actionIn};
+ghost use Rattle.schema.specs.Places.{isSchema, schemaIn, isAction, actionIn, Nearby, Near};
 ghost use Rattle.targets.specs.Places.{areTargets, targetsIn, narrowed};
 ghost use Rattle.resolution.specs.Resolution.{ancestorsOf, admittedBy, sideAdmits, admitsAnyEnv, scopeType};
-ghost use Rattle.resolution.specs.Places.{areTypes, typesIn, isAbsent, NextOf, typedOf, smallType};
+ghost use Rattle.resolution.specs.Places.{areTypes, typesIn, isAbsent, Nearer, NextOf, NextNearOf, NextPlaced, typedOf, smallType};
 
-// An entity type is the one named, or lists it among its ancestors.
-fn is_in(s: &[u8], name: &[u8], group: &[u8]) -> bool
-    requires { ⌜ isSchema (now s) ≡ true ⌝ }
+// An entity type is the one named, or lists it among its ancestors. The search for it ended at `near`.
+fn is_in(s: &[u8], near: Row, name: &[u8], group: &[u8]) -> bool
+    requires { ⌜ Near (now s) (now name) near ⌝ }
     ensures { λ r. ⌜ r ≡ (same (now (name .entry)) (now (group .entry)) || anyOf (λ a. same a (now (group .entry))) (ancestorsOf (schemaIn (now (s .entry))) (now (name .entry)))) ⌝ }
 {
     if names::same(name, group) {
         return true;
     }
-    let own = schema::entity(s, name);
+    let own = schema::entity_here(s, near, name);
     let Found::At(at) = own else {
         return false;
     };
     schema::has_ancestor(s, at, group)
 }
 
-// Whether a narrowing, whose type name stands in `n`, admits an entity type. With none, every type is admitted.
-pub fn admits(s: &[u8], n: &[u8], narrowing: Narrowed, name: &[u8]) -> bool
+// The entity types from the one of a name on, where the narrowing asks for its ancestors; else those that there were.
+fn nearer(s: &[u8], narrowing: Narrowed, near: Row, name: &[u8]) -> Row
     requires { ⌜ isSchema (now s) ≡ true ⌝ }
+    requires { ⌜ Nearby (now s) near ⌝ }
+    ensures { λ r. ⌜ Nearer (now (s .entry)) (now (name .entry)) narrowing r ⌝ }
+{
+    match narrowing {
+        Narrowed::Absent => near,
+        Narrowed::Any => near,
+        Narrowed::IsType(_) => near,
+        Narrowed::Uid(_) => near,
+        Narrowed::Member(_) => schema::entity_near(s, near, name),
+    }
+}
+
+fn admits_near(s: &[u8], n: &[u8], narrowing: Narrowed, near: Row, name: &[u8]) -> bool
+    requires { ⌜ Nearer (now s) (now name) narrowing near ⌝ }
     ensures { λ r. ⌜ r ≡ admittedBy (schemaIn (now (s .entry))) (narrowed (now (n .entry)) narrowing) (now (name .entry)) ⌝ }
 {
     match narrowing {
@@ -42,33 +57,77 @@ pub fn admits(s: &[u8], n: &[u8], narrowing: Narrowed, name: &[u8]) -> bool
         Narrowed::Any => true,
         Narrowed::IsType(p) => names::same(name, names::word(n, p)),
         Narrowed::Uid(p) => names::same(name, names::word(n, p)),
-        Narrowed::Member(p) => is_in(s, name, names::word(n, p)),
+        Narrowed::Member(p) => is_in(s, near, name, names::word(n, p)),
     }
 }
 
-// The next entity type of a row that the narrowing admits.
-pub fn next_admitted(s: &[u8], n: &[u8], narrowing: Narrowed, row: Row) -> Next
+// Whether a narrowing, whose type name stands in `n`, admits an entity type. With none, every type is admitted.
+pub fn admits(s: &[u8], n: &[u8], narrowing: Narrowed, name: &[u8]) -> bool
+    requires { ⌜ isSchema (now s) ≡ true ⌝ }
+    ensures { λ r. ⌜ r ≡ admittedBy (schemaIn (now (s .entry))) (narrowed (now (n .entry)) narrowing) (now (name .entry)) ⌝ }
+{
+    let all = schema::entity_row(s);
+    let near = nearer(s, narrowing, all, name);
+    admits_near(s, n, narrowing, near, name)
+}
+
+// The next entity type of a row that the narrowing admits. Searches for entity types begin at `from`, and go on along both rows.
+fn next_near(s: &[u8], n: &[u8], narrowing: Narrowed, row: Row, from: Row) -> NextNear
     requires { ⌜ isSchema (now s) ≡ true ⌝ }
     requires { ⌜ areTypes (now s) row ≡ true ⌝ }
-    ensures { λ r. ⌜ NextOf (now (s .entry)) (admittedBy (schemaIn (now (s .entry))) (narrowed (now (n .entry)) narrowing)) row r ⌝ }
+    requires { ⌜ Nearby (now s) from ⌝ }
+    ensures { λ r. ⌜ NextNearOf (now (s .entry)) (admittedBy (schemaIn (now (s .entry))) (narrowed (now (n .entry)) narrowing)) row r ⌝ }
 {
     let mut at = row.at;
     let mut left = row.count;
+    let mut near = from;
     while 0 < left {
         let next = names::past_word(s, at);
         left -= 1;
-        if admits(s, n, narrowing, names::word(s, at)) {
-            return Next::Name(
+        let name = names::word(s, at);
+        near = nearer(s, narrowing, near, name);
+        if admits_near(s, n, narrowing, near, name) {
+            return NextNear::Name(
                 at,
                 Row {
                     count: left,
                     at: next,
                 },
+                near,
             );
         }
         at = next;
     }
-    Next::Over
+    NextNear::Over
+}
+
+// The same, and the search for its entity type.
+pub fn next_placed(s: &[u8], n: &[u8], narrowing: Narrowed, row: Row, from: Row) -> NextNear
+    requires { ⌜ isSchema (now s) ≡ true ⌝ }
+    requires { ⌜ areTypes (now s) row ≡ true ⌝ }
+    requires { ⌜ Nearby (now s) from ⌝ }
+    ensures { λ r. ⌜ NextPlaced (now (s .entry)) (admittedBy (schemaIn (now (s .entry))) (narrowed (now (n .entry)) narrowing)) row r ⌝ }
+{
+    let next = next_near(s, n, narrowing, row, from);
+    let NextNear::Name(p, rest, around) = next else {
+        return NextNear::Over;
+    };
+    let near = schema::entity_near(s, around, names::word(s, p));
+    NextNear::Name(p, rest, near)
+}
+
+// The next where no search went before.
+pub fn next_admitted(s: &[u8], n: &[u8], narrowing: Narrowed, row: Row) -> Next
+    requires { ⌜ isSchema (now s) ≡ true ⌝ }
+    requires { ⌜ areTypes (now s) row ≡ true ⌝ }
+    ensures { λ r. ⌜ NextOf (now (s .entry)) (admittedBy (schemaIn (now (s .entry))) (narrowed (now (n .entry)) narrowing)) row r ⌝ }
+{
+    let all = schema::entity_row(s);
+    let first = next_near(s, n, narrowing, row, all);
+    match first {
+        NextNear::Name(p, rest, _) => Next::Name(p, rest),
+        NextNear::Over => Next::Over,
+    }
 }
 
 fn is_absent(narrowing: Narrowed) -> bool

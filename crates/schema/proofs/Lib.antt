@@ -8,7 +8,7 @@ pub mod Bases
 pub mod Views
 pub mod Passing
 pub mod Search
-pub mod Entities
+pub mod Following
 pub mod Among
 pub mod TypeNames
 pub mod ActionRow

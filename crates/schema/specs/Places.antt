@@ -1,17 +1,19 @@
 -- What positions of a schema's bytes stand for, and what the answers of the lookups mean.
 use Prim.Native.Nat.{ℕ, _+_, _≤_, _<_}
 use mathlib.Core.Path.{_≡_}
-use mathlib.Core.Bool.{Bool, true, false, _&&_}
+use mathlib.Core.Bool.{Bool, true, false, cond, _&&_}
 use mathlib.Core.List.{List, []}
 use mathlib.Core.Option.{Option, none, some}
 use lib.ListN.{length, getD, drop}
+use lib.Dec.{eqb}
+use Rattle.names.specs.Lists.{first}
 use Rattle.names.specs.Fields.{Reader, _>>=_, levels, whole, many, counted, stringOf}
-use Rattle.names.specs.Names.{same, plain, pathName, joined}
+use Rattle.names.specs.Names.{same, below, plain, pathName, joined}
 use Rattle.names.specs.Read.{wordAt, ending, accepted, valueOr, row, isRow, rowIn}
 use Rattle.names.specs.declared.Before.{Before}
 use Rattle.names.specs.declared.Before.the-variants.{Nothing, At}
 use Rattle.schema.specs.Schema.{Key, Declared, Attributes, EntityType, Action, Schema, never, nothing, ascending, typeAt, attributes, entityType, action, keyOf, schemaRecord}
-use Rattle.schema.specs.Find.{actionType}
+use Rattle.schema.specs.Find.{actionType, findEntity}
 use Rattle.names.specs.declared.Found.{Found}
 use Rattle.names.specs.declared.Found.the-variants as Found
 use Rattle.names.specs.declared.Row.{Row}
@@ -141,6 +143,38 @@ pub record Opened (s : List ℕ) (at k : ℕ) : Type 0 where
 pub record ActionsOf (s : List ℕ) (r : Row) : Type 0 where
   pub stands : accepted (many keyOf action (r .count) none s (r .at)) ≡ true
   pub value : valueOr [] (many keyOf action (r .count) none s (r .at)) ≡ schemaIn s .actions
+
+-- so many entity types from a position, as they stand there
+abbrev pub entitiesIn : List ℕ → Row → List EntityType
+entitiesIn s r = valueOr [] (entitiesAt (r .count) s (r .at))
+
+-- the entity types of the schema stand in a row
+pub record EntitiesOf (s : List ℕ) (r : Row) : Type 0 where
+  pub stands : areEntities s (r .count) (r .at) ≡ true
+  pub value : entitiesIn s r ≡ schemaIn s .entities
+
+-- a name is looked up in a row of entity types as in the whole schema
+abbrev pub serves : List ℕ → Row → List ℕ → Type 0
+serves s r name = first (λ e. same (e .name) name) (entitiesIn s r) ≡ findEntity (schemaIn s) name
+
+-- a row of entity types that serves each name which is not before its first one
+pub record Nearby (s : List ℕ) (r : Row) : Type 0 where
+  pub stands : areEntities s (r .count) (r .at) ≡ true
+  pub behind : (name : List ℕ) → below name (wordAt s (r .at)) ≡ false → serves s r name
+
+-- one that serves a name besides
+pub record Serving (s name : List ℕ) (r : Row) : Type 0 where
+  pub row : Nearby s r
+  pub same : serves s r name
+
+-- the first entity type of a row, where it has the name
+abbrev pub foundHere : List ℕ → List ℕ → Row → Found
+foundHere s name r = cond (eqb (r .count) 0) Found.Absent (cond (same (wordAt s (r .at)) name) (Found.At (r .at)) Found.Absent)
+
+-- one whose first entity type is that of a name, if the schema has it
+pub record Near (s name : List ℕ) (r : Row) : Type 0 where
+  pub row : Nearby s r
+  pub finds : FindsEntity s (findEntity (schemaIn s) name) (foundHere s name r)
 
 -- the namespace of an action: the bytes given, or names that stand in them, joined by `::`
 abbrev pub namespaceIn : List ℕ → Namespace → List ℕ

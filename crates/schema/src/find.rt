@@ -4,7 +4,6 @@ use crate::parts::actions;
 use crate::parts::ancestors;
 use crate::past::count_at;
 use crate::past::past_action;
-use crate::past::past_entity;
 use crate::past::past_type;
 use crate::rich::kind_at;
 use names::Found;
@@ -19,8 +18,8 @@ ghost use Rattle.names.specs.Lists.{anyOf};
 ghost use Rattle.names.specs.Names.{same, pathName, joined};
 ghost use Rattle.names.specs.Read.{wordAt, isRow, rowIn};
 ghost use Rattle.names.specs.Text.{text};
-ghost use Rattle.schema.specs.Find.{findAttribute, findEntity, findAction, actionType, fieldsOf};
-ghost use Rattle.schema.specs.Places.{areFields, fieldsIn, Finds, isSchema, schemaIn, isType, typeIn, isEntity, entityIn, FindsEntity, FindsAction, FindsFields, ActionsOf, isNamespace, namespaceIn, pastWord, goesOn, placeOf};
+ghost use Rattle.schema.specs.Find.{findAttribute, findAction, actionType, fieldsOf};
+ghost use Rattle.schema.specs.Places.{areFields, fieldsIn, Finds, isSchema, schemaIn, isType, typeIn, isEntity, entityIn, FindsAction, FindsFields, ActionsOf, isNamespace, namespaceIn, pastWord, goesOn, placeOf};
 
 // The type of an attribute, of those whose count stands at `start`.
 pub fn attribute(s: &[u8], start: usize, name: &[u8]) -> Found
@@ -48,23 +47,6 @@ pub fn record_fields(s: &[u8], at: usize) -> Found
     let kind = kind_at(s, at);
     if kind == 6 {
         return Found::At(at + 1);
-    }
-    Found::Absent
-}
-
-// The entity type of a name, by the position of its name.
-pub fn entity(s: &[u8], name: &[u8]) -> Found
-    requires { ⌜ isSchema (now s) ≡ true ⌝ }
-    ensures { λ r. ⌜ FindsEntity (now (s .entry)) (findEntity (schemaIn (now (s .entry))) (now (name .entry))) r ⌝ }
-{
-    let mut rest = names::u16_at(s, 5);
-    let mut at = 7;
-    while 0 < rest {
-        if names::same(names::word(s, at), name) {
-            return Found::At(at);
-        }
-        at = past_entity(s, at);
-        rest -= 1;
     }
     Found::Absent
 }

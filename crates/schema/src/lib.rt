@@ -1,5 +1,6 @@
 // The schema record: which bytes are one, and what is looked up in it.
 mod find;
+mod near;
 mod parts;
 mod past;
 mod read;
@@ -8,11 +9,13 @@ mod rich;
 pub use find::action;
 pub use find::action_among;
 pub use find::attribute;
-pub use find::entity;
 pub use find::has_ancestor;
 pub use find::has_name;
 pub use find::record_fields;
 use names::Row;
+pub use near::entity_here;
+pub use near::entity_near;
+pub use near::entity_row;
 pub use parts::actions;
 pub use parts::ancestors;
 pub use parts::context;

@@ -21,10 +21,12 @@ use Rattle.names.specs.declared.Row.{Row}
 use Rattle.targets.specs.Targets.{Narrowing}
 use Rattle.resolution.specs.Resolution as Resolution
 use Rattle.resolution.specs.Resolution.{OnType, ambiguous, unknown, failed, missingAt, namesOf, typesOf, agreed, failure, verdict, onEntity, onTypes, declaredAll, admittedBy, admitted, scopePath, renderings}
-use Rattle.resolution.specs.Places.{areSegments, segmentsIn, Behind, areTypes, typesIn, nextIn, Follows, nextFollows, NextOf, endOf}
+use Rattle.resolution.specs.Places.{areSegments, segmentsIn, Behind, areTypes, typesIn, nextIn, Follows, nextFollows, NextOf, nextOf, NextPlaced, endOf}
 use Rattle.resolution.specs.Passes.{briefly, listed, failsAt, failing}
 use Rattle.resolution.specs.declared.Next.{Next}
 use Rattle.resolution.specs.declared.Next.the-variants as Next
+use Rattle.resolution.specs.declared.NextNear.{NextNear}
+use Rattle.resolution.specs.declared.NextNear.the-variants as NextNear
 use Rattle.resolution.specs.declared.PathEnd.{PathEnd}
 use Rattle.resolution.specs.declared.PathEnd.the-variants as PathEnd
 use Rattle.resolution.specs.Laws.Segments.{no-segments}
@@ -87,17 +89,17 @@ module _ (S : Schema) (N : Option Narrowing) (path : List (List ℕ)) (w : List 
     pub fail-start : areTypes s row ≡ true → Failing row
     fail-start are = record { stands = are; fewer = omega arith; same = refl }
 
-    module _ (left : Row) (l : Failing left) (x : Next) (next : NextOf s (admittedBy S N) left x) where
-      here : select (failsAt S path w) (nextIn s (admittedBy S N) x) ≡ select (failing S N path w) (typesIn s row)
-      here = ap (select (failsAt S path w)) (next .value) ∙ sym (both (typesIn s left)) ∙ l .same
+    module _ (left : Row) (l : Failing left) (x : NextNear) (next : NextPlaced s (admittedBy S N) left x) where
+      here : select (failsAt S path w) (nextIn s (admittedBy S N) (nextOf x)) ≡ select (failing S N path w) (typesIn s row)
+      here = ap (select (failsAt S path w)) (next .next .value) ∙ sym (both (typesIn s left)) ∙ l .same
 
-      pub fail-over : x ≡ Next.Over → NextOf s (failing S N path w) row Next.Over
+      pub fail-over : x ≡ NextNear.Over → NextOf s (failing S N path w) row Next.Over
       unfolding select
       fail-over e = record { value = rw e at here; follows = omega arith }
 
-      module _ (p : ℕ) (others : Row) (e : x ≡ Next.Name p others) where
+      module _ (p : ℕ) (others near : Row) (e : x ≡ NextNear.Name p others near) where
         follows : Follows s left p others
-        follows = rw e at (next .follows)
+        follows = rw e at (next .next .follows)
 
         pub fail-fewer : others .count < left .count
         fail-fewer = follows .fewer

@@ -2,7 +2,8 @@
 //!
 //! For each row: the published Rust alone, on trees that are read already; the Rust with the oracle's reading of the
 //! records into its trees; ours, which always reads. The ratio is of the last two. With `--write FOLDER` the table and the
-//! stack go into the marked parts of BENCHMARKS.md of that folder, and the plot into benchmark.svg beside it.
+//! stack go into the marked parts of BENCHMARKS.md of that folder, and the plot into benchmark.svg beside it. With
+//! `--only PART` just the inputs are measured whose names have that part.
 
 #[path = "../library.rs"]
 mod library;
@@ -23,11 +24,16 @@ use std::{env, fs};
 
 fn main() {
     let words: Vec<String> = env::args().skip(1).collect();
-    let table = table();
-    let stacks = stacks();
+    let (folder, part) = match &words[..] {
+        [] => (None, ""),
+        [flag, folder] if flag == "--write" => (Some(folder), ""),
+        [flag, part] if flag == "--only" => (None, part.as_str()),
+        _ => panic!("usage: bench [--write FOLDER | --only PART]"),
+    };
+    let table = table(part);
+    let stacks = stacks(part);
     println!("{table}\n{stacks}");
-    if let [flag, folder] = &words[..] {
-        assert_eq!(flag, "--write");
+    if let Some(folder) = folder {
         write(Path::new(folder), &[("table", &table), ("stack", &stacks)]);
     }
 }
@@ -41,11 +47,12 @@ struct Times {
     ours: Option<f64>,
 }
 
-fn table() -> String {
+fn table(part: &str) -> String {
     let mut out = format!("{}\n\n", machine());
     out += "| input | operation | Rust alone | Rust with reading | ours | Rust with reading / ours |\n";
     out += "|---|---|---:|---:|---:|---:|\n";
-    for w in workloads::all().into_iter().chain(workloads::crowded()).chain(workloads::searching()) {
+    let all = workloads::all().into_iter().chain(workloads::crowded()).chain(workloads::searching());
+    for w in all.filter(|w| w.name.contains(part)) {
         for (input, operation, times) in rows_of(&w) {
             out += &row(&input, operation, &times);
         }
@@ -143,10 +150,11 @@ fn used<T>(result: T) {
 
 // ─── The stack ───
 
-fn stacks() -> String {
+fn stacks(part: &str) -> String {
     let mut out = String::from("| input | operation | bytes of stack |\n|---|---|---:|\n");
-    for w in workloads::all().iter().filter(|w| w.reads).chain(&workloads::deep()) {
-        for (operation, bytes) in stacks_of(w) {
+    let all = workloads::all().into_iter().filter(|w| w.reads).chain(workloads::deep());
+    for w in all.filter(|w| w.name.contains(part)) {
+        for (operation, bytes) in stacks_of(&w) {
             out += &format!("| {} | {operation} | {bytes} |\n", w.name);
         }
     }

@@ -68,7 +68,7 @@ fn known(operation: Operation) -> Vec<Draft> {
     let more = [
         workloads::differing("reports", 60, 20, 1 << 20),
         workloads::alike("one start", 4, 64 << 10),
-        workloads::many_principals("principals", 255, 1),
+        workloads::many_principals("principals", 2_000, 1),
         workloads::many_actions("actions", 1),
         workloads::behind_a_large_type("large type", 1),
     ];
