@@ -124,6 +124,22 @@ slotOf s (Named p) = named (wordAt s p)
 slotOf s ParamRef = paramRef
 slotOf s BinderRef = binderRef
 
+-- document 01's number of a slot, and of the code's answer
+abbrev pub slotNumber : Slot → ℕ
+slotNumber (named w) = 0
+slotNumber paramRef = 1
+slotNumber binderRef = 2
+
+abbrev pub slotAtNumber : SlotAt → ℕ
+slotAtNumber (Named p) = 0
+slotAtNumber ParamRef = 1
+slotAtNumber BinderRef = 2
+
+-- the answer is the slot that stands there: its number and its value
+pub record SlotHere (s : List ℕ) (at : ℕ) (r : SlotAt) : Type 0 where
+  pub number : slotAtNumber r ≡ slotNumber (slotIn s at)
+  pub value : slotIn s at ≡ slotOf s r
+
 -- the segments of an annotation, of which there is one at least
 unfoldable pub segmentsIn : List ℕ → ℕ → List (List ℕ)
 segmentsIn s at = valueOr [] (counted (each (stringOf identifier)) s at)

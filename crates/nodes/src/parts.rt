@@ -12,7 +12,7 @@
 // | `arith_at` | kind 12 | `ArithHere`: the places of both operands |
 // | `aggregate_kind_at`, `aggregate_span_at` | `isAggregate` | `AggregateOpened`: 1 Sum, 2 Count, 3 Call; `Spans (aggregateSpanOf ..)` |
 // | `binders_at`, `body_at` | kind not 3 | `BindersHere`, `BodyHere` |
-// | `slot_at` | `isSlot` | `slotIn s at ≡ slotOf s r` |
+// | `slot_at` | `isSlot` | `SlotHere s at r` |
 // | `path_at`, `segments_at` | `isPath`, `SegmentsHere` | `Listed` |
 // | `last_segment` | `SegmentsHere` | `wordAt s r ≡ lastOf (segmentsIn s at)` |
 // | `past_term`, `past_condition`, .. | one stands there | `Skipped`: the place behind it |
@@ -48,7 +48,7 @@ ghost use Rattle.condition.specs.Walk.{hasName};
 ghost use Rattle.condition.specs.Places.{conditionHere, termHere, isCondition, conditionIn, isTerm, termIn, isAggregate, aggregateIn, isArguments, isElements, isPath, pathIn, isSlot, slotIn, isAnnotation, annotationIn, isBinder, binderIn};
 ghost use Rattle.nodes.specs.Kinds.{kindOf, spanOf, ownSpanOf, oneKind, twoKind, termKindOf, aggregateKindOf, aggregateSpanOf};
 ghost use Rattle.nodes.specs.Open.{placeOf, Skipped, Opened, TermOpened, AggregateOpened, BodyHere};
-ghost use Rattle.nodes.specs.Parts.{EndsHere, Spans, ComparisonHere, ArithHere, PredicateHere, ArgumentHere, ElementsHere, ElementHere, BindersHere, isBinders, slotOf, segmentsIn, SegmentsHere, Says, stringsAt, nameIn};
+ghost use Rattle.nodes.specs.Parts.{EndsHere, Spans, ComparisonHere, ArithHere, PredicateHere, ArgumentHere, ElementsHere, ElementHere, BindersHere, isBinders, SlotHere, segmentsIn, SegmentsHere, Says, stringsAt, nameIn};
 
 // The place behind what was read; `other` where it was refused.
 fn place_of(r: Read, other: usize) -> usize
@@ -387,7 +387,7 @@ pub fn last_segment(s: &[u8], start: usize) -> usize
 // A slot: where its name stands, or which sigil it is.
 pub fn slot_at(s: &[u8], at: usize) -> SlotAt
     requires { ⌜ isSlot (now s) at ≡ true ⌝ }
-    ensures { λ r. ⌜ slotIn (now (s .entry)) at ≡ slotOf (now (s .entry)) r ⌝ }
+    ensures { λ r. ⌜ SlotHere (now (s .entry)) at r ⌝ }
 {
     let kind = s[at];
     if kind == 0 {

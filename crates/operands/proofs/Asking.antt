@@ -57,12 +57,12 @@ no-operand which (opaque span) h = refl
 
 module _ (s c n env : List ℕ) (f : Facts) (known : Known s c env f) where
   pub root-stands : isCondition c 5 ≡ true
-  root-stands = record-starts c (known .condition)
+  root-stands = record-starts c (known .ready .condition)
 
   module _ (k : ℕ) (o : Opened c 5 k) where
     pub no-comparison : (k ≡ 8 → ⊥) → (which : Operand) (b : List ℕ) → outcomeOf Answer.NoComparison b ≡ answered which (recordIn c) (factsIn s c n f) b
     unfolding answered outcomeOf
-    no-comparison h which b = rw (no-operand which (recordIn c) (λ e. h (o .kind ∙ ap kindOf (record-value c (known .condition)) ∙ e)))
+    no-comparison h which b = rw (no-operand which (recordIn c) (λ e. h (o .kind ∙ ap kindOf (record-value c (known .ready .condition)) ∙ e)))
 
     pub a-comparison : k ≡ 8 → kindOf (conditionIn c 5) ≡ 8
     a-comparison e = sym (o .kind) ∙ e
@@ -71,7 +71,7 @@ module _ (s c n env : List ℕ) (f : Facts) (known : Known s c env f) where
     operand-in : operandIn which (recordIn c) ≡ some (termIn c (placeOf p which))
     unfolding operandIn
     operand-in =
-        let e : recordIn c ≡ comparison (spanOf (conditionIn c 5)) (h .op) (termIn c (p .left)) (termIn c (p .right)) = sym (record-value c (known .condition)) ∙ h .value in
+        let e : recordIn c ≡ comparison (spanOf (conditionIn c 5)) (h .op) (termIn c (p .left)) (termIn c (p .right)) = sym (record-value c (known .ready .condition)) ∙ h .value in
         ap (operandIn which) e ∙ go which
       where
         go : (w : Operand) → operandIn w (comparison (spanOf (conditionIn c 5)) (h .op) (termIn c (p .left)) (termIn c (p .right))) ≡ some (termIn c (placeOf p w))
@@ -97,7 +97,7 @@ pub ruleset comparing = (needs, root-stands, no-comparison, a-comparison, operan
 
 module _ (s c n : List ℕ) (read : Records s c n) (found : Found) (stands : foundStands (isAction s) found ≡ true) (common : Common) (f : Facts) (k : FactsOf n found common f) where
   pub facts-known : (env : List ℕ) → Environment c (binders (recordIn c)) env → ActionsOf s (common .actions) → Known s c env f
-  facts-known env e g = record { schema = read .schema; condition = read .condition; named = e; action = rw (k .action) stands; actions = rw (k .shared) g }
+  facts-known env e g = record { ready = record { schema = read .schema; condition = read .condition; named = e; actions = rw (k .shared) g }; action = rw (k .action) stands }
 
   pub facts-answered : (which : Operand) (b : List ℕ) (a : Answer) (t : List ℕ) → outcomeOf a t ≡ answered which (recordIn c) (factsIn s c n f) b
       → outcomeOf a t ≡ answered which (recordIn c) (factsOf (schemaIn s) (recordIn c) (targetsIn n .scope) (foundIn (actionIn s) found)) b

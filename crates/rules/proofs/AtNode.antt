@@ -18,7 +18,7 @@ use Rattle.nodes.specs.Offsets.{firstPart, termPart}
 use Rattle.nodes.specs.Laws.Pieces.{timepoint-inside}
 use Rattle.nodes.specs.Laws.Terms.{TermsLeft, TermPassed, one-term-left, none-left, first-stands, term-passed, arith-turn}
 use Rattle.nodes.specs.Open.{Opened, TermOpened, Skipped}
-use Rattle.nodes.specs.Parts.{Spans, ComparisonHere, TimepointHere, slotOf}
+use Rattle.nodes.specs.Parts.{Spans, ComparisonHere, TimepointHere, SlotHere}
 use Rattle.nodes.specs.declared.Ends.{Ends}
 use Rattle.nodes.specs.declared.ComparisonAt.{ComparisonAt}
 use Rattle.nodes.specs.declared.SlotAt.{SlotAt}
@@ -213,19 +213,19 @@ pub ruleset comparisons = (needs, comparison-told)
 -- ---- a `tp`
 
 -- its slot
-module _ (s c : List ℕ) (at : ℕ) (r : SlotAt) (e : slotIn c at ≡ slotOf c r) where
+module _ (s c : List ℕ) (at : ℕ) (r : SlotAt) (e : SlotHere c at r) where
   pub slot-param : r ≡ SlotAt.ParamRef → (f : Facts) → Finds s c (timepointBreaches f (slotIn c at)) Clean
   unfolding timepointBreaches
-  slot-param g f = rw (e, g) (record { is = λ span. refl; stands = tt })
+  slot-param g f = rw (e .value, g) (record { is = λ span. refl; stands = tt })
 
   pub slot-binder : r ≡ SlotAt.BinderRef → (f : Facts) → Finds s c (timepointBreaches f (slotIn c at)) Clean
   unfolding timepointBreaches
-  slot-binder g f = rw (e, g) (record { is = λ span. refl; stands = tt })
+  slot-binder g f = rw (e .value, g) (record { is = λ span. refl; stands = tt })
 
   pub slot-named : (p : ℕ) → r ≡ SlotAt.Named p → (name : List ℕ) → name ≡ wordAt c p → (n : List ℕ) (facts : Code.Facts) (typed : Typed) → NameTyped s c facts name typed
       → {x : Said} → Tells s c (timepointBreach (wordAt c p) (typedOf s c typed)) x → Tells s c (timepointBreaches (factsIn s c n facts) (slotIn c at)) x
   unfolding timepointBreaches
-  slot-named p g name w n facts typed v h = record { is = λ span. rw (e, g, ← w, ← v .value n, w) (h .is span); stands = h .stands }
+  slot-named p g name w n facts typed v h = record { is = λ span. rw (e .value, g, ← w, ← v .value n, w) (h .is span); stands = h .stands }
 
 pub ruleset slots = (needs, slot-param, slot-binder, slot-named)
 

@@ -22,7 +22,7 @@ use Rattle.nodes.specs.Kinds.{aggregateKindOf, aggregateSpanOf}
 use Rattle.nodes.specs.Offsets.{aggregatePart}
 use Rattle.condition.specs.Places.{recordIn, isAggregate, aggregateIn, slotIn}
 use Rattle.nodes.specs.Laws.Pieces.{summand-inside, summand-slot}
-use Rattle.nodes.specs.Parts.{segmentsIn, SegmentsHere, boundIn, BoundStands, Says, slotOf, SummandHere, Spans}
+use Rattle.nodes.specs.Parts.{segmentsIn, SegmentsHere, boundIn, BoundStands, Says, slotOf, SummandHere, Spans, SlotHere}
 use Rattle.condition.specs.Walk.{binders, lastNamed}
 use Rattle.reports.specs.declared.Message.the-variants.{CannotSum, CannotSumTimepoint, CannotSumDecimal}
 use Rattle.reports.specs.declared.State.{State}
@@ -117,11 +117,11 @@ module _ (s : List ℕ) (x : Said) (old : List ℕ) (st : State) (span : Ends) w
 pub ruleset appending = (needs, header-room, count-room, said-nothing, message-stands, long-below, text-room, message-appended, message-stopped)
 
 -- The summand's slot.
-pub slot-is : (s : List ℕ) (at p : ℕ) → SummandHere s at p → (x : SlotAt) → slotIn s p ≡ slotOf s x → SummandIs s at x
+pub slot-is : (s : List ℕ) (at p : ℕ) → SummandHere s at p → (x : SlotAt) → SlotHere s p x → SummandIs s at x
 slot-is s at p h x i = record {
   declared = h .declared;
   body = h .body;
-  value = h .value ∙ ap (λ (l : Slot). sum (aggregateSpanOf (aggregateIn s at)) l (h .declared) (h .body)) i;
+  value = h .value ∙ ap (λ (l : Slot). sum (aggregateSpanOf (aggregateIn s at)) l (h .declared) (h .body)) (i .value);
 }
 
 pub ruleset summands = (needs, summand-inside, summand-slot, slot-is)

@@ -24,14 +24,17 @@ scopeIn n f = record { principal = narrowed n (f .principal); resource = narrowe
 abbrev pub factsIn : List ℕ → List ℕ → List ℕ → Facts → Terms.Facts
 factsIn s c n f = record { schema = schemaIn s; scope = scopeIn n f; action = foundIn (actionIn s) (f .action); binders = binders (recordIn c) }
 
--- what must hold of them: the records are accepted, the environment has the binders by name, the action
--- stands in the schema, and the row is that of all its actions
-pub record Known (s c env : List ℕ) (f : Facts) : Type 0 where
+-- what is made ready once for all targets: the records are accepted, the environment has the binders by name, and the row is that of the schema's actions
+pub record Ready (s c env : List ℕ) (common : Common) : Type 0 where
   pub schema : isSchema s ≡ true
   pub condition : isRecord c ≡ true
   pub named : Environment c (binders (recordIn c)) env
+  pub actions : ActionsOf s (common .actions)
+
+-- what must hold of the facts of a target: that, and its action stands in the schema
+pub record Known (s c env : List ℕ) (f : Facts) : Type 0 where
+  pub ready : Ready s c env (f .common)
   pub action : foundStands (isAction s) (f .action) ≡ true
-  pub actions : ActionsOf s (f .common .actions)
 
 -- the facts of a target: its action, the scope of the target record, and what all targets have in common
 pub record FactsOf (n : List ℕ) (found : Found) (common : Common) (f : Facts) : Type 0 where

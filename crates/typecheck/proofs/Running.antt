@@ -41,11 +41,11 @@ use Rattle.reports.specs.Answers.{outcomeOf, Answers, Refuses, Spared, pushed}
 use Rattle.terms.specs.declared.Common.{Common}
 use Rattle.terms.specs.declared.Facts.{Facts}
 use Rattle.terms.specs.Terms.{factsOf}
-use Rattle.terms.specs.Facts.{factsIn, Known, FactsOf}
+use Rattle.terms.specs.Facts.{factsIn, Ready, Known, FactsOf}
 use Rattle.terms.specs.Laws.Facts.{facts-mean}
 use Rattle.rules.specs.Rules.{nodeBreaches}
 use Rattle.typecheck.specs.Check.{breachesUnder, checked, check}
-use Rattle.typecheck.specs.Ready.{Accepted, ReadAs, Ready, underBreaches, UnderKnown, UnderHere}
+use Rattle.typecheck.specs.Run.{Accepted, ReadAs, underBreaches, UnderKnown, UnderHere}
 use Rattle.typecheck.specs.declared.Records.{Records}
 use Rattle.typecheck.specs.declared.Records.the-variants as Records
 use Rattle.typecheck.specs.declared.Under.{Under}
@@ -116,13 +116,13 @@ module _ (s n : List ℕ) (at : ℕ) (w : List ℕ) (is-w : w ≡ targetIn n at 
 
   pub target-checked : b ≡ true → (f : Facts) → FactsOf n x common f → UnderHere s n common at (Checked f)
   target-checked h f k = record {
-    known = λ c places env r. record { schema = r .accepted .schema; condition = r .accepted .condition; named = r .named; action = rw (k .action) (finds .stands); actions = rw (k .shared) (r .actions) };
+    known = λ c env r. record { ready = rw (k .shared) r; action = rw (k .action) (finds .stands) };
     value = λ c. rw (facts-mean s c n x common f k) (under-checked (schemaIn s) (recordIn c) (targetsIn n .scope) (targetIn n at) (foundIn (actionIn s) x) looked-up (sym is-b ∙ h));
   }
 
   pub target-skipped : b ≡ false → UnderHere s n common at Skipped
   target-skipped h = record {
-    known = λ c places env r. tt;
+    known = λ c env r. tt;
     value = λ c. under-skips (schemaIn s) (recordIn c) (targetsIn n .scope) (targetIn n at) (foundIn (actionIn s) x) looked-up (sym is-b ∙ h);
   }
 
@@ -152,8 +152,8 @@ module _ (f : Target → List Breach) (n : List ℕ) where
         record { left = d .others; there = d .on m g; reporting = reporting-next push f (rw (d .value) at (l .reporting)) e }
 
 module _ (s c n : List ℕ) (common : Common) (at : ℕ) (x : Under) (h : UnderHere s n common at x) where
-  pub target-known : (places env : List ℕ) → Ready s c n places env common → UnderKnown s c env x
-  target-known places env r = h .known c places env r
+  pub target-known : (env : List ℕ) → Ready s c env common → UnderKnown s c env x
+  target-known env r = h .known c env r
 
   pub target-turn : (rest : ℕ) {all : Sink} {now next table table′ : List ℕ} {st r : State} → TargetsLeft (breachesUnder (schemaIn s) (recordIn c) (targetsIn n .scope)) n all (sink now st) table rest at → 0 < rest → Pushed now st (underBreaches s c n x) next r table′
       → (m : ℕ) → Read.Next m ≡ ending (target n at) → TargetsLeft (breachesUnder (schemaIn s) (recordIn c) (targetsIn n .scope)) n all (sink next r) table′ (rest - 1) m
@@ -167,8 +167,8 @@ pub all-checked : (s : Schema) (c : Condition) (ts : Targets) (b : List ℕ) {t 
 unfolding checked
 all-checked s c ts b e a = pushed b (gather (breachesUnder s c (ts .scope)) (ts .list)) e a
 
-pub all-ready : (s c n places env : List ℕ) (row : Row) → Accepted s c n → Index c places → Environment c (binders (recordIn c)) env → ActionsOf s row → Ready s c n places env (record { actions = row })
-all-ready s c n places env row a x e g = record { accepted = a; index = x; named = e; actions = g }
+pub all-ready : (s c n env : List ℕ) (row : Row) → Accepted s c n → Environment c (binders (recordIn c)) env → ActionsOf s row → Ready s c env (record { actions = row })
+all-ready s c n env row a e g = record { schema = a .schema; condition = a .condition; named = e; actions = g }
 
 pub ruleset indexed = (needs, length-take-le, lent-start, all-ready, all-checked)
 

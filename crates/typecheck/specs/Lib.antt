@@ -1,2 +1,2 @@
 pub mod Check
-pub mod Ready
+pub mod Run

@@ -20,9 +20,9 @@ ghost use Rattle.resolution.specs.Resolution.{admitsAnyEnv};
 ghost use Rattle.reports.specs.Sink.{sink};
 ghost use Rattle.reports.specs.Slots.{Lent, Pushed, Empty};
 ghost use Rattle.reports.specs.Answers.{outcomeOf, Spared};
-ghost use Rattle.terms.specs.Facts.{Known};
+ghost use Rattle.terms.specs.Facts.{Ready, Known};
 ghost use Rattle.typecheck.specs.Check.{checked, check};
-ghost use Rattle.typecheck.specs.Ready.{Accepted, ReadAs, Ready, underBreaches, UnderKnown, UnderHere, allBreaches};
+ghost use Rattle.typecheck.specs.Run.{Accepted, ReadAs, underBreaches, UnderKnown, UnderHere, allBreaches};
 
 // The reached nodes under the facts of a target.
 fn nodes<'a>(
@@ -131,7 +131,9 @@ fn all_targets<'a>(
     common: Common,
 ) -> State
     requires { ⌜ Lent (sink (now buf) state) (now table) ⌝ }
-    requires { ⌜ Ready (now schema) (now condition) (now targets) (now places) (now env) common ⌝ }
+    requires { ⌜ Ready (now schema) (now condition) (now env) common ⌝ }
+    requires { ⌜ areTargets (now targets) ≡ true ⌝ }
+    requires { ⌜ Index (now condition) (now places) ⌝ }
     ensures { λ after. ⌜ Pushed (now (buf .entry)) state (allBreaches (now (schema .entry)) (now (condition .entry)) (now (targets .entry))) (now (buf .exit)) after (now (table .exit)) ⌝ }
 {
     let mut now = state;

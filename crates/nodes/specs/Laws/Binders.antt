@@ -105,7 +105,7 @@ module _ (s : List ℕ) (at : ℕ) (acc : isBinder s at ≡ true) where
 
   first-byte : getD s at 0 ≡ 0 → (binderIn s at) .slot ≡ named (nameIn s at)
   unfolding nameIn
-  first-byte e = slot-is s at acc ∙ slot-name s at (binder-slot s at acc) e
+  first-byte e = slot-is s at acc ∙ slot-name s at (binder-slot s at acc) e .value
 
   pub name-there : getD s at 0 ≡ 0 → true ≡ hasName ((binderIn s at) .slot)
   name-there e = sym (ap hasName (first-byte e))
@@ -114,8 +114,8 @@ module _ (s : List ℕ) (at : ℕ) (acc : isBinder s at ≡ true) where
   name-missing h = sym (ap hasName (slot-is s at acc) ∙ go (eqb (getD s at 0) 1) refl)
     where
       go : (b : Bool) → eqb (getD s at 0) 1 ≡ b → hasName (slotIn s at) ≡ false
-      go true e = ap hasName (slot-param s at (binder-slot s at acc) (eqb-true _ _ e))
-      go false e = ap hasName (slot-binder s at (binder-slot s at acc) h (eqb-false _ _ e))
+      go true e = ap hasName (slot-param s at (binder-slot s at acc) (eqb-true _ _ e) .value)
+      go false e = ap hasName (slot-binder s at (binder-slot s at acc) h (eqb-false _ _ e) .value)
 
   pub own-slot : hasName ((binderIn s at) .slot) ≡ true → (binderIn s at) .slot ≡ named (nameIn s at)
   own-slot h = go (eqb (getD s at 0) 0) refl

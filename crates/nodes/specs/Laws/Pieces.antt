@@ -16,6 +16,7 @@ use Rattle.names.specs.Laws.Readers.{split, u8-view, accept, is-accepted, has-v
 use Rattle.names.specs.Laws.Rows.{counted-view, listed, Opens, opens, Remaining, row-empty}
 use Rattle.names.specs.Laws.Walks.{here}
 use Rattle.nodes.specs.declared.Ends.{Ends}
+use Rattle.nodes.specs.declared.SlotAt.{SlotAt}
 use Rattle.nodes.specs.declared.SlotAt.the-variants.{Named, ParamRef, BinderRef}
 use Rattle.condition.specs.Condition.{Span, Slot, named, binderRef, Binder, Condition, Term, Terms, Arguments, Aggregate, predicate, tp, noArgument, argument, entity, contextField, scopeField, var, array, nil, cons, sum, slotKinds, slot, binder, span, operator, arguments, argumentList, elements, elementList, conditionAt, termAt}
 use Rattle.condition.specs.Condition as tree
@@ -25,7 +26,7 @@ use Rattle.nodes.specs.Offsets.{firstPart, termPart, aggregatePart}
 use Rattle.nodes.specs.Laws.Inside.{same-end, ended, place-other, place-compared, compared-inside, added-inside}
 use Rattle.nodes.specs.Kinds.{kindOf, spanOf, ownSpanOf, termKindOf, aggregateKindOf, aggregateSpanOf}
 use Rattle.nodes.specs.Open.{placeOf, Skipped, Opened, TermOpened, AggregateOpened, ComparedHere, BodyHere}
-use Rattle.nodes.specs.Parts.{EndsHere, Spans, ComparisonHere, ArithHere, PredicateHere, ArgumentHere, TimepointHere, ElementsHere, ElementHere, PathHere, SummandHere, bindersIn, BindersHere, slotOf, segmentsIn, SegmentsHere}
+use Rattle.nodes.specs.Parts.{EndsHere, Spans, ComparisonHere, ArithHere, PredicateHere, ArgumentHere, TimepointHere, ElementsHere, ElementHere, PathHere, SummandHere, bindersIn, BindersHere, slotOf, segmentsIn, SegmentsHere, SlotHere}
 use Rattle.condition.specs.Laws.Sizes.{forward-counted, forward-string, forward-path, one-term}
 use Rattle.condition.specs.Laws.Levels.{term-anywhere}
 use Rattle.nodes.specs.Laws.Views.{by-kind, head-view, span-view, operator-view, PredicateView, predicate-view, timepoint-view, aggregate-head-view, PartView, entity-view, context-view, scope-view, var-view, array-view}
@@ -480,22 +481,30 @@ module _ (s : List ℕ) (at : ℕ) (acc : isSlot s at ≡ true) where
   of-slot : (k : ℕ) → getD s at 0 ≡ k → choose k slotKinds s (at + 1) ≡ got (slotIn s at) (slot-stands .end)
   of-slot k e = rw (← e) (slot-view .read)
 
-  pub slot-name : getD s at 0 ≡ 0 → slotIn s at ≡ slotOf s (Named (at + 1))
+  slot-here : (r : SlotAt) → slotIn s at ≡ slotOf s r → SlotHere s at r
+  slot-here (Named p) e = record { number = rw e; value = e }
+  slot-here ParamRef e = record { number = rw e; value = e }
+  slot-here BinderRef e = record { number = rw e; value = e }
+
+  pub slot-name : getD s at 0 ≡ 0 → SlotHere s at (Named (at + 1))
   unfolding choose slotKinds
   slot-name e =
       let a = split (stringOf plain s (at + 1)) _ (of-slot 0 e) in
-      sym (got-value (a .rest)) ∙ ap named (string-view plain s (at + 1) (a .first) .word)
+      slot-here (Named (at + 1)) (sym (got-value (a .rest)) ∙ ap named (string-view plain s (at + 1) (a .first) .word))
 
-  pub slot-param : getD s at 0 ≡ 1 → slotIn s at ≡ slotOf s ParamRef
+  pub slot-param : getD s at 0 ≡ 1 → SlotHere s at ParamRef
   unfolding choose slotKinds
-  slot-param e = sym (got-value (of-slot 1 e))
+  slot-param e = slot-here ParamRef (sym (got-value (of-slot 1 e)))
 
-  pub slot-binder : (getD s at 0 ≡ 0 → ⊥) → (getD s at 0 ≡ 1 → ⊥) → slotIn s at ≡ slotOf s BinderRef
+  binder-slot : (getD s at 0 ≡ 0 → ⊥) → (getD s at 0 ≡ 1 → ⊥) → slotIn s at ≡ binderRef
   unfolding choose slotKinds Each keysUpTo
-  slot-binder h i =
+  binder-slot h i =
       by-kind s (at + 1) 2 slotKinds refl (λ k. (k ≡ 0 → ⊥) → (k ≡ 1 → ⊥) → slotIn s at ≡ binderRef)
       (((tt, λ e a b. absurd (a refl)), λ e a b. absurd (b refl)), λ e a b. sym (got-value e))
       (getD s at 0) (slot-view .read) h i
+
+  pub slot-binder : (getD s at 0 ≡ 0 → ⊥) → (getD s at 0 ≡ 1 → ⊥) → SlotHere s at BinderRef
+  slot-binder h i = slot-here BinderRef (binder-slot h i)
 
 -- The last segment of an annotation: what is left of the segments has the same last one.
 abbrev pub SegmentsLeft : List ℕ → ℕ → ℕ → ℕ → Type 0

@@ -1,18 +1,15 @@
--- What the loops of the run ask: the three records are accepted, the places are those of the reached conditions, the environment has the binders by name, and the
--- row is that of the schema's actions.
+-- What the loops of the run ask and say: the three records that were read, and a target with its breaches.
 use Prim.Native.Nat.{ℕ}
 use mathlib.Core.Path.{_≡_}
 use mathlib.Core.Bool.{true}
 use mathlib.Core.List.{List, []}
 use Rattle.names.specs.Lists.{gather}
-use Rattle.schema.specs.Places.{isSchema, schemaIn, ActionsOf}
+use Rattle.schema.specs.Places.{isSchema, schemaIn}
 use Rattle.condition.specs.Places.{isRecord, recordIn}
-use Rattle.condition.specs.Walk.{binders}
-use Rattle.walk.specs.Index.{Index, nodesOf}
-use Rattle.walk.specs.Environment.{Environment}
+use Rattle.walk.specs.Index.{nodesOf}
 use Rattle.targets.specs.Places.{areTargets, targetsIn, targetIn}
 use Rattle.terms.specs.declared.Common.{Common}
-use Rattle.terms.specs.Facts.{factsIn, Known}
+use Rattle.terms.specs.Facts.{factsIn, Ready, Known}
 use Rattle.reports.specs.Reports.{Breach, refusal}
 use Rattle.rules.specs.Rules.{nodeBreaches}
 use Rattle.typecheck.specs.Check.{breachesUnder, check}
@@ -32,12 +29,6 @@ abbrev pub ReadAs : List ℕ → List ℕ → List ℕ → Records → Type 0
 ReadAs s c n Read = Accepted s c n
 ReadAs s c n (Refused number which) = (b : List ℕ) → refusal number which b ≡ check s c n b
 
-pub record Ready (s c n places env : List ℕ) (common : Common) : Type 0 where
-  pub accepted : Accepted s c n
-  pub index : Index c places
-  pub named : Environment c (binders (recordIn c)) env
-  pub actions : ActionsOf s (common .actions)
-
 -- the breaches under a target, and what is known where it is checked
 abbrev pub underBreaches : List ℕ → List ℕ → List ℕ → Under → List Breach
 underBreaches s c n Skipped = []
@@ -49,7 +40,7 @@ UnderKnown s c env (Checked f) = Known s c env f
 
 -- the target at a place
 pub record UnderHere (s n : List ℕ) (common : Common) (at : ℕ) (r : Under) : Type 0 where
-  pub known : (c places env : List ℕ) → Ready s c n places env common → UnderKnown s c env r
+  pub known : (c env : List ℕ) → Ready s c env common → UnderKnown s c env r
   pub value : (c : List ℕ) → underBreaches s c n r ≡ breachesUnder (schemaIn s) (recordIn c) (targetsIn n .scope) (targetIn n at)
 
 -- the breaches under all targets
