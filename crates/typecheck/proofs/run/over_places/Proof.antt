@@ -12,7 +12,7 @@ over-places-spec =
     (λ c κs. search indexed)
     (λ c. search indexed)
     (λ c. search indexed)
-    (λ c κs. search indexed)
+    (λ c κs. (search indexed, (search indexed, (search indexed, search indexed))))
     (λ c κs. search indexed)
     (λ c. search indexed)
     (λ c. search indexed)
