@@ -4,4 +4,4 @@ pub mod Opens
 pub mod Inside
 pub mod Pieces
 pub mod Binders
-pub mod Terms
+pub mod Leaves

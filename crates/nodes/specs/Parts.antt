@@ -22,10 +22,12 @@ use Rattle.nodes.specs.declared.Bound.{Bound}
 use Rattle.nodes.specs.declared.Bound.the-variants.{Segments, Timepoint, Nothing}
 use Rattle.nodes.specs.declared.NextAggregate.{NextAggregate}
 use Rattle.nodes.specs.declared.NextAggregate.the-variants.{At, Done}
-use Rattle.condition.specs.Condition.{Span, Slot, named, paramRef, binderRef, Annotation, timepoint, path, Binder, Operator, Condition, Term, Aggregate, predicate, comparison, tp, argument, array, arith, cons, sum, binder}
+use Rattle.nodes.specs.declared.NextLeaf.{NextLeaf}
+use Rattle.nodes.specs.declared.NextLeaf.the-variants as NextLeaf
+use Rattle.condition.specs.Condition.{Span, Slot, named, paramRef, binderRef, Annotation, timepoint, path, Binder, Operator, Condition, Term, Aggregate, predicate, comparison, tp, argument, entity, literal, contextField, scopeField, var, wildcard, array, aggregate, arith, sigil, cons, sum, binder}
 use Rattle.condition.specs.Walk.{reached, reachedBody, operandAggregates, declaredBy}
 use Rattle.condition.specs.Places.{conditionHere, termHere, isCondition, conditionIn, isTerm, termIn, aggregateAt, isAggregate, aggregateIn, isArguments, argumentsIn, isElements, elementsIn, isPath, pathIn, isSlot, slotIn}
-use Rattle.nodes.specs.Kinds.{spanOf, ownSpanOf, aggregateSpanOf, operatorNumber}
+use Rattle.nodes.specs.Kinds.{spanOf, ownSpanOf, termKindOf, aggregateSpanOf, operatorNumber}
 
 -- the two numbers of a span that starts there
 pub record EndsHere (s : List ℕ) (at : ℕ) (r : Ends) : Type 0 where
@@ -193,3 +195,31 @@ pub record OperandsHere (s : List ℕ) (at : ℕ) (r : Several) : Type 0 where
   pub stands : isTerms s (r .count) (r .first) ≡ true
   pub whole : conditionIn s at ≡ comparison (spanOf (conditionIn s at)) op left right
   pub value : aggregatesIn s (r .count) (r .first) ≡ operandAggregates left ++ operandAggregates right
+
+-- an operand's leaves: itself, or those of an Arith's left, then right
+unfoldable pub operandLeaves : Term → List Term
+operandLeaves (entity n) = entity n ∷ []
+operandLeaves (literal l) = literal l ∷ []
+operandLeaves (contextField p) = contextField p ∷ []
+operandLeaves (scopeField p) = scopeField p ∷ []
+operandLeaves (var v) = var v ∷ []
+operandLeaves wildcard = wildcard ∷ []
+operandLeaves (array ts) = array ts ∷ []
+operandLeaves (aggregate a) = aggregate a ∷ []
+operandLeaves (arith l r) = operandLeaves l ++ operandLeaves r
+operandLeaves sigil = sigil ∷ []
+
+-- the leaves of so many terms in a row, in order
+unfoldable pub leavesIn : List ℕ → ℕ → ℕ → List Term
+leavesIn s n at = gather operandLeaves (rowIn termHere s n at)
+
+-- the first of them, which is no Arith, and the terms that the others are in; or there is none
+pub record LeafNext (s : List ℕ) (list : List Term) (p : ℕ) (rest : Several) : Type 0 where
+  pub stands : isTerm s p ≡ true
+  pub leaf : termKindOf (termIn s p) ≡ 12 → ⊥
+  pub others : isTerms s (rest .count) (rest .first) ≡ true
+  pub value : list ≡ termIn s p ∷ leavesIn s (rest .count) (rest .first)
+
+abbrev pub NextLeafIs : List ℕ → List Term → NextLeaf → Type 0
+NextLeafIs s list (NextLeaf.At p rest) = LeafNext s list p rest
+NextLeafIs s list NextLeaf.Done = list ≡ []

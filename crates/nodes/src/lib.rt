@@ -9,12 +9,15 @@
 // | offsets | where the first part of a node stands |
 // | parts | kinds, spans and parts of conditions, terms, aggregates, slots, paths and annotations |
 // | aggregates | `next_aggregate(s, count, first)`: `NextIs` of `aggregatesIn s count first` |
+// | leaves | `next_leaf(s, count, first)`: `NextLeafIs` of `leavesIn s count first` |
 mod aggregates;
+mod leaves;
 mod offsets;
 mod parts;
 
 pub use aggregates::next_aggregate;
 pub use aggregates::operands_at;
+pub use leaves::next_leaf;
 pub use offsets::aggregate_part;
 pub use offsets::first_part;
 pub use offsets::term_part;
@@ -106,6 +109,12 @@ pub enum Bound {
 
 // The next aggregate of some terms in a row: where it stands, and the terms that the others are in; or there is none.
 pub enum NextAggregate {
+    At(usize, Several),
+    Done,
+}
+
+// The next leaf of some terms in a row: where it stands, and the terms that the others are in; or there is none.
+pub enum NextLeaf {
     At(usize, Several),
     Done,
 }

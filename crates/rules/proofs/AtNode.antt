@@ -9,28 +9,31 @@ use borrow.Author.Needs.{needs}
 use borrow.Author.Tests.{ne-eqb}
 use lib.Dec.{ltb, eqb, lit<}
 use lib.ListN.{length}
+use Rattle.names.specs.Lists.{gather}
 use Rattle.names.specs.Read.{wordAt}
 use Rattle.condition.specs.Condition as tree
 use Rattle.condition.specs.Condition.{Span, Condition, Term, integer, decimal, string, bool, Slot, named, paramRef, binderRef, Operator, le, lt, ge, gt, eq, notEq, one, two, predicate, comparison, exists, tp, opaque, entity, literal, contextField, scopeField, var, wildcard, array, aggregate, sigil}
 use Rattle.nodes.specs.Kinds.{kindOf, spanOf, termKindOf, operatorNumber}
-use Rattle.condition.specs.Places.{termHere, isCondition, conditionIn, isTerm, termIn, isSlot, slotIn}
-use Rattle.nodes.specs.Offsets.{firstPart, termPart}
+use Rattle.condition.specs.Places.{isCondition, conditionIn, isTerm, termIn, isSlot, slotIn}
+use Rattle.nodes.specs.Offsets.{firstPart}
 use Rattle.nodes.specs.Laws.Pieces.{timepoint-inside}
-use Rattle.nodes.specs.Laws.Terms.{TermsLeft, TermPassed, one-term-left, none-left, first-stands, term-passed, arith-turn}
-use Rattle.nodes.specs.Open.{Opened, TermOpened, Skipped}
-use Rattle.nodes.specs.Parts.{Spans, ComparisonHere, TimepointHere, SlotHere}
+use Rattle.nodes.specs.Laws.Leaves.{leaves-gather, one-term, one-leaves}
+use Rattle.nodes.specs.Open.{Opened, TermOpened}
+use Rattle.nodes.specs.Parts.{Spans, ComparisonHere, TimepointHere, SlotHere, isTerms, leavesIn, LeafNext, NextLeafIs}
 use Rattle.nodes.specs.declared.Ends.{Ends}
 use Rattle.nodes.specs.declared.ComparisonAt.{ComparisonAt}
+use Rattle.nodes.specs.declared.Several.{Several}
+use Rattle.nodes.specs.declared.NextLeaf.{NextLeaf}
+use Rattle.nodes.specs.declared.NextLeaf.the-variants as NextLeaf
 use Rattle.nodes.specs.declared.SlotAt.{SlotAt}
 use Rattle.nodes.specs.declared.SlotAt.the-variants as SlotAt
 use Rattle.resolution.specs.Places.{typedOf}
 use Rattle.resolution.specs.declared.Typed.{Typed}
 use Rattle.reports.specs.declared.State.{State}
-use Rattle.reports.specs.Kept.{fold}
 use Rattle.reports.specs.Reports.{Breach}
-use Rattle.reports.specs.Sink.{Sink, sink, pushAll}
+use Rattle.reports.specs.Sink.{Sink, sink, push, pushAll}
 use Rattle.reports.specs.Slots.{Lent, Pushed}
-use Rattle.reports.specs.Laws.Sinks.{recorded-none, recorded-more, recorded-then}
+use Rattle.reports.specs.Laws.Sinks.{Reporting, reporting-next, reporting-over, recorded-none, recorded-then}
 use Rattle.terms.specs.Terms.{Facts, termType, varType}
 use Rattle.terms.specs.Answers.{TypeOf}
 use Rattle.terms.specs.Facts.{factsIn, NameTyped}
@@ -82,9 +85,9 @@ module _ (f : Facts) (at : Span) where
   operand-by-kind sigil = refl
 
 -- a leaf, by its kind
-module _ (f : Facts) (s c : List ℕ) (at k : ℕ) (o : TermOpened c at k) (not-arith : k ≡ 12 → ⊥) where
+module _ (f : Facts) (s c : List ℕ) (at k : ℕ) (o : TermOpened c at k) (not-arith : termKindOf (termIn c at) ≡ 12 → ⊥) where
   leaf-is : (span : Span) → leafBreaches f (termIn c at) span ≡ cond (eqb k 9) (breachIf true wildcardInside span) (cond (eqb k 11 || eqb k 13) [] (notLongHere (termType (some f) (termIn c at)) span))
-  leaf-is span = rw (o .kind) (leaf-by-kind f span (termIn c at) (λ e. not-arith (o .kind ∙ e)))
+  leaf-is span = rw (o .kind) (leaf-by-kind f span (termIn c at) not-arith)
 
   pub leaf-wild : k ≡ 9 → Finds s c (leafBreaches f (termIn c at)) Wildcard
   unfolding quoted
@@ -106,50 +109,50 @@ module _ (s c : List ℕ) {old new table : List ℕ} {st st′ : State} {x : Sai
   told : (rule : Rule) (at : Span) → Tells s c rule x → Pushed old st (saidBreaches s c x at) new st′ table → Pushed old st (rule at) new st′ table
   told rule at g p = rw (← g .is at) p
 
--- the leaves of a term, left then right: those of the terms that are left, put in, make the whole
+-- the leaves of a term, left then right: those that are left, put in, make the whole
 module _ (f : Facts) (c : List ℕ) (span : Span) where
-  abbrev leavesOf : Term → List Breach
-  leavesOf t = leafBreaches f t span
+  abbrev breachesOf : Term → List Breach
+  breachesOf t = leafBreaches f t span
 
-  pub record LeavesLeft (whole now : Sink) (table : List ℕ) (n at : ℕ) : Type 0 where
-    pub list : List Breach
-    pub left : TermsLeft leavesOf c list n at
-    pub still : Lent now table
-    pub same : pushAll now list ≡ whole
+  pub record LeavesLeft (whole now : Sink) (table : List ℕ) (left : Several) : Type 0 where
+    pub stands : isTerms c (left .count) (left .first) ≡ true
+    pub reporting : Reporting push (λ (s : Sink). Lent s table) breachesOf whole now (leavesIn c (left .count) (left .first))
 
-  pub leaves-begin : (now : Sink) (table : List ℕ) (at : ℕ) → Lent now table → isTerm c at ≡ true → LeavesLeft (pushAll now (leafBreaches f (termIn c at) span)) now table 1 at
-  leaves-begin now table at p acc = record { list = leavesOf (termIn c at); left = one-term-left leavesOf c at acc; still = p; same = refl }
+  leaves-are : (at : ℕ) → isTerm c at ≡ true → gather breachesOf (leavesIn c 1 at) ≡ breachesOf (termIn c at)
+  unfolding leafBreaches
+  leaves-are at acc = ap (gather breachesOf) (one-leaves c at acc) ∙ leaves-gather breachesOf (λ l r. refl) (termIn c at)
 
-  module _ (n at : ℕ) where
-    pub leaves-over : {old now table : List ℕ} {st₀ st : State} {bs : List Breach} → LeavesLeft (pushAll (sink old st₀) bs) (sink now st) table n at → n ≤ 0 → Pushed old st₀ bs now st table
-    unfolding fold
-    leaves-over l h = record { still = l .still; is = rw (none-left leavesOf c (l .list) n at (l .left) h) at (l .same) }
+  pub leaves-begin : (now : Sink) (table : List ℕ) (at : ℕ) → Lent now table → isTerm c at ≡ true → LeavesLeft (pushAll now (leafBreaches f (termIn c at) span)) now table (record { count = 1; first = at })
+  leaves-begin now table at p acc = record { stands = one-term c at acc; reporting = record { still = p; same = ap (pushAll now) (leaves-are at acc) } }
 
-    pub leaves-small : {whole now : Sink} {table : List ℕ} → LeavesLeft whole now table n at → n ≤ length c
-    leaves-small l = l .left .small
+  pub leaves-stand : {whole now : Sink} {table : List ℕ} {left : Several} → LeavesLeft whole now table left → isTerms c (left .count) (left .first) ≡ true
+  leaves-stand l = l .stands
 
-    pub leaves-stand : {whole now : Sink} {table : List ℕ} → LeavesLeft whole now table n at → 0 < n → isTerm c at ≡ true
-    leaves-stand l h = first-stands leavesOf c (l .list) n at (l .left) h
+  module _ (left : Several) (x : NextLeaf) (is : NextLeafIs c (leavesIn c (left .count) (left .first)) x) where
+    pub leaves-over : {old now table : List ℕ} {st₀ st : State} {bs : List Breach} → LeavesLeft (pushAll (sink old st₀) bs) (sink now st) table left → x ≡ NextLeaf.Done → Pushed old st₀ bs now st table
+    leaves-over l e =
+        let none : leavesIn c (left .count) (left .first) ≡ [] = rw e at is in
+        let r = l .reporting in
+        reporting-over push breachesOf (rw none at r)
 
-    pub leaves-added : {whole now : Sink} {table : List ℕ} → LeavesLeft whole now table n at → 0 < n → (k : ℕ) → TermOpened c at k → k ≡ 12 → (p : ℕ) → p ≡ termPart c at → LeavesLeft whole now table (n + 1) p
-    unfolding leafBreaches
-    leaves-added l h k o is p place = record {
-      list = l .list;
-      left = arith-turn leavesOf c (l .list) n at (l .left) h (λ x y. refl) k o is p place;
-      still = l .still;
-      same = l .same;
-    }
+    module _ (at : ℕ) (rest : Several) (e : x ≡ NextLeaf.At at rest) where
+      next : LeafNext c (leavesIn c (left .count) (left .first)) at rest
+      next = rw e at is
 
-    pub leaves-turn : {whole : Sink} {now next table table′ : List ℕ} {st st′ : State} → LeavesLeft whole (sink now st) table n at → 0 < n → (s : List ℕ) {x : Said} → Tells s c (leafBreaches f (termIn c at)) x
-        → Pushed now st (saidBreaches s c x span) next st′ table′ → (m : ℕ) → Skipped (termHere c at) at m → LeavesLeft whole (sink next st′) table′ (n - 1) m
-    leaves-turn l h s g e m z =
-        let d = term-passed leavesOf c (l .list) n at (l .left) h m z in
-        record {
-          list = d .others;
-          left = d .left;
-          still = e .still;
-          same = recorded-more (told s c (leafBreaches f (termIn c at)) span g e) (d .others) ∙ rw (d .parted) at (l .same);
-        }
+      pub leaf-stands : isTerm c at ≡ true
+      leaf-stands = next .stands
+
+      pub leaf-plain : termKindOf (termIn c at) ≡ 12 → ⊥
+      leaf-plain = next .leaf
+
+      pub fewer-leaves : length (leavesIn c (rest .count) (rest .first)) < length (leavesIn c (left .count) (left .first))
+      fewer-leaves = rw (next .value) (omega arith)
+
+      pub leaves-turn : {whole : Sink} {now after table table′ : List ℕ} {st st′ : State} → LeavesLeft whole (sink now st) table left → (s : List ℕ) {y : Said} → Tells s c (leafBreaches f (termIn c at)) y
+          → Pushed now st (saidBreaches s c y span) after st′ table′ → LeavesLeft whole (sink after st′) table′ rest
+      leaves-turn l s g p =
+          let r = l .reporting in
+          record { stands = next .others; reporting = reporting-next push breachesOf (rw (next .value) at r) (told s c (leafBreaches f (termIn c at)) span g p) }
 
 module _ (f : Facts) (c : List ℕ) (at : ℕ) (span : Span) {old new table : List ℕ} {st st′ : State} where
   module _ (k : ℕ) (o : TermOpened c at k) where
@@ -162,7 +165,7 @@ module _ (f : Facts) (c : List ℕ) (at k : ℕ) (o : TermOpened c at k) where
 
 pub ruleset leaf-kinds = (needs, leaf-wild, leaf-aggregate, leaf-sigil, leaf-typed)
 
-pub ruleset each-leaf = (needs, leaves-begin, leaves-over, leaves-small, leaves-stand, leaves-added, leaves-turn)
+pub ruleset each-leaf = (needs, leaves-begin, leaves-stand, leaves-over, leaf-stands, leaf-plain, fewer-leaves, leaves-turn)
 
 pub ruleset operand-kinds = (needs, operand-plain, operand-arithmetic)
 

@@ -3,12 +3,14 @@ use crate::Finding;
 use crate::Operand;
 use crate::judge::not_long;
 use crate::report::report;
+use nodes::NextLeaf;
+use nodes::Several;
 use reports::State;
 use terms::Facts;
 ghost use mathlib.Core.Path.{_≡_};
 ghost use mathlib.Core.Bool.{true};
-ghost use Rattle.nodes.specs.Open.{TermOpened};
-ghost use Rattle.condition.specs.Places.{isTerm};
+ghost use Rattle.nodes.specs.Kinds.{termKindOf};
+ghost use Rattle.condition.specs.Places.{isTerm, termIn};
 ghost use Rattle.reports.specs.Sink.{sink};
 ghost use Rattle.reports.specs.Slots.{Lent, Pushed};
 ghost use Rattle.terms.specs.Facts.{Known};
@@ -23,14 +25,13 @@ fn leaf<'a>(
     env: &[u16],
     facts: Facts,
     at: usize,
-    kind: u8,
 ) -> Finding
     requires { ⌜ Known (now schema) (now condition) (now env) facts ⌝ }
     requires { ⌜ isTerm (now condition) at ≡ true ⌝ }
-    requires { ⌜ TermOpened (now condition) at kind ⌝ }
-    requires { ⌜ (kind ≡ 12 → ⊥) ⌝ }
+    requires { ⌜ (termKindOf (termIn (now condition) at) ≡ 12 → ⊥) ⌝ }
     ensures { λ r. ⌜ Finds (now (schema .entry)) (now (condition .entry)) (leafAt (now (schema .entry)) (now (condition .entry)) (now (targets .entry)) facts at) r ⌝ }
 {
+    let kind = nodes::term_kind_at(condition, at);
     if kind == 9 {
         return Finding::Wildcard;
     }
@@ -44,7 +45,7 @@ fn leaf<'a>(
     not_long(schema, condition, typed)
 }
 
-// The leaves of a term, left then right: in its bytes they follow one another, each arithmetic before its two parts.
+// The leaves of a term, left then right.
 fn leaves<'a>(
     buf: &mut [u8],
     table: &mut [u32],
@@ -63,21 +64,19 @@ fn leaves<'a>(
 {
     let span = term.span;
     let mut now = state;
-    let mut rest: usize = 1;
-    let mut at = term.at;
-    while 0 < rest {
-        let kind = nodes::term_kind_at(condition, at);
-        if kind == 12 {
-            at = nodes::term_part(condition, at);
-            rest += 1;
-            continue;
-        }
-        let finding = leaf(schema, condition, targets, env, facts, at, kind);
+    let mut left = Several {
+        count: 1,
+        first: term.at,
+    };
+    loop {
+        let next = nodes::next_leaf(condition, left.count, left.first);
+        let NextLeaf::At(at, others) = next else {
+            return now;
+        };
+        let finding = leaf(schema, condition, targets, env, facts, at);
         now = report(buf, table, now, schema, condition, span, finding);
-        at = nodes::past_term(condition, at);
-        rest -= 1;
+        left = others;
     }
-    now
 }
 
 // An operand of a comparison is inspected where it is arithmetic.

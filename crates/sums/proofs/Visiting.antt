@@ -2,17 +2,20 @@
 use mathlib.Core.Path.{_≡_, refl, sym, ap, _∙_}
 use mathlib.Core.Bool.{Bool, true, false, cond, _&&_}
 use mathlib.Core.List.{List, []}
-use Prim.Native.Nat.{ℕ, zero, suc, _+_, _-_, _≤_}
+use Prim.Native.Nat.{ℕ, zero, suc, _+_, _-_, _≤_, _<_}
 use native.Mathlib.Omega.{arith}
 use borrow.Author.Needs.{needs}
 use lib.Dec.{leb, eqb}
 use borrow.Author.Tests.{eqb-true, eqb-false}
 use lib.ListN.{length, drop, drop-of-length-le}
 use Rattle.names.specs.Fields.{Got, got, Reader, next, u8, refuse, choose, levels, stringOf}
+use Rattle.names.specs.Lists.{gather}
 use Rattle.names.specs.Names.{plain, pathName}
 use Rattle.names.specs.Paths.{pathOf}
 use Rattle.names.specs.Laws.Readers.{split, got-value, Each, keysUpTo}
-use Rattle.nodes.specs.declared.Operands.{Operands}
+use Rattle.nodes.specs.declared.Several.{Several}
+use Rattle.nodes.specs.declared.NextLeaf.{NextLeaf}
+use Rattle.nodes.specs.declared.NextLeaf.the-variants as NextLeaf
 use Rattle.nodes.specs.declared.ComparisonAt.{ComparisonAt}
 use Rattle.nodes.specs.declared.PredicateAt.{PredicateAt}
 use Rattle.nodes.specs.declared.ArgumentAt.{ArgumentAt}
@@ -23,7 +26,8 @@ use Rattle.nodes.specs.Kinds.{kindOf, termKindOf, aggregateKindOf}
 use Rattle.condition.specs.Places.{versionIn, recordIn, conditionIn, isTerm, termIn, aggregateIn, isArguments, argumentsIn}
 use Rattle.nodes.specs.Laws.Inside.{aggregate-first, aggregate-inside}
 use Rattle.nodes.specs.Open.{Opened, TermOpened, AggregateOpened, AggregateHere}
-use Rattle.nodes.specs.Parts.{ArithHere, ComparisonHere, PredicateHere, ArgumentHere}
+use Rattle.nodes.specs.Parts.{ComparisonHere, PredicateHere, ArgumentHere, isTerms, leavesIn, LeafNext, NextLeafIs}
+use Rattle.nodes.specs.Laws.Leaves.{leaves-gather, one-term, one-leaves}
 use Rattle.walk.specs.Index.{nodesOf, Index, Reached}
 use Rattle.nodes.specs.Laws.Views.{by-kind, no-value, array-view}
 use Rattle.nodes.specs.Laws.Opens.{term-stands, raw-term}
@@ -132,14 +136,9 @@ module _ (bs : List Binder) where
 no-report : (old : List ℕ) (st : State) → Sound (sink old st) → (bs : List Breach) → bs ≡ [] → Appended old st bs old st
 no-report old st p bs e = rw e (recorded-none old st p)
 
--- ---- a term
+-- ---- a leaf
 
 module _ (s : List ℕ) (at : ℕ) {old : List ℕ} {st : State} where
-  pub arith-visited : (p : Operands) → ArithHere s at p → {mid new : List ℕ} {st′ r : State} → Appended old st (termBreaches (binders (recordIn s)) (termIn s (p .left))) mid st′
-      → Appended mid st′ (termBreaches (binders (recordIn s)) (termIn s (p .right))) new r → Appended old st (termBreaches (binders (recordIn s)) (termIn s at)) new r
-  unfolding termBreaches
-  arith-visited p h first second = rw (h .value) (recorded-then first second)
-
   module _ (p : ℕ) (h : AggregateHere s at p) where
     pub sum-visited : {new : List ℕ} {r : State} → Appended old st (aggregateBreaches (binders (recordIn s)) (aggregateIn s p)) new r → Appended old st (termBreaches (binders (recordIn s)) (termIn s at)) new r
     unfolding termBreaches
@@ -149,17 +148,56 @@ module _ (s : List ℕ) (at : ℕ) {old : List ℕ} {st : State} where
     unfolding termBreaches
     other-visited k o i q = rw (h .value) (no-report old st q _ (other-free (binders (recordIn s)) (aggregateIn s p) (λ e. i (o .kind ∙ e))))
 
-  pub leaf-visited : isTerm s at ≡ true → (k : ℕ) → TermOpened s at k → (k ≡ 12 → ⊥) → (k ≡ 11 → ⊥) → Sound (sink old st) → Appended old st (termBreaches (binders (recordIn s)) (termIn s at)) old st
-  leaf-visited acc k o h i p = no-report old st p _ (go (eqb (termKindOf (termIn s at)) 10) refl)
+  pub leaf-visited : isTerm s at ≡ true → (termKindOf (termIn s at) ≡ 12 → ⊥) → (k : ℕ) → TermOpened s at k → (k ≡ 11 → ⊥) → Sound (sink old st) → Appended old st (termBreaches (binders (recordIn s)) (termIn s at)) old st
+  leaf-visited acc h k o i p = no-report old st p _ (go (eqb (termKindOf (termIn s at)) 10) refl)
     where
       go : (b : Bool) → eqb (termKindOf (termIn s at)) 10 ≡ b → termBreaches (binders (recordIn s)) (termIn s at) ≡ []
       go true e = array-free (binders (recordIn s)) s at acc (eqb-true _ _ e)
-      go false e = leaf-free (binders (recordIn s)) (termIn s at) (λ q. h (o .kind ∙ q)) (λ q. i (o .kind ∙ q)) (eqb-false _ _ e)
+      go false e = leaf-free (binders (recordIn s)) (termIn s at) h (λ q. i (o .kind ∙ q)) (eqb-false _ _ e)
 
 pub is-sum : (s : List ℕ) (p k : ℕ) → AggregateOpened s p k → k ≡ 1 → aggregateKindOf (aggregateIn s p) ≡ 1
 is-sum s p k o e = sym (o .kind) ∙ e
 
-pub ruleset visits = (needs, is-sum, aggregate-first, aggregate-inside, arith-visited, sum-visited, other-visited, leaf-visited)
+pub ruleset visits = (needs, is-sum, aggregate-first, aggregate-inside, sum-visited, other-visited, leaf-visited)
+
+-- ---- a term: what is left of its leaves, reported, makes the whole
+
+pub record LeavesOn (s : List ℕ) (whole now : Sink) (left : Several) : Type 0 where
+  pub stands : isTerms s (left .count) (left .first) ≡ true
+  pub so : Reporting append Sound (termBreaches (binders (recordIn s))) whole now (leavesIn s (left .count) (left .first))
+
+module _ (s : List ℕ) where
+  pub leaves-begin : (at : ℕ) → isTerm s at ≡ true → (a : Sink) → Sound a → LeavesOn s (appendAll a (termBreaches (binders (recordIn s)) (termIn s at))) a (record { count = 1; first = at })
+  unfolding termBreaches
+  leaves-begin at acc a k =
+      let e : gather (termBreaches (binders (recordIn s))) (leavesIn s 1 at) ≡ termBreaches (binders (recordIn s)) (termIn s at) =
+      ap (gather (termBreaches (binders (recordIn s)))) (one-leaves s at acc) ∙ leaves-gather (termBreaches (binders (recordIn s))) (λ l r. refl) (termIn s at) in
+      record { stands = one-term s at acc; so = record { still = k; same = ap (appendAll a) e } }
+
+  module _ (left : Several) (x : NextLeaf) (y : NextLeafIs s (leavesIn s (left .count) (left .first)) x) where
+    pub leaves-done : {old now : List ℕ} {st₀ st : State} {bs : List Breach} → LeavesOn s (appendAll (sink old st₀) bs) (sink now st) left → x ≡ NextLeaf.Done → Appended old st₀ bs now st
+    leaves-done l e =
+        let i : leavesIn s (left .count) (left .first) ≡ [] = rw e at y in
+        let r = l .so in
+        reporting-over append (termBreaches (binders (recordIn s))) (rw i at r)
+
+    module _ (p : ℕ) (rest : Several) (e : x ≡ NextLeaf.At p rest) where
+      opened : LeafNext s (leavesIn s (left .count) (left .first)) p rest
+      opened = rw e at y
+
+      pub leaf-stands : isTerm s p ≡ true
+      leaf-stands = opened .stands
+
+      pub leaf-bare : termKindOf (termIn s p) ≡ 12 → ⊥
+      leaf-bare = opened .leaf
+
+      pub fewer-leaves : length (leavesIn s (rest .count) (rest .first)) < length (leavesIn s (left .count) (left .first))
+      fewer-leaves = rw (opened .value) (omega arith)
+
+      pub leaves-turn : {whole : Sink} {now next : List ℕ} {st r : State} → LeavesOn s whole (sink now st) left → Appended now st (termBreaches (binders (recordIn s)) (termIn s p)) next r → LeavesOn s whole (sink next r) rest
+      leaves-turn l q = let i = l .so in record { stands = opened .others; so = reporting-next append (termBreaches (binders (recordIn s))) (rw (opened .value) at i) q }
+
+pub ruleset leafing = (needs, leaves-begin, leaves-done, leaf-stands, leaf-bare, fewer-leaves, leaves-turn)
 
 -- ---- arguments: what is left of them, reported, makes the whole
 

@@ -3,7 +3,7 @@
 // | module | what it has |
 // |---|---|
 // | summand | the report of one Sum, by the last binder of its summand's name; measured first, then written straight to the buffer |
-// | terms | the Sums of a term, of arguments, of a reached condition |
+// | terms | the Sums of a leaf, of a term, of arguments, of a reached condition |
 // | run | `sums(condition, reports)`: record 2 read, indexed once, each reached condition visited |
 mod run;
 mod summand;

@@ -1,33 +1,29 @@
 // The Sums of a term, of a predicate's arguments, of a reached condition, in reading order.
 use crate::summand::in_sum;
+use nodes::NextLeaf;
+use nodes::Several;
 use reports::State;
 ghost use mathlib.Core.Path.{_≡_};
 ghost use mathlib.Core.Bool.{true};
 ghost use Prim.Native.Nat.{_≤_};
 ghost use lib.ListN.{length};
-ghost use Rattle.nodes.specs.Kinds.{kindOf};
+ghost use Rattle.nodes.specs.Kinds.{kindOf, termKindOf};
 ghost use Rattle.condition.specs.Places.{recordIn, isCondition, conditionIn, isTerm, termIn, isArguments, argumentsIn};
 ghost use Rattle.condition.specs.Walk.{binders};
 ghost use Rattle.walk.specs.Environment.{Environment};
 ghost use Rattle.reports.specs.Sink.{sink, Sound, Appended};
 ghost use Rattle.sums.specs.Sums.{termBreaches, argumentsBreaches, conditionBreaches};
 
-// A term is a Sum, or an arithmetic: its left, then its right. (An array holds none, and the bodies of aggregates are conditions of their own.)
-fn in_term(s: &[u8], env: &[u16], at: usize, buf: &mut [u8], state: State) -> State
+// A leaf is a Sum, or has none. (An array holds none, and the bodies of aggregates are conditions of their own.)
+fn in_leaf(s: &[u8], env: &[u16], at: usize, buf: &mut [u8], state: State) -> State
     requires { ⌜ isTerm (now s) at ≡ true ⌝ }
+    requires { ⌜ (termKindOf (termIn (now s) at) ≡ 12 → ⊥) ⌝ }
     requires { ⌜ Environment (now s) (binders (recordIn (now s))) (now env) ⌝ }
     requires { ⌜ length (now s) ≤ 32768 ⌝ }
     requires { ⌜ Sound (sink (now buf) state) ⌝ }
     ensures { λ r. ⌜ Appended (now (buf .entry)) state (termBreaches (binders (recordIn (now (s .entry)))) (termIn (now (s .entry)) at)) (now (buf .exit)) r ⌝ }
 {
     let kind = nodes::term_kind_at(s, at);
-    if kind == 12 {
-        let p = nodes::arith_at(s, at);
-        let left = p.left;
-        let right = p.right;
-        let first = in_term(s, env, left, buf, state);
-        return in_term(s, env, right, buf, first);
-    }
     if kind == 11 {
         let aggregate = nodes::term_part(s, at);
         if nodes::aggregate_kind_at(s, aggregate) == 1 {
@@ -35,6 +31,29 @@ fn in_term(s: &[u8], env: &[u16], at: usize, buf: &mut [u8], state: State) -> St
         }
     }
     state
+}
+
+// The leaves of a term, one after the other: a loop, so that the stack does not grow with the levels of an arithmetic.
+fn in_term(s: &[u8], env: &[u16], at: usize, buf: &mut [u8], state: State) -> State
+    requires { ⌜ isTerm (now s) at ≡ true ⌝ }
+    requires { ⌜ Environment (now s) (binders (recordIn (now s))) (now env) ⌝ }
+    requires { ⌜ length (now s) ≤ 32768 ⌝ }
+    requires { ⌜ Sound (sink (now buf) state) ⌝ }
+    ensures { λ r. ⌜ Appended (now (buf .entry)) state (termBreaches (binders (recordIn (now (s .entry)))) (termIn (now (s .entry)) at)) (now (buf .exit)) r ⌝ }
+{
+    let mut now = state;
+    let mut left = Several {
+        count: 1,
+        first: at,
+    };
+    loop {
+        let next = nodes::next_leaf(s, left.count, left.first);
+        let NextLeaf::At(leaf, others) = next else {
+            return now;
+        };
+        now = in_leaf(s, env, leaf, buf, now);
+        left = others;
+    }
 }
 
 // So many arguments of a predicate, one after the other.

@@ -1,6 +1,6 @@
 -- `nodes::aggregates::operands_at` meets its contract. Assumes nothing.
 use borrow.Author.Needs.{needs}
-use Rattle.nodes.specs.Laws.Terms.{operands-here}
+use Rattle.nodes.proofs.TermsLeft.{operands-here}
 use Rattle.nodes.proofs.aggregates.operands_at.Statement.{statement}
 use Rattle.nodes.proofs.aggregates.operands_at.Tie as tie
 

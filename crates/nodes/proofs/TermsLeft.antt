@@ -1,5 +1,4 @@
--- Terms in a row, one after another, where an arithmetic is its two parts: what a walk over their leaves collects, the aggregates of them, and those of a
--- comparison's operands. Assumes nothing.
+-- The aggregates and the leaves of terms in a row, one after another, and the aggregates of a comparison's operands. Assumes nothing.
 use mathlib.Core.Path.{_≡_, refl, sym, ap, _∙_}
 use mathlib.Core.Bool.{true, false}
 use mathlib.Core.List.{List, [], _∷_, _++_, append-assoc, append-nil}
@@ -21,9 +20,10 @@ use Rattle.nodes.specs.Kinds.{kindOf, spanOf, termKindOf}
 use Rattle.nodes.specs.Offsets.{firstPart, termPart}
 use Rattle.nodes.specs.Laws.Inside.{place-compared, term-place, aggregate-inside}
 use Rattle.nodes.specs.Open.{Skipped, TermOpened}
-use Rattle.nodes.specs.Parts.{isTerms, aggregatesIn, AggregateNext, OperandsHere}
+use Rattle.nodes.specs.Parts.{isTerms, aggregatesIn, AggregateNext, OperandsHere, operandLeaves, leavesIn, LeafNext}
 use Rattle.nodes.specs.Laws.Opens.{term-there, Stands, stood, ends-at, term-stands, term-index, arith-here, comparison-here}
 use Rattle.nodes.specs.Laws.Pieces.{term-ahead}
+use Rattle.nodes.specs.Laws.Leaves.{leaf-itself}
 
 -- an operand that is no aggregate and no arithmetic has none
 no-aggregates : (x : Term) → (termKindOf x ≡ 12 → ⊥) → (termKindOf x ≡ 11 → ⊥) → operandAggregates x ≡ []
@@ -69,31 +69,18 @@ few : (s : List ℕ) (n at : ℕ) → isTerms s n at ≡ true → n ≤ length s
 few s zero at acc = omega arith
 few s (suc n) at acc = let i = row-room s n at (terms-stand s (suc n) at acc .read) in omega arith
 
--- what g collects of the terms that are left: of an arithmetic, what it collects of its parts
+-- What each term has, gathered along a row: of an arithmetic it is what its left has, then what its right has.
 module _ {A : Type 0} (g : Term → List A) where
+  abbrev pub partsIn : List ℕ → ℕ → ℕ → List A
+  partsIn s n at = gather g (rowIn termHere s n at)
+
   pub record TermsLeft (s : List ℕ) (list : List A) (n at : ℕ) : Type 0 where
     pub stands : isTerms s n at ≡ true
     pub small : n ≤ length s
-    pub value : gather g (rowIn termHere s n at) ≡ list
+    pub value : partsIn s n at ≡ list
 
-  -- the first of them is passed: what was collected of it, and what is left
-  pub record TermPassed (s : List ℕ) (list : List A) (n at m : ℕ) : Type 0 where
-    pub others : List A
-    pub parted : list ≡ g (termIn s at) ++ others
-    pub left : TermsLeft s others (n - 1) m
-
-  pub terms-left : (s : List ℕ) (n at : ℕ) → isTerms s n at ≡ true → TermsLeft s (gather g (rowIn termHere s n at)) n at
+  terms-left : (s : List ℕ) (n at : ℕ) → isTerms s n at ≡ true → TermsLeft s (partsIn s n at) n at
   terms-left s n at acc = record { stands = acc; small = few s n at acc; value = refl }
-
-  pub one-term-left : (s : List ℕ) (at : ℕ) → isTerm s at ≡ true → TermsLeft s (g (termIn s at)) 1 at
-  unfolding gather many termIn
-  one-term-left s at acc =
-      let r = row-cons termHere s 0 at (term-stands s at acc .read) refl in
-      record {
-        stands = is-accepted r;
-        small = few s 1 at (is-accepted r);
-        value = ap (gather g) (has-value [] r) ∙ append-nil (g (termIn s at));
-      }
 
   module _ (s : List ℕ) (list : List A) (n at : ℕ) (inv : TermsLeft s list n at) where
     pub none-left : n ≤ 0 → list ≡ []
@@ -108,78 +95,82 @@ module _ {A : Type 0} (g : Term → List A) where
       first-stands = is-accepted (first .here)
 
       -- what the first has, then what the others have
-      first-parted : list ≡ g (termIn s at) ++ gather g (first .others)
+      parted : list ≡ g (termIn s at) ++ gather g (first .others)
       unfolding gather termIn
-      first-parted = sym (inv .value) ∙ ap (gather g) (first .all) ∙ ap (λ t. g t ++ gather g (first .others)) (sym (has-value _ (first .here)))
+      parted = sym (inv .value) ∙ ap (gather g) (first .all) ∙ ap (λ t. g t ++ gather g (first .others)) (sym (has-value _ (first .here)))
 
-      pub term-passed : (m : ℕ) → Skipped (termHere s at) at m → TermPassed s list n at m
-      term-passed m z =
-          let r : row termHere (n - 1) s m ≡ got (first .others) (terms-stand s n at (inv .stands) .end) = ap (row termHere (n - 1) s) (ends-at (first .here) (z .ends)) ∙ first .rest in
-          record {
-            others = gather g (first .others);
-            parted = first-parted;
-            left = record { stands = is-accepted r; small = few s (n - 1) m (is-accepted r); value = ap (gather g) (has-value [] r) };
-          }
+      module _ (m : ℕ) (z : Skipped (termHere s at) at m) where
+        others-read : row termHere (n - 1) s m ≡ got (first .others) (terms-stand s n at (inv .stands) .end)
+        others-read = ap (row termHere (n - 1) s) (ends-at (first .here) (z .ends)) ∙ first .rest
 
-      module _ (split : (l r : Term) → g (tree.arith l r) ≡ g l ++ g r) (k : ℕ) (o : TermOpened s at k) (is : k ≡ 12) where
-        turned : TermsLeft s list (n + 1) (at + 1)
-        unfolding gather
-        turned =
-            let v = arith-here s at first-stands (sym (o .kind) ∙ is) in
-            let e = same-place (term-stands s at first-stands .read) (first .here) in
-            let r = two-more s n at h (v .reads) (v .further) (ap (row termHere (n - 1) s) e ∙ first .rest) in
-            record {
-              stands = is-accepted r;
-              small = few s (n + 1) (at + 1) (is-accepted r);
-              value =
-                  ap (gather g) (has-value [] r)
-                  ∙ sym (append-assoc (g (v .left)) (g (v .right)) (gather g (first .others)))
-                  ∙ sym (first-parted ∙ ap (λ t. g t ++ gather g (first .others)) (v .whole) ∙ ap (λ l. l ++ gather g (first .others)) (split (v .left) (v .right)));
-            }
+        others-stand : isTerms s (n - 1) m ≡ true
+        others-stand = is-accepted others-read
 
-        pub arith-turn : (p : ℕ) → p ≡ termPart s at → TermsLeft s list (n + 1) p
-        arith-turn p place = rw (term-place s at p place) turned
+        others-are : list ≡ g (termIn s at) ++ partsIn s (n - 1) m
+        others-are = parted ∙ ap (λ l. g (termIn s at) ++ gather g l) (sym (has-value [] others-read))
 
--- ---- the aggregates of operands
+      turned : ((l r : Term) → g (tree.arith l r) ≡ g l ++ g r) → (k : ℕ) → TermOpened s at k → k ≡ 12 → (p : ℕ) → p ≡ termPart s at → TermsLeft s list (n + 1) p
+      unfolding gather
+      turned splits k o is p place =
+          let v = arith-here s at first-stands (sym (o .kind) ∙ is) in
+          let e = same-place (term-stands s at first-stands .read) (first .here) in
+          let r = two-more s n at h (v .reads) (v .further) (ap (row termHere (n - 1) s) e ∙ first .rest) in
+          rw (term-place s at p place)
+          (record {
+            stands = is-accepted r;
+            small = few s (n + 1) (at + 1) (is-accepted r);
+            value =
+                ap (gather g) (has-value [] r)
+                ∙ sym (append-assoc (g (v .left)) (g (v .right)) (gather g (first .others)))
+                ∙ sym (parted ∙ ap (λ t. g t ++ gather g (first .others)) (v .whole) ∙ ap (λ l. l ++ gather g (first .others)) (splits (v .left) (v .right)));
+          })
 
-abbrev pub AggregatesLeft : List ℕ → List Aggregate → ℕ → ℕ → Type 0
-AggregatesLeft = TermsLeft operandAggregates
-
-added-aggregates : (l r : Term) → operandAggregates (tree.arith l r) ≡ operandAggregates l ++ operandAggregates r
-unfolding operandAggregates
-added-aggregates l r = refl
-
-pub aggregates-left : (s : List ℕ) (n at : ℕ) → isTerms s n at ≡ true → AggregatesLeft s (aggregatesIn s n at) n at
+-- The aggregates.
+pub aggregates-left : (s : List ℕ) (n at : ℕ) → isTerms s n at ≡ true → TermsLeft operandAggregates s (aggregatesIn s n at) n at
 unfolding aggregatesIn
 aggregates-left s n at acc = terms-left operandAggregates s n at acc
 
-module _ (s : List ℕ) (list : List Aggregate) (n at : ℕ) (inv : AggregatesLeft s list n at) where
-  pub none-aggregate : n ≤ 0 → list ≡ []
-  none-aggregate = none-left operandAggregates s list n at inv
+module _ (s : List ℕ) (list : List Aggregate) (n at : ℕ) (inv : TermsLeft operandAggregates s list n at) (h : 0 < n) (k : ℕ) (o : TermOpened s at k) where
+  module _ (m : ℕ) (z : Skipped (termHere s at) at m) where
+    pub found-next : k ≡ 11 → (p : ℕ) → p ≡ termPart s at → AggregateNext s list p (record { count = n - 1; first = m })
+    unfolding operandAggregates aggregatesIn
+    found-next is p place = let here = aggregate-inside s at (first-stands operandAggregates s list n at inv h) p place k o is in record {
+      stands = here .stands;
+      others = others-stand operandAggregates s list n at inv h m z;
+      value = others-are operandAggregates s list n at inv h m z ∙ ap (λ t. operandAggregates t ++ partsIn operandAggregates s (n - 1) m) (here .value);
+    }
 
-  module _ (h : 0 < n) where
-    pub operand-stands : isTerm s at ≡ true
-    operand-stands = first-stands operandAggregates s list n at inv h
+    pub bare-turn : (k ≡ 11 → ⊥) → (k ≡ 12 → ⊥) → TermsLeft operandAggregates s list (n - 1) m
+    bare-turn i j =
+        let others = others-stand operandAggregates s list n at inv h m z in
+        record {
+          stands = others;
+          small = few s (n - 1) m others;
+          value = sym (others-are operandAggregates s list n at inv h m z ∙ ap (λ l. l ++ partsIn operandAggregates s (n - 1) m) (no-aggregates (termIn s at) (λ e. j (o .kind ∙ e)) (λ e. i (o .kind ∙ e))));
+        }
 
-    module _ (m : ℕ) (z : Skipped (termHere s at) at m) where
-      passed : TermPassed operandAggregates s list n at m
-      passed = term-passed operandAggregates s list n at inv h m z
+  pub arith-turn : k ≡ 12 → (p : ℕ) → p ≡ termPart s at → TermsLeft operandAggregates s list (n + 1) p
+  unfolding operandAggregates
+  arith-turn is p place = turned operandAggregates s list n at inv h (λ l r. refl) k o is p place
 
-      pub found-next : (k : ℕ) → TermOpened s at k → k ≡ 11 → (p : ℕ) → p ≡ termPart s at → AggregateNext s list p (record { count = n - 1; first = m })
-      unfolding operandAggregates aggregatesIn
-      found-next k o is p place = let here = aggregate-inside s at operand-stands p place k o is in record {
-        stands = here .stands;
-        others = passed .left .stands;
-        value = passed .parted ∙ ap (λ t. operandAggregates t ++ passed .others) (here .value) ∙ ap (λ l. aggregateIn s p ∷ l) (sym (passed .left .value));
-      }
+-- The leaves.
+pub leaves-left : (s : List ℕ) (n at : ℕ) → isTerms s n at ≡ true → TermsLeft operandLeaves s (leavesIn s n at) n at
+unfolding leavesIn
+leaves-left s n at acc = terms-left operandLeaves s n at acc
 
-      pub bare-turn : (k : ℕ) → TermOpened s at k → (k ≡ 11 → ⊥) → (k ≡ 12 → ⊥) → AggregatesLeft s list (n - 1) m
-      bare-turn k o i j =
-          let same : passed .others ≡ list = sym (passed .parted ∙ ap (λ l. l ++ passed .others) (no-aggregates (termIn s at) (λ e. j (o .kind ∙ e)) (λ e. i (o .kind ∙ e)))) in
-          rw same at (passed .left)
+module _ (s : List ℕ) (list : List Term) (n at : ℕ) (inv : TermsLeft operandLeaves s list n at) (h : 0 < n) (k : ℕ) (o : TermOpened s at k) where
+  pub leaf-next : (k ≡ 12 → ⊥) → (m : ℕ) → Skipped (termHere s at) at m → LeafNext s list at (record { count = n - 1; first = m })
+  unfolding leavesIn
+  leaf-next i m z = record {
+    stands = first-stands operandLeaves s list n at inv h;
+    leaf = λ e. i (o .kind ∙ e);
+    others = others-stand operandLeaves s list n at inv h m z;
+    value = others-are operandLeaves s list n at inv h m z ∙ ap (λ l. l ++ partsIn operandLeaves s (n - 1) m) (leaf-itself (termIn s at) (λ e. i (o .kind ∙ e)));
+  }
 
-    pub added-turn : (k : ℕ) → TermOpened s at k → k ≡ 12 → (p : ℕ) → p ≡ termPart s at → AggregatesLeft s list (n + 1) p
-    added-turn k o is = arith-turn operandAggregates s list n at inv h added-aggregates k o is
+  pub leaf-turn : k ≡ 12 → (p : ℕ) → p ≡ termPart s at → TermsLeft operandLeaves s list (n + 1) p
+  unfolding operandLeaves
+  leaf-turn is p place = turned operandLeaves s list n at inv h (λ l r. refl) k o is p place
 
 -- The operands of a comparison.
 pub operands-here : (s : List ℕ) (at : ℕ) → isCondition s at ≡ true → kindOf (conditionIn s at) ≡ 8 → (p : ℕ) → p ≡ firstPart s at → OperandsHere s at (record { count = 2; first = p })
@@ -197,4 +188,6 @@ operands-here s at acc is p place =
       value = ap (gather operandAggregates) (has-value [] r) ∙ ap (λ l. operandAggregates (v .left) ++ l) (append-nil (operandAggregates (v .right)));
     }
 
-pub ruleset along-terms = (needs, aggregates-left, none-aggregate, operand-stands, found-next, bare-turn, added-turn)
+pub ruleset along-terms = (needs, aggregates-left, none-left, first-stands, found-next, bare-turn, arith-turn)
+
+pub ruleset along-leaves = (needs, leaves-left, none-left, first-stands, leaf-next, leaf-turn)
