@@ -29,8 +29,15 @@ unfoldable pub mixedWords : ℕ → ℕ → List ℕ → ℕ
 mixedWords zero h s = mixedBytes h s
 mixedWords (suc n) h s = mixedWords n (mixed h (number 0 (take 4 s))) (drop 4 s)
 
+unfoldable pub hashedMessage : List ℕ → ℕ
+hashedMessage message = mixedWords (length message / 4) 0 message
+
+-- the middle of a square, so that the distance of two starts says nothing of that of their slots
+abbrev pub squared : ℕ → ℕ
+squared n = n * n / 65536 % 4294967296
+
 unfoldable pub hashed : ℕ → List ℕ → ℕ
-hashed start message = mixedWords (length message / 4) start message
+hashed start message = squared (mixed (hashedMessage message) start)
 
 -- the slot of a table of m in which the search for a pair begins, and the one that is k behind it
 abbrev pub firstSlot : ℕ → Breach → ℕ

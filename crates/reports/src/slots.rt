@@ -8,7 +8,7 @@ ghost use mathlib.Core.Path.{_≡_};
 ghost use Prim.Native.Nat.{_+_, _*_, _<_, _≤_};
 ghost use lib.ListN.{length, getD, set, drop};
 ghost use Rattle.reports.specs.Sink.{sink, Sound, held};
-ghost use Rattle.reports.specs.Slots.{mixed, mixedBytes, mixedWords, hashed, slotAt, Tabled, Finds, isOpen, Empty};
+ghost use Rattle.reports.specs.Slots.{mixed, mixedBytes, hashedMessage, squared, hashed, slotAt, Tabled, Finds, isOpen, Empty};
 
 fn from_u32(n: u32) -> usize
     ensures { λ r. ⌜ r ≡ n ⌝ }
@@ -30,6 +30,7 @@ fn mix(h: usize, n: usize) -> usize
 fn mix_bytes(h: usize, message: &[u8], from: usize) -> usize
     requires { ⌜ (h < 4294967296) × (from ≤ length (now message)) ⌝ }
     ensures { λ r. ⌜ r ≡ mixedBytes h (drop from (now (message .entry))) ⌝ }
+    ensures { λ r. ⌜ r < 4294967296 ⌝ }
 {
     let mut mixed = h;
     let mut at = from;
@@ -40,11 +41,12 @@ fn mix_bytes(h: usize, message: &[u8], from: usize) -> usize
     mixed
 }
 
-// The number of a start and a message.
-fn hash(start: u32, message: &[u8]) -> usize
-    ensures { λ r. ⌜ r ≡ hashed start (now (message .entry)) ⌝ }
+// The number of a message.
+fn hash_message(message: &[u8]) -> usize
+    ensures { λ r. ⌜ r ≡ hashedMessage (now (message .entry)) ⌝ }
+    ensures { λ r. ⌜ r < 4294967296 ⌝ }
 {
-    let mut mixed = from_u32(start);
+    let mut mixed = 0;
     let mut at = 0;
     let mut left = message.len() / 4;
     while 0 < left {
@@ -53,6 +55,22 @@ fn hash(start: u32, message: &[u8]) -> usize
         left -= 1;
     }
     mix_bytes(mixed, message, at)
+}
+
+// The middle of a number's square.
+fn square(n: usize) -> usize
+    requires { ⌜ n < 4294967296 ⌝ }
+    ensures { λ r. ⌜ r ≡ squared n ⌝ }
+{
+    n * n / 65536 % 4294967296
+}
+
+// The number of a start and a message. Without the square it would be a sum of what the two are mixed to, and a rule's writer could choose starts that
+// share a slot under every message.
+fn hash(start: u32, message: &[u8]) -> usize
+    ensures { λ r. ⌜ r ≡ hashed start (now (message .entry)) ⌝ }
+{
+    square(mix(hash_message(message), from_u32(start)))
 }
 
 // The slot that is k behind the first of a search.

@@ -17,7 +17,7 @@ use Rattle.nodes.specs.Kinds.{kindOf, spanOf, termKindOf, operatorNumber}
 use Rattle.condition.specs.Places.{isCondition, conditionIn, isTerm, termIn, isSlot, slotIn}
 use Rattle.nodes.specs.Offsets.{firstPart}
 use Rattle.nodes.specs.Laws.Pieces.{timepoint-inside}
-use Rattle.nodes.specs.Laws.Leaves.{leaves-gather, one-term, one-leaves}
+use Rattle.nodes.specs.Laws.Leaves.{leaves-gather, one-term, one-leaves, leaf-next, leaf-stands, leaf-plain, fewer-leaves}
 use Rattle.nodes.specs.Open.{Opened, TermOpened}
 use Rattle.nodes.specs.Parts.{Spans, ComparisonHere, TimepointHere, SlotHere, isTerms, leavesIn, LeafNext, NextLeafIs}
 use Rattle.nodes.specs.declared.Ends.{Ends}
@@ -136,23 +136,11 @@ module _ (f : Facts) (c : List ℕ) (span : Span) where
         reporting-over push breachesOf (rw none at r)
 
     module _ (at : ℕ) (rest : Several) (e : x ≡ NextLeaf.At at rest) where
-      next : LeafNext c (leavesIn c (left .count) (left .first)) at rest
-      next = rw e at is
-
-      pub leaf-stands : isTerm c at ≡ true
-      leaf-stands = next .stands
-
-      pub leaf-plain : termKindOf (termIn c at) ≡ 12 → ⊥
-      leaf-plain = next .leaf
-
-      pub fewer-leaves : length (leavesIn c (rest .count) (rest .first)) < length (leavesIn c (left .count) (left .first))
-      fewer-leaves = rw (next .value) (omega arith)
-
       pub leaves-turn : {whole : Sink} {now after table table′ : List ℕ} {st st′ : State} → LeavesLeft whole (sink now st) table left → (s : List ℕ) {y : Said} → Tells s c (leafBreaches f (termIn c at)) y
           → Pushed now st (saidBreaches s c y span) after st′ table′ → LeavesLeft whole (sink after st′) table′ rest
       leaves-turn l s g p =
           let r = l .reporting in
-          record { stands = next .others; reporting = reporting-next push breachesOf (rw (next .value) at r) (told s c (leafBreaches f (termIn c at)) span g p) }
+          record { stands = leaf-next c left x is at rest e .others; reporting = reporting-next push breachesOf (rw (leaf-next c left x is at rest e .value) at r) (told s c (leafBreaches f (termIn c at)) span g p) }
 
 module _ (f : Facts) (c : List ℕ) (at : ℕ) (span : Span) {old new table : List ℕ} {st st′ : State} where
   module _ (k : ℕ) (o : TermOpened c at k) where

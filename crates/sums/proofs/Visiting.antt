@@ -27,7 +27,7 @@ use Rattle.condition.specs.Places.{versionIn, recordIn, conditionIn, isTerm, te
 use Rattle.nodes.specs.Laws.Inside.{aggregate-first, aggregate-inside}
 use Rattle.nodes.specs.Open.{Opened, TermOpened, AggregateOpened, AggregateHere}
 use Rattle.nodes.specs.Parts.{ComparisonHere, PredicateHere, ArgumentHere, isTerms, leavesIn, LeafNext, NextLeafIs}
-use Rattle.nodes.specs.Laws.Leaves.{leaves-gather, one-term, one-leaves}
+use Rattle.nodes.specs.Laws.Leaves.{leaves-gather, one-term, one-leaves, leaf-next, leaf-stands, leaf-plain, fewer-leaves}
 use Rattle.walk.specs.Index.{nodesOf, Index, Reached}
 use Rattle.nodes.specs.Laws.Views.{by-kind, no-value, array-view}
 use Rattle.nodes.specs.Laws.Opens.{term-stands, raw-term}
@@ -182,22 +182,10 @@ module _ (s : List ℕ) where
         reporting-over append (termBreaches (binders (recordIn s))) (rw i at r)
 
     module _ (p : ℕ) (rest : Several) (e : x ≡ NextLeaf.At p rest) where
-      opened : LeafNext s (leavesIn s (left .count) (left .first)) p rest
-      opened = rw e at y
-
-      pub leaf-stands : isTerm s p ≡ true
-      leaf-stands = opened .stands
-
-      pub leaf-bare : termKindOf (termIn s p) ≡ 12 → ⊥
-      leaf-bare = opened .leaf
-
-      pub fewer-leaves : length (leavesIn s (rest .count) (rest .first)) < length (leavesIn s (left .count) (left .first))
-      fewer-leaves = rw (opened .value) (omega arith)
-
       pub leaves-turn : {whole : Sink} {now next : List ℕ} {st r : State} → LeavesOn s whole (sink now st) left → Appended now st (termBreaches (binders (recordIn s)) (termIn s p)) next r → LeavesOn s whole (sink next r) rest
-      leaves-turn l q = let i = l .so in record { stands = opened .others; so = reporting-next append (termBreaches (binders (recordIn s))) (rw (opened .value) at i) q }
+      leaves-turn l q = let i = l .so in record { stands = leaf-next s left x y p rest e .others; so = reporting-next append (termBreaches (binders (recordIn s))) (rw (leaf-next s left x y p rest e .value) at i) q }
 
-pub ruleset leafing = (needs, leaves-begin, leaves-done, leaf-stands, leaf-bare, fewer-leaves, leaves-turn)
+pub ruleset leafing = (needs, leaves-begin, leaves-done, leaf-stands, leaf-plain, fewer-leaves, leaves-turn)
 
 -- ---- arguments: what is left of them, reported, makes the whole
 

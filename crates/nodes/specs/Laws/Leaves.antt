@@ -2,19 +2,26 @@
 --     leaf-itself              what is no Arith is its own leaf
 --     leaves-gather            what an Arith has of its left, then of its right, its leaves have one after the other
 --     one-term, one-leaves     a term by itself is a row of one, and has its leaves
+--     leaf-next ..             what a walk over the leaves learns of the next one
 use mathlib.Core.Path.{_≡_, refl, sym, ap, ap₂, _∙_}
 use mathlib.Core.Bool.{true, false}
 use mathlib.Core.List.{List, [], _∷_, _++_, append-nil}
-use Prim.Native.Nat.{ℕ}
+use Prim.Native.Nat.{ℕ, _<_}
+use native.Mathlib.Omega.{arith}
+use lib.ListN.{length}
 use Rattle.names.specs.Lists.{gather}
 use Rattle.names.specs.Laws.Lists.{gather-append}
 use Rattle.names.specs.Fields.{many}
 use Rattle.names.specs.Laws.Readers.{is-accepted, has-value}
 use Rattle.names.specs.Laws.Rows.{row-cons}
-use Rattle.condition.specs.Condition.{Term, entity, literal, contextField, scopeField, var, wildcard, array, aggregate, arith, sigil}
+use Rattle.condition.specs.Condition.{Term, entity, literal, contextField, scopeField, var, wildcard, array, aggregate, sigil}
+use Rattle.condition.specs.Condition as tree
 use Rattle.condition.specs.Places.{termHere, isTerm, termIn}
 use Rattle.nodes.specs.Kinds.{termKindOf}
-use Rattle.nodes.specs.Parts.{isTerms, operandLeaves, leavesIn}
+use Rattle.nodes.specs.declared.Several.{Several}
+use Rattle.nodes.specs.declared.NextLeaf.{NextLeaf}
+use Rattle.nodes.specs.declared.NextLeaf.the-variants as NextLeaf
+use Rattle.nodes.specs.Parts.{isTerms, operandLeaves, leavesIn, LeafNext, NextLeafIs}
 use Rattle.nodes.specs.Laws.Opens.{term-stands}
 
 pub leaf-itself : (x : Term) → (termKindOf x ≡ 12 → ⊥) → operandLeaves x ≡ x ∷ []
@@ -27,10 +34,10 @@ leaf-itself (var v) a = refl
 leaf-itself wildcard a = refl
 leaf-itself (array ts) a = refl
 leaf-itself (aggregate x) a = refl
-leaf-itself (arith l r) a = absurd (a refl)
+leaf-itself (tree.arith l r) a = absurd (a refl)
 leaf-itself sigil a = refl
 
-module _ {A : Type 0} (g : Term → List A) (splits : (l r : Term) → g (arith l r) ≡ g l ++ g r) where
+module _ {A : Type 0} (g : Term → List A) (splits : (l r : Term) → g (tree.arith l r) ≡ g l ++ g r) where
   pub leaves-gather : (x : Term) → gather g (operandLeaves x) ≡ g x
   unfolding gather operandLeaves
   leaves-gather (entity n) = append-nil (g (entity n))
@@ -41,7 +48,7 @@ module _ {A : Type 0} (g : Term → List A) (splits : (l r : Term) → g (arith 
   leaves-gather wildcard = append-nil (g wildcard)
   leaves-gather (array ts) = append-nil (g (array ts))
   leaves-gather (aggregate a) = append-nil (g (aggregate a))
-  leaves-gather (arith l r) = gather-append g (operandLeaves l) (operandLeaves r) ∙ ap₂ _++_ (leaves-gather l) (leaves-gather r) ∙ sym (splits l r)
+  leaves-gather (tree.arith l r) = gather-append g (operandLeaves l) (operandLeaves r) ∙ ap₂ _++_ (leaves-gather l) (leaves-gather r) ∙ sym (splits l r)
   leaves-gather sigil = append-nil (g sigil)
 
 module _ (s : List ℕ) (at : ℕ) (acc : isTerm s at ≡ true) where
@@ -52,3 +59,17 @@ module _ (s : List ℕ) (at : ℕ) (acc : isTerm s at ≡ true) where
   pub one-leaves : leavesIn s 1 at ≡ operandLeaves (termIn s at)
   unfolding leavesIn gather many
   one-leaves = ap (gather operandLeaves) (has-value [] (row-cons termHere s 0 at (term-stands s at acc .read) refl)) ∙ append-nil (operandLeaves (termIn s at))
+
+-- the next leaf, as the code learns it
+module _ (s : List ℕ) (left : Several) (x : NextLeaf) (is : NextLeafIs s (leavesIn s (left .count) (left .first)) x) (p : ℕ) (rest : Several) (e : x ≡ NextLeaf.At p rest) where
+  pub leaf-next : LeafNext s (leavesIn s (left .count) (left .first)) p rest
+  leaf-next = rw e at is
+
+  pub leaf-stands : isTerm s p ≡ true
+  leaf-stands = leaf-next .stands
+
+  pub leaf-plain : termKindOf (termIn s p) ≡ 12 → ⊥
+  leaf-plain = leaf-next .leaf
+
+  pub fewer-leaves : length (leavesIn s (rest .count) (rest .first)) < length (leavesIn s (left .count) (left .first))
+  fewer-leaves = rw (leaf-next .value) (omega arith)

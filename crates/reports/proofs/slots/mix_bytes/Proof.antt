@@ -48,4 +48,4 @@ mix-bytes-spec =
     (λ c. search steps)
     (λ c. search steps)
     (λ c. search steps)
-    (λ c. search steps))
+    (λ c. (search steps, search steps)))

@@ -7,6 +7,7 @@ pub leaf-spec : {M : Type 1} → statement M
 leaf-spec =
     tie.close
     (tie.spec
+    (λ c κs. search leaf-kinds)
     (λ c. search leaf-kinds)
     (λ c. search leaf-kinds)
     (λ c. search leaf-kinds)

@@ -1,24 +1,24 @@
--- `rules::arithmetic::leaves` meets its contract. The leaves of the terms that are left, put in, make the whole. Assumes nothing.
+-- `rules::arithmetic::leaves` meets its contract. The leaves that are left, put in, make the whole. Assumes nothing.
 use mathlib.Core.Path.{_≡_}
-use Prim.Native.Nat.{_+_, _-_}
 use native.Mathlib.Omega.{arith}
 use lib.ListN.{length}
 use Rattle.condition.specs.Places.{termIn}
+use Rattle.nodes.specs.Parts.{leavesIn}
 use Rattle.reports.specs.Sink.{sink, pushAll}
 use Rattle.terms.specs.Facts.{factsIn}
 use Rattle.messages.specs.Words.{spanIn}
 use Rattle.rules.specs.Rules.{leafBreaches}
-use Rattle.rules.proofs.AtNode.{LeavesLeft, leaves-turn, each-leaf}
+use Rattle.rules.proofs.AtNode.{LeavesLeft, each-leaf}
 use Rattle.rules.proofs.arithmetic.leaves.Statement.{statement}
 use Rattle.rules.proofs.arithmetic.leaves.Tie as tie
 
 abbrev Inv-loop : tie.InvT-loop
-Inv-loop buf₀ table₀ schema condition targets env facts span now₀ rest₀ at₀ buf table now rest at =
+Inv-loop buf₀ table₀ schema condition targets env facts span now₀ left₀ buf table now left =
     (length buf ≡ length buf₀) × (length table ≡ length table₀)
-    × LeavesLeft (factsIn schema condition targets facts) condition (spanIn span) (pushAll (sink buf₀ now₀) (leafBreaches (factsIn schema condition targets facts) (termIn condition at₀) (spanIn span))) (sink buf now) table rest at
+    × LeavesLeft (factsIn schema condition targets facts) condition (spanIn span) (pushAll (sink buf₀ now₀) (leafBreaches (factsIn schema condition targets facts) (termIn condition (left₀ .first)) (spanIn span))) (sink buf now) table left
 
 abbrev μ-loop : tie.MeasureT-loop
-μ-loop buf₀ table₀ schema condition targets env facts span now₀ rest₀ at₀ buf table now rest at = length condition - at + (length condition - at) + rest
+μ-loop buf₀ table₀ schema condition targets env facts span now₀ left₀ buf table now left = length (leavesIn condition (left .count) (left .first))
 
 pub leaves-spec : {M : Type 1} → statement M
 leaves-spec =
@@ -28,16 +28,12 @@ leaves-spec =
     μ-loop
     (λ c. search each-leaf)
     (λ c κs. search each-leaf)
-    (λ c κs. search each-leaf)
     (λ c. search each-leaf)
     (λ c. search each-leaf)
     (λ c. search each-leaf)
-    (λ c κs. search each-leaf)
-    (λ c κs. search each-leaf)
-    (λ c κs. search each-leaf)
     (λ c. search each-leaf)
     (λ c. search each-leaf)
-    (λ c. (omega (arith, c .before .before .before .before .before .report .kept .0, c .before .before .before .before .before .before .before .before .before .before .before .before .loop .inv .0), omega (arith, c .before .before .before .before .before .report .kept .1, c .before .before .before .before .before .before .before .before .before .before .before .before .loop .inv .1), leaves-turn _ _ _ _ _ (c .before .before .before .before .before .before .before .before .before .before .before .before .loop .inv .2) (c .before .before .before .before .before .before .before .before .before .before .before .loop-test .taken) _ (c .before .before .before .before .before .before .before .before .leaf .ensures) (c .before .before .before .before .before .report .ensures) _ (c .past-term .ensures)))
+    (λ c κs. (search each-leaf, (search each-leaf, search each-leaf)))
+    (λ c κs. (search each-leaf, search each-leaf))
     (λ c. search each-leaf)
-    (λ c. search each-leaf)
-    (λ c. search each-leaf))
+    (λ c. (omega (arith, c .before .before .before .before .report .kept .0, c .before .before .before .before .before .before .before .before .before .before .before .before .loop .inv .0), omega (arith, c .before .before .before .before .report .kept .1, c .before .before .before .before .before .before .before .before .before .before .before .before .loop .inv .1), search each-leaf)))
