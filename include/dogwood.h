@@ -5,9 +5,10 @@
  * docs/RECORDS.md says what the bytes of a record mean. Any bytes may be given: what is no record is refused by a number.
  *
  * What the caller sees to:
- *   - an address leads to as many bytes as the length says; where the length is 0 it may be NULL;
- *   - nothing writes to a record or touches the lent buffer while the call runs;
- *   - the lent buffer overlaps no record. Records may overlap each other.
+ *   - an address leads to as many bytes as the length says, or to as many slots of workspace; where the length is 0 it may
+ *     be NULL;
+ *   - nothing writes to a record or touches the lent buffer or the workspace while the call runs;
+ *   - the lent buffer and the workspace overlap no record, nor each other. Records may overlap each other.
  *
  * The functions use no heap, no global state and no file, call nothing back and always return. They may run in any number
  * of threads at a time. A call stays below DOGWOOD_STACK bytes of stack (measured: docs/BENCHMARKS.md).
@@ -33,6 +34,12 @@ extern "C" {
 
 /* Stack that is enough for any call; what was measured is less (docs/BENCHMARKS.md). */
 #define DOGWOOD_STACK 65536
+
+/*
+ * Slots of workspace (32 bits each) with which dogwood_check_with is linear in the reports of a buffer of so many bytes,
+ * whatever they are: a report has at least 51 bytes, and four slots serve three of them. It can size an array.
+ */
+#define DOGWOOD_WORKSPACE(bytes) ((bytes) / 38 + 1)
 
 /* Why there is no answer. The numbers 1 to 10 are met while a record is read, the first one from the left counts. */
 enum dogwood_cause {
@@ -95,6 +102,25 @@ struct dogwood_answer dogwood_check(const uint8_t *schema, size_t schema_length,
                                     const uint8_t *condition, size_t condition_length,
                                     const uint8_t *targets, size_t targets_length,
                                     uint8_t *reports, size_t reports_length);
+
+/*
+ * The same check with lent workspace, in which repeated reports are found: the same answer and the same bytes in the buffer
+ * as dogwood_check gives, for every workspace. It may have any number of slots, none too, and hold anything.
+ *
+ * Time is linear in the number of reports as long as there are fewer than three reports for every four slots, of which
+ * DOGWOOD_WORKSPACE(reports_length) are always enough, and the buffer is shorter than 4,294,967,295 bytes. Further reports
+ * are compared with all that were found before. dogwood_check has 2,048 slots of its own on the stack, which serve 1,536
+ * reports: a buffer of up to 78,335 bytes needs no workspace.
+ * Number 1 to 10 leaves the workspace as it was. Otherwise its contents afterwards mean nothing. It need not be cleared
+ * before a call; a call clears it, so that more slots than are needed cost time.
+ * `rules` is for what callers will choose. No bit of it has a meaning yet, and a bit without one has no effect: pass 0.
+ */
+struct dogwood_answer dogwood_check_with(uint8_t rules,
+                                         const uint8_t *schema, size_t schema_length,
+                                         const uint8_t *condition, size_t condition_length,
+                                         const uint8_t *targets, size_t targets_length,
+                                         uint8_t *reports, size_t reports_length,
+                                         uint32_t *workspace, size_t workspace_length);
 
 /*
  * Reports each sum of a condition whose summand is declared as something else than Long. It needs no schema and no targets;

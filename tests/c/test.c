@@ -41,6 +41,7 @@ static void test(int holds, const char *claim, int line) {
 
 #define CONDITION "DWC\0\1" WRONG_COMPARISON
 #define TWO_COMPARISONS "DWC\0\1" "\1" ZERO_SPAN WRONG_COMPARISON NEXT_COMPARISON
+#define TWICE "DWC\0\1" "\1" ZERO_SPAN WRONG_COMPARISON WRONG_COMPARISON
 #define CLEAN_CONDITION "DWC\0\1" "\13" ZERO_SPAN
 
 /* `exists (v: String). (sum v for . ..) == 1`, the sum at 3 to 258. */
@@ -195,6 +196,76 @@ static void test_check_space(void) {
     TEST(refuses(answer, DOGWOOD_NO_SPACE, DOGWOOD_NO_RECORD));
 }
 
+/* ─── Check with workspace ─── */
+
+#define SLOTS DOGWOOD_WORKSPACE(SPACE)
+
+static uint32_t workspace[SLOTS];
+
+/* As many slots, each of which holds this. */
+static uint32_t *filled(uint32_t slot) {
+    size_t at;
+    for (at = 0; at < SLOTS; at++) {
+        workspace[at] = slot;
+    }
+    return workspace;
+}
+
+static int filled_with(uint32_t slot) {
+    size_t at = 0;
+    while (at < SLOTS && workspace[at] == slot) {
+        at++;
+    }
+    return at == SLOTS;
+}
+
+/* Whether the check of these records gives with this workspace and these rules what dogwood_check gives, to the byte. */
+static int as_without(const uint8_t *condition, size_t length, size_t space, uint8_t rules, uint32_t slot, size_t slots) {
+    static uint8_t expected[SPACE];
+    struct dogwood_answer plain, lent;
+
+    plain = dogwood_check(BYTES(SCHEMA), condition, length, BYTES(TARGETS), fresh(), space);
+    memcpy(expected, buffer, SPACE);
+    lent = dogwood_check_with(rules, BYTES(SCHEMA), condition, length, BYTES(TARGETS), fresh(), space, filled(slot), slots);
+    return answers(lent, plain.number, plain.record, plain.count) && memcmp(buffer, expected, SPACE) == 0;
+}
+
+/* No slot, one, some and enough; free ones, such as name a place in the buffer, and garbage; with space for all, for one. */
+static void test_check_with(void) {
+    static const size_t counts[] = {0, 1, 2, 3, SLOTS};
+    static const uint32_t slots[] = {0, 1, 86, 0xA5A5A5A5, 0xFFFFFFFF};
+    const size_t one = DOGWOOD_REPORT_HEAD + strlen(MESSAGE);
+    size_t i, j;
+    int rules;
+
+    for (i = 0; i < sizeof counts / sizeof *counts; i++) {
+        for (j = 0; j < sizeof slots / sizeof *slots; j++) {
+            TEST(as_without(BYTES(TWO_COMPARISONS), SPACE, 0, slots[j], counts[i]));
+            TEST(as_without(BYTES(TWO_COMPARISONS), 2 * one - 1, 0, slots[j], counts[i]));
+            TEST(as_without(BYTES(TWICE), SPACE, 0, slots[j], counts[i]));
+            TEST(as_without(BYTES(CLEAN_CONDITION), SPACE, 0, slots[j], counts[i]));
+        }
+    }
+    for (rules = 0; rules < 256; rules++) {
+        TEST(as_without(BYTES(TWO_COMPARISONS), SPACE, (uint8_t)rules, 0xA5A5A5A5, SLOTS));
+    }
+    TEST(answers(dogwood_check_with(0, BYTES(SCHEMA), BYTES(TWICE), BYTES(TARGETS), fresh(), SPACE, NULL, 0), 0, 0, 1));
+}
+
+/* A refused record leaves the buffer and the workspace as they were. */
+static void test_check_with_refusals(void) {
+    struct dogwood_answer answer;
+
+    answer = dogwood_check_with(0, BYTES("XXX"), BYTES(""), BYTES(""), fresh(), SPACE, filled(7), SLOTS);
+    TEST(refuses(answer, DOGWOOD_OTHER_MARK, DOGWOOD_SCHEMA) && filled_with(7));
+    answer = dogwood_check_with(0, BYTES(SCHEMA), BYTES("DWC\0\1\16"), BYTES(""), fresh(), SPACE, filled(7), SLOTS);
+    TEST(refuses(answer, DOGWOOD_UNDEFINED_CHOICE, DOGWOOD_CONDITION) && filled_with(7));
+    answer = dogwood_check_with(0, BYTES(SCHEMA), BYTES(CONDITION), BYTES("DWT\0\1\2\0"), fresh(), SPACE, filled(7), SLOTS);
+    TEST(refuses(answer, DOGWOOD_OUTSIDE_CLASS, DOGWOOD_TARGETS) && filled_with(7));
+    answer = dogwood_check_with(255, NULL, 0, NULL, 0, NULL, 0, NULL, 0, NULL, 0);
+    TEST(answers(answer, DOGWOOD_CUT, DOGWOOD_SCHEMA, 0));
+}
+
 /* ─── Sums ─── */
 
 static void test_sums(void) {
@@ -250,6 +321,8 @@ int main(void) {
     test_nothing();
     test_check();
     test_check_space();
+    test_check_with();
+    test_check_with_refusals();
     test_sums();
     test_lookup();
     printf("the library from C: %d tests, %d failed\n", tests, failures);
