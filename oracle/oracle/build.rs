@@ -6,12 +6,13 @@
 use std::path::PathBuf;
 use std::{env, fs};
 
-const FUNCTIONS: [&str; 7] = [
+const FUNCTIONS: [&str; 8] = [
     "dogwood_read_schema",
     "dogwood_read_condition",
     "dogwood_read_targets",
     "dogwood_read_path",
     "dogwood_check",
+    "dogwood_check_with",
     "dogwood_sums",
     "dogwood_lookup",
 ];

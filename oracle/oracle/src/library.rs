@@ -37,6 +37,19 @@ extern "C" {
         reports: *mut u8,
         reports_length: usize,
     ) -> Returned;
+    fn dogwood_check_with(
+        rules: u8,
+        schema: *const u8,
+        schema_length: usize,
+        condition: *const u8,
+        condition_length: usize,
+        targets: *const u8,
+        targets_length: usize,
+        reports: *mut u8,
+        reports_length: usize,
+        workspace: *mut u32,
+        workspace_length: usize,
+    ) -> Returned;
     fn dogwood_sums(condition: *const u8, condition_length: usize, reports: *mut u8, reports_length: usize)
         -> Returned;
     fn dogwood_lookup(
@@ -51,16 +64,20 @@ extern "C" {
     ) -> Returned;
 }
 
-/// Calls a function of the library with the bytes of slices, where the library has it.
+/// Calls a function of the library with plain values first and then slices, where the library has it.
 macro_rules! called {
-    ($present:meta, $function:ident, [$($read:expr),*], [$($lent:expr),*]) => {{
+    ($present:meta, $function:ident, [$($read:expr),*], [$($lent:expr),*]) => {
+        called!($present, $function, [], [$($read),*], [$($lent),*])
+    };
+    ($present:meta, $function:ident, [$($plain:expr),*], [$($read:expr),*], [$($lent:expr),*]) => {{
         #[cfg($present)]
         {
-            // SAFETY: each address and length is that of a slice that lives through the call, and the lent one is ours alone.
-            Some(unsafe { $function($($read.as_ptr(), $read.len(),)* $($lent.as_mut_ptr(), $lent.len(),)*) })
+            // SAFETY: each address and length is that of a slice that lives through the call, and the lent ones are ours alone.
+            Some(unsafe { $function($($plain,)* $($read.as_ptr(), $read.len(),)* $($lent.as_mut_ptr(), $lent.len(),)*) })
         }
         #[cfg(not($present))]
         {
+            $(let _ = $plain;)*
             $(let _ = &$read;)*
             $(let _ = &$lent;)*
             None
@@ -80,6 +97,24 @@ pub fn read(operation: Operation, bytes: &[u8]) -> Option<u8> {
 
 pub fn check(schema: &[u8], condition: &[u8], targets: &[u8], reports: &mut [u8]) -> Option<Answer> {
     let returned: Option<Returned> = called!(has_dogwood_check, dogwood_check, [schema, condition, targets], [reports]);
+    returned.map(Returned::answer)
+}
+
+/// The check with lent workspace: slots of any number that hold anything.
+#[allow(dead_code)]
+pub fn check_with(
+    rules: u8,
+    [schema, condition, targets]: [&[u8]; 3],
+    reports: &mut [u8],
+    workspace: &mut [u32],
+) -> Option<Answer> {
+    let returned: Option<Returned> = called!(
+        has_dogwood_check_with,
+        dogwood_check_with,
+        [rules],
+        [schema, condition, targets],
+        [reports, workspace]
+    );
     returned.map(Returned::answer)
 }
 

@@ -20,6 +20,8 @@ pub struct Workload {
     pub trees: [Piece; 4],
     /// The bytes of the lent buffer.
     pub space: usize,
+    /// Whether our check is lent workspace beside the buffer, or has only its own.
+    pub lends: bool,
 }
 
 /// The lent buffer, where nothing else is said.
@@ -35,7 +37,13 @@ fn workload(name: &str, reads: bool, schema: Piece, condition: Piece, targets: P
         path: path.bytes(),
         trees: [schema, condition, targets, path],
         space: SPACE,
+        lends: false,
     }
+}
+
+/// Slots of workspace that are enough for every report of a buffer, as `DOGWOOD_WORKSPACE` of include/dogwood.h has it.
+pub fn workspace_for(space: usize) -> usize {
+    space / 38 + 1
 }
 
 pub fn all() -> Vec<Workload> {
@@ -239,7 +247,7 @@ pub fn behind_a_large_type(name: &str, targets: usize) -> Workload {
 
 fn crowd(name: &str, schema: Piece, condition: Piece, all: Vec<Piece>, space: usize) -> Workload {
     let records = workload(name, false, schema, condition, targets(byte(0), byte(0), all), path(0, &NONE, 0));
-    Workload { space, ..records }
+    Workload { space, lends: true, ..records }
 }
 
 /// Actions `000` and on, each with the context that belongs to its number.

@@ -3,7 +3,7 @@
 //! For each row: the published Rust alone, on trees that are read already; the Rust with the oracle's reading of the
 //! records into its trees; ours, which always reads. The ratio is of the last two. With `--write FOLDER` the table and the
 //! stack go into the marked parts of BENCHMARKS.md of that folder, and the plot into benchmark.svg beside it. With
-//! `--only PART` just the inputs are measured whose names have that part.
+//! `--rows TEXT` only the rows whose input has that text are measured, and nothing is written.
 
 #[path = "../library.rs"]
 mod library;
@@ -16,7 +16,7 @@ use oracle::plot::{self, Line, Panel};
 use oracle::records;
 use oracle::stack;
 use oracle::timing::{shown, time};
-use oracle::workloads::{self, Workload};
+use oracle::workloads::{self, workspace_for, Workload};
 use std::hint::black_box;
 use std::path::Path;
 use std::process::Command;
@@ -24,16 +24,16 @@ use std::{env, fs};
 
 fn main() {
     let words: Vec<String> = env::args().skip(1).collect();
-    let (folder, part) = match &words[..] {
-        [] => (None, ""),
-        [flag, folder] if flag == "--write" => (Some(folder), ""),
-        [flag, part] if flag == "--only" => (None, part.as_str()),
-        _ => panic!("usage: bench [--write FOLDER | --only PART]"),
-    };
-    let table = table(part);
-    let stacks = stacks(part);
+    if let [flag, text] = &words[..] {
+        if flag == "--rows" {
+            return println!("{}", table(text));
+        }
+    }
+    let table = table("");
+    let stacks = stacks();
     println!("{table}\n{stacks}");
-    if let Some(folder) = folder {
+    if let [flag, folder] = &words[..] {
+        assert_eq!(flag, "--write");
         write(Path::new(folder), &[("table", &table), ("stack", &stacks)]);
     }
 }
@@ -47,12 +47,13 @@ struct Times {
     ours: Option<f64>,
 }
 
-fn table(part: &str) -> String {
+/// The rows whose input has this text.
+fn table(text: &str) -> String {
     let mut out = format!("{}\n\n", machine());
     out += "| input | operation | Rust alone | Rust with reading | ours | Rust with reading / ours |\n";
     out += "|---|---|---:|---:|---:|---:|\n";
     let all = workloads::all().into_iter().chain(workloads::crowded()).chain(workloads::searching());
-    for w in all.filter(|w| w.name.contains(part)) {
+    for w in all.filter(|w| w.name.contains(text)) {
         for (input, operation, times) in rows_of(&w) {
             out += &row(&input, operation, &times);
         }
@@ -103,9 +104,21 @@ fn check(w: &Workload) -> Times {
         used(errors);
     });
     let with_reading = time(|| used(answers::check(black_box(s), c, t, &mut buffer)));
-    let ours =
-        library::check(s, c, t, &mut buffer).map(|_| time(|| used(library::check(black_box(s), c, t, &mut buffer))));
+    let ours = match w.lends {
+        true => lent(w, &mut buffer),
+        false => {
+            library::check(s, c, t, &mut buffer).map(|_| time(|| used(library::check(black_box(s), c, t, &mut buffer))))
+        }
+    };
     Times { alone: Some(alone), with_reading, ours }
+}
+
+/// Our time with workspace lent beside the buffer; none where the library has no such function.
+fn lent(w: &Workload, buffer: &mut [u8]) -> Option<f64> {
+    let (s, c, t) = (&w.schema[..], &w.condition[..], &w.targets[..]);
+    let mut workspace = vec![0; workspace_for(w.space)];
+    library::check_with(0, [s, c, t], buffer, &mut workspace)?;
+    Some(time(|| used(library::check_with(0, [black_box(s), c, t], buffer, &mut workspace))))
 }
 
 fn sums(w: &Workload) -> Times {
@@ -150,11 +163,10 @@ fn used<T>(result: T) {
 
 // ─── The stack ───
 
-fn stacks(part: &str) -> String {
+fn stacks() -> String {
     let mut out = String::from("| input | operation | bytes of stack |\n|---|---|---:|\n");
-    let all = workloads::all().into_iter().filter(|w| w.reads).chain(workloads::deep());
-    for w in all.filter(|w| w.name.contains(part)) {
-        for (operation, bytes) in stacks_of(&w) {
+    for w in workloads::all().iter().filter(|w| w.reads).chain(&workloads::deep()) {
+        for (operation, bytes) in stacks_of(w) {
             out += &format!("| {} | {operation} | {bytes} |\n", w.name);
         }
     }

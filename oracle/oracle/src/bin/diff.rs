@@ -1,12 +1,13 @@
 //! The differential test: fresh cases against the static library, answers and whole buffers compared with the oracle's.
 //!
 //! Usage: `diff N [SEED [LETTERS]]`. Without a seed one is taken from the clock; it is printed, so that a run can be had
-//! again. LETTERS are those of the operations to be compared; without them all that the library has.
+//! again. LETTERS are those of the operations to be compared; without them all that the library has. Each check is also
+//! made with lent workspace of random size and contents and any rules byte, and held against the one without.
 
 #[path = "../library.rs"]
 mod library;
 
-use oracle::cases::{Case, Draft, Operation, Outcome};
+use oracle::cases::{Case, Draft, Operation, Outcome, FILL};
 use oracle::coverage::Coverage;
 use oracle::{generate, hex, lists, rng::Rng, shrink, workloads};
 use std::time::{SystemTime, UNIX_EPOCH};
@@ -22,7 +23,8 @@ fn main() {
     let mut operations = library::operations();
     operations.retain(|o| wanted.as_ref().is_none_or(|letters| letters.contains(o.letter())));
     let letters: String = operations.iter().map(|o| o.letter()).collect();
-    if operations.is_empty() || wanted.is_none() && operations.len() < COMPARED {
+    let lends = library::check_with(0, [&[]; 3], &mut [], &mut []).is_some();
+    if operations.is_empty() || wanted.is_none() && (operations.len() < COMPARED || !lends) {
         println!("oracle: NOTHING COMPARED, the static library is not there or lacks functions: it has '{letters}'");
         std::process::exit(1);
     }
@@ -77,7 +79,44 @@ fn compare_fresh(operations: &[Operation], count: usize, seed: u64) -> Coverage 
 }
 
 fn differs(case: &Case) -> bool {
-    library::outcome(case) != case.outcome()
+    library::outcome(case) != case.outcome() || lent_differs(case)
+}
+
+/// Whether the check answers otherwise with workspace than without, or writes to it where a record is refused.
+fn lent_differs(case: &Case) -> bool {
+    if case.operation != Operation::Check {
+        return false;
+    }
+    let (rules, workspace) = lent_to(case);
+    let (outcome, left) = with_workspace(case, rules, &workspace);
+    let refused = matches!(&outcome, Some(Outcome::Answered(answer, _)) if (1..=10).contains(&answer.number));
+    outcome != library::outcome(case) || refused && left != workspace
+}
+
+/// A rules byte and workspace: none, a slot, a few, many, enough for the buffer. The case alone decides, so that one that
+/// is made smaller is tried in the same way every time.
+fn lent_to(case: &Case) -> (u8, Vec<u32>) {
+    let sum: u64 = case.records.iter().flatten().map(|byte| u64::from(*byte)).sum();
+    let mut rng = Rng::new(sum ^ (case.size as u64) << 32);
+    let slots = match rng.below(5) {
+        0 => 0,
+        1 => 1,
+        2 => rng.below(16),
+        3 => rng.below(3_000),
+        _ => workloads::workspace_for(case.size),
+    };
+    let rules = rng.below(256) as u8;
+    // places in the buffer are what would do harm, were they believed
+    let bound = rng.one(&[1, case.size + 2, 1 << 32]);
+    (rules, (0..slots).map(|_| rng.below(bound) as u32).collect())
+}
+
+/// The outcome with this workspace, and what is left in it.
+fn with_workspace(case: &Case, rules: u8, workspace: &[u32]) -> (Option<Outcome>, Vec<u32>) {
+    let (r, mut left) = (&case.records, workspace.to_vec());
+    let mut buffer = vec![FILL; case.size];
+    let answer = library::check_with(rules, [&r[0], &r[1], &r[2]], &mut buffer, &mut left);
+    (answer.map(|answer| Outcome::Answered(answer, buffer)), left)
 }
 
 fn show(case: &Case) {
@@ -87,6 +126,14 @@ fn show(case: &Case) {
     }
     println!("  the Rust: {}", shown(case.outcome()));
     println!("  ours:     {}", shown(library::outcome(case)));
+    if case.operation == Operation::Check {
+        let (rules, workspace) = lent_to(case);
+        println!(
+            "  with {} slots, rules {rules}: {}",
+            workspace.len(),
+            shown(with_workspace(case, rules, &workspace).0)
+        );
+    }
 }
 
 fn shown(outcome: Option<Outcome>) -> String {

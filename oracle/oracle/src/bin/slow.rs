@@ -29,7 +29,8 @@ fn main() {
     let mut words = env::args().skip(1);
     let count: usize = words.next().and_then(|w| w.parse().ok()).expect("usage: slow N [SEED]");
     let seed: u64 = words.next().map_or_else(seed_from_clock, |w| w.parse().expect("the seed is a number"));
-    if OPERATIONS.iter().any(|(operation, _)| !library::operations().contains(operation)) {
+    let lends = library::check_with(0, [&[]; 3], &mut [], &mut []).is_some();
+    if !lends || OPERATIONS.iter().any(|(operation, _)| !library::operations().contains(operation)) {
         println!("oracle: NOTHING TRIED, the static library is not there or lacks functions");
         std::process::exit(1);
     }
@@ -89,8 +90,9 @@ fn known(operation: Operation) -> Vec<Draft> {
 fn taken(draft: &Draft) -> Taken {
     let case = draft.case();
     let mut buffer = vec![0; case.size];
+    let mut workspace = vec![0; workloads::workspace_for(case.size)];
     let ours = glance(|| {
-        black_box(call(&case, &mut buffer));
+        black_box(call(&case, &mut buffer, &mut workspace));
     });
     let deep = draft.records.iter().map(array_depth).max().unwrap_or(0) > DEEPEST;
     let rust = (!deep).then(|| {
@@ -101,10 +103,11 @@ fn taken(draft: &Draft) -> Taken {
     Taken { ours, rust }
 }
 
-fn call(case: &Case, buffer: &mut [u8]) -> Option<Answer> {
+/// Our call; a check is lent workspace that is enough for the buffer.
+fn call(case: &Case, buffer: &mut [u8], workspace: &mut [u32]) -> Option<Answer> {
     let r = &case.records;
     match case.operation {
-        Operation::Check => library::check(&r[0], &r[1], &r[2], buffer),
+        Operation::Check => library::check_with(0, [&r[0], &r[1], &r[2]], buffer, workspace),
         Operation::Sums => library::sums(&r[0], buffer),
         _ => library::lookup(&r[0], &r[1], &r[2], buffer),
     }
