@@ -1,7 +1,7 @@
 //! The functions of `libdogwood.a`, each behind a safe one. All of this crate's unsafe code stands here.
 //!
 //! A slice crosses the border as its address and its length. The library reads only the records' bytes, writes only the lent
-//! buffer's, keeps no address, and asks nothing of the bytes: it is proved for all of them.
+//! buffer and workspace, keeps no address, and asks nothing of the bytes: it is proved for all of them.
 
 /// What the library returns, as `struct dogwood_answer` of `include/dogwood.h`.
 #[repr(C)]
@@ -25,6 +25,19 @@ extern "C" {
         targets_length: usize,
         reports: *mut u8,
         reports_length: usize,
+    ) -> Returned;
+    fn dogwood_check_with(
+        rules: u8,
+        schema: *const u8,
+        schema_length: usize,
+        condition: *const u8,
+        condition_length: usize,
+        targets: *const u8,
+        targets_length: usize,
+        reports: *mut u8,
+        reports_length: usize,
+        workspace: *mut u32,
+        workspace_length: usize,
     ) -> Returned;
     fn dogwood_sums(condition: *const u8, condition_length: usize, reports: *mut u8, reports_length: usize)
         -> Returned;
@@ -73,6 +86,30 @@ pub(crate) fn check(schema: &[u8], condition: &[u8], targets: &[u8], reports: &m
             targets.len(),
             reports.as_mut_ptr(),
             reports.len(),
+        )
+    }
+}
+
+pub(crate) fn check_with(
+    rules: u8,
+    [schema, condition, targets]: [&[u8]; 3],
+    reports: &mut [u8],
+    workspace: &mut [u32],
+) -> Returned {
+    // SAFETY: as for `check`; the buffer and the workspace, both borrowed mutably, do not overlap each other either.
+    unsafe {
+        dogwood_check_with(
+            rules,
+            schema.as_ptr(),
+            schema.len(),
+            condition.as_ptr(),
+            condition.len(),
+            targets.as_ptr(),
+            targets.len(),
+            reports.as_mut_ptr(),
+            reports.len(),
+            workspace.as_mut_ptr(),
+            workspace.len(),
         )
     }
 }

@@ -30,11 +30,14 @@
 //!
 //! # Two layers
 //!
-//! [`check_into`], [`sums_into`] and [`lookup_into`] take a lent buffer and allocate nothing; [`Reports`] and
-//! [`ScopePath::decode`] read what they write. [`check`], [`sums`] and [`lookup`] take the space they need, up to
-//! [`MOST_SPACE`], and give owned values; [`Findings`] say whether there were more reports than that holds. Any bytes may be given as records: what is no record is refused, with a
-//! [`Cause`] and the record that it is about. A record in another one's place is refused too, by its mark.
-//! [`read_schema`] and its like say beforehand whether bytes are a record.
+//! [`check_with`], [`sums_into`] and [`lookup_into`] take lent space and allocate nothing; [`check_into`] takes a lent
+//! buffer, and workspace of its own where a request may have very many reports. [`Reports`] and [`ScopePath::decode`]
+//! read what they write. [`check`], [`sums`] and [`lookup`] take the space they need, up to [`MOST_SPACE`], and give owned
+//! values; [`Findings`] say whether there were more reports than that holds.
+//!
+//! Any bytes may be given as records: what is no record is refused, with a [`Cause`] and the record that it is about. A
+//! record in another one's place is refused too, by its mark. [`read_schema`] and its like say beforehand whether bytes
+//! are a record.
 //!
 //! # What is proved, and what is not
 //!
@@ -60,6 +63,7 @@ mod operations;
 mod path;
 mod refusal;
 mod report;
+mod rules;
 mod schema;
 mod scope_path;
 mod span;
@@ -73,12 +77,13 @@ pub use decode::DecodeError;
 pub use encode::{Class, EncodeError, Problem, MOST_BYTES, MOST_LEVELS, MOST_TEXT};
 pub use findings::Findings;
 pub use operations::{
-    check, check_into, lookup, lookup_into, read_condition, read_path, read_schema, read_targets, sums, sums_into,
-    MOST_SPACE,
+    check, check_into, check_with, lookup, lookup_into, read_condition, read_path, read_schema, read_targets, sums,
+    sums_into, workspace_for, MOST_SPACE,
 };
 pub use path::{Path, Scope};
 pub use refusal::{Cause, RecordKind, Refusal};
 pub use report::{Report, ReportRef, Reports};
+pub use rules::Rules;
 pub use schema::{Action, Attribute, EntityType, Schema, Type};
 pub use scope_path::ScopePath;
 pub use span::Span;

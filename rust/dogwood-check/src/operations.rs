@@ -1,6 +1,6 @@
 //! The library's operations: in a lent buffer, and with space of their own.
 
-use crate::{ffi, Answer, Cause, Findings, Refusal, Reports, ScopePath};
+use crate::{ffi, Answer, Cause, Findings, Refusal, Reports, Rules, ScopePath};
 
 /// The space that [`check`], [`sums`] and [`lookup`] begin with: 64 KiB, which hold hundreds of reports.
 const FIRST_SPACE: usize = 64 << 10;
@@ -11,6 +11,12 @@ const GROWTH: usize = 16;
 /// The most space that [`check`], [`sums`] and [`lookup`] take for an answer: 16 MiB. Whoever wants another bound
 /// lends a buffer to [`check_into`], [`sums_into`] or [`lookup_into`].
 pub const MOST_SPACE: usize = FIRST_SPACE * GROWTH * GROWTH;
+
+/// The bytes of the shortest report of a check.
+const LEAST_REPORT: usize = 51;
+
+/// So many reports are found again without workspace: the library has a table for them on its stack.
+const OWN_REPORTS: usize = 1_536;
 
 fn read(number: u8) -> Result<(), Cause> {
     Cause::answered(number).map_or(Ok(()), Err)
@@ -47,7 +53,9 @@ pub fn read_path(bytes: &[u8]) -> Result<(), Cause> {
 ///
 /// Without refusal the buffer begins with [`count`](Answer::count) reports, which [`Reports`] decodes. After
 /// [`Cause::NoSpace`] it begins with the `count` reports before the first that does not fit. After any other refusal,
-/// and behind the reports, the buffer is as it was. Nothing is allocated.
+/// and behind the reports, the buffer is as it was. Where the records and the buffer have room for more than 1,535
+/// reports, workspace is allocated as [`workspace_for`] says, so that time is linear in the reports; [`check_with`]
+/// allocates nothing.
 ///
 /// ```
 /// use dogwood_check::{check_into, Reports};
@@ -64,7 +72,65 @@ pub fn read_path(bytes: &[u8]) -> Result<(), Cause> {
 /// # Ok::<(), dogwood_check::DecodeError>(())
 /// ```
 pub fn check_into(schema: &[u8], condition: &[u8], targets: &[u8], reports: &mut [u8]) -> Answer {
-    Answer::new(ffi::check(schema, condition, targets, reports))
+    let most = most_reports(condition, targets, reports.len());
+    if most < OWN_REPORTS {
+        return Answer::new(ffi::check(schema, condition, targets, reports));
+    }
+    let mut workspace = vec![0; slots_for(most)];
+    check_with(Rules::plain(), schema, condition, targets, reports, &mut workspace)
+}
+
+/// The check of [`check_into`] with workspace lent too, in which repeated reports are found. Nothing is allocated.
+///
+/// The answer and the buffer are the same for every workspace: it may have any number of slots and hold anything.
+/// [`workspace_for`] says how many slots make time linear in the reports; with fewer, further reports are compared with
+/// all before them. Where a record is refused the workspace is as it was, else its contents mean nothing afterwards.
+///
+/// ```
+/// use dogwood_check::{check_with, workspace_for, Reports, Rules};
+///
+/// let schema = b"DWS\0\x01\0\0\0\0";
+/// let condition = b"DWC\0\x01\x08\0\0\0\0\0\0\0\x08\x01\x05\x02"; // `true < 1`
+/// let targets = b"DWT\0\x01\0\0\x01\0\x04view";
+/// let mut buffer = [0; 1024];
+/// let mut workspace = vec![0; workspace_for(buffer.len())];
+/// let answer = check_with(Rules::plain(), schema, condition, targets, &mut buffer, &mut workspace);
+/// assert_eq!((answer.refusal, answer.count), (None, 1));
+///
+/// let mut other = [0; 1024];
+/// assert_eq!(check_with(Rules::plain(), schema, condition, targets, &mut other, &mut []), answer);
+/// assert_eq!(other, buffer);
+/// ```
+pub fn check_with(
+    rules: Rules,
+    schema: &[u8],
+    condition: &[u8],
+    targets: &[u8],
+    reports: &mut [u8],
+    workspace: &mut [u32],
+) -> Answer {
+    Answer::new(ffi::check_with(rules.bits(), [schema, condition, targets], reports, workspace))
+}
+
+/// How many slots of workspace make [`check_with`] linear in the reports of a buffer of so many bytes, whatever the
+/// records are.
+///
+/// ```
+/// assert_eq!(dogwood_check::workspace_for(1 << 20), 27_414);
+/// ```
+pub fn workspace_for(space: usize) -> usize {
+    slots_for(space / LEAST_REPORT)
+}
+
+/// Slots for so many reports: a table takes three for every four slots, and has to have one place left.
+fn slots_for(reports: usize) -> usize {
+    reports + reports / 3 + 1
+}
+
+/// No more reports than this come of these records and fit: under each target a report is about a byte of the condition
+/// that no other one is about, and a target has two bytes at least. Were there more, the check would only be slower.
+fn most_reports(condition: &[u8], targets: &[u8], space: usize) -> usize {
+    (space / LEAST_REPORT).min(condition.len() * (targets.len() / 2))
 }
 
 /// Checks the sums of a condition, with a lent buffer for the reports. The buffer is filled as by [`check_into`].
@@ -84,8 +150,9 @@ pub fn lookup_into(schema: &[u8], targets: &[u8], path: &[u8], output: &mut [u8]
 /// The condition breaks no rule where the findings [are clean](Findings::is_clean).
 ///
 /// The call takes 64 KiB for the reports and, where they do not fit, is repeated with 1 MiB and then with
-/// [`MOST_SPACE`]. Only a condition made to have very many reports has more than that: the findings then
-/// [say so](Findings::more), beside the reports that fit.
+/// [`MOST_SPACE`], workspace being in proportion ([`workspace_for`]). Only a condition made to have very many reports has
+/// more than that: the findings then [say so](Findings::more), beside the reports that fit. Time is linear in the
+/// reports.
 ///
 /// An empty list of targets has nothing to check and gives no report. An undeclared target gives reports only for what
 /// can be judged without its action, and a field that does not resolve has no type and is not reported.

@@ -2,7 +2,7 @@
 
 mod common;
 
-use common::{report, wrong_comparison, MESSAGE, SCHEMA, TARGETS};
+use common::{report, rng::Rng, wrong_comparison, MESSAGE, SCHEMA, TARGETS};
 use dogwood_check::*;
 
 /// The bytes of a report with the example's message.
@@ -51,6 +51,58 @@ fn reports_that_do_not_fit() {
     assert_eq!(check_into(SCHEMA, &condition, TARGETS, &mut exact).into_result(), Ok(3));
 }
 
+/// What a check answers, and the whole buffer and workspace after it.
+fn lent(condition: &[u8], space: usize, workspace: &[u32]) -> (Answer, Vec<u8>, Vec<u32>) {
+    let (mut buffer, mut workspace) = (vec![0xA5; space], workspace.to_vec());
+    let answer = check_with(Rules::plain(), SCHEMA, condition, TARGETS, &mut buffer, &mut workspace);
+    (answer, buffer, workspace)
+}
+
+/// Whatever the workspace is, the answer and the buffer are those of a check without it, where the reports fit and where
+/// they do not. The condition has each comparison twice, so that there are repeats to be found.
+#[test]
+fn any_workspace_gives_the_same() {
+    let twice = |count: u32| (0..2 * count).map(|number| wrong_comparison(number % count * 10)).collect();
+    let condition = joined(twice(40)).encode().unwrap();
+    let mut rng = Rng::new(18);
+    for space in [0, ONE - 1, ONE, 17 * ONE + 3, 40 * ONE, 41 * ONE] {
+        let mut expected = vec![0xA5; space];
+        let answer = check_into(SCHEMA, &condition, TARGETS, &mut expected);
+        assert_eq!((answer.count, answer.is_cut()), ((space / ONE).min(40), space < 40 * ONE));
+        for slots in [0, 1, 2, 3, 4, 5, 20, 39, 40, 41, 53, 54, workspace_for(space), 5_000] {
+            let garbage = (0..slots).map(|_| rng.number32()).collect();
+            let places = (0..slots).map(|_| rng.below(space + 2) as u32).collect();
+            for workspace in [vec![0; slots], vec![1; slots], vec![u32::MAX; slots], garbage, places] {
+                let (other, buffer, _) = lent(&condition, space, &workspace);
+                assert_eq!((other, &buffer), (answer, &expected), "{slots} slots, {space} bytes");
+            }
+        }
+    }
+}
+
+#[test]
+fn a_refusal_leaves_the_workspace() {
+    let workspace = [7; 100];
+    let (answer, buffer, after) = lent(b"DWC\0\x01\x0e", 1000, &workspace);
+    assert_eq!((answer.number(), answer.record(), answer.count), (5, 2, 0));
+    assert_eq!((&buffer[..], &after[..]), ([0xA5; 1000].as_slice(), workspace.as_slice()));
+}
+
+/// More reports than the library's own table takes, each twice: in one buffer with workspace and without it.
+#[test]
+fn more_reports_than_the_own_table() {
+    let actions = 3;
+    let (schema, condition, targets) = crowd(600, actions, |number| format!("N{number}"));
+    let targets = targets.list.clone().into_iter().chain(targets.list).fold(Targets::new(), Targets::target);
+    let (schema, condition, targets) =
+        (schema.encode().unwrap(), condition.encode().unwrap(), targets.encode().unwrap());
+    let (mut with, mut without) = (vec![0; 1 << 20], vec![0; 1 << 20]);
+    let answer = check_into(&schema, &condition, &targets, &mut with);
+    assert_eq!(answer.into_result(), Ok(600 * usize::from(actions)));
+    assert_eq!(check_with(Rules::plain(), &schema, &condition, &targets, &mut without, &mut []), answer);
+    assert!(with == without);
+}
+
 #[test]
 fn sums_that_do_not_fit() {
     let sum = Aggregate::sum(3..7, "v", [Binder::new("v", "String")], Condition::call(0..0));
@@ -79,18 +131,25 @@ fn long_name(number: u8) -> String {
     format!("N{number:03}{}", "n".repeat(251))
 }
 
-/// Each of these comparisons is reported for each of these actions, whose contexts differ, in words of 590 bytes.
-#[test]
-fn more_than_all_space() {
-    let (comparisons, actions) = (1200, 25);
+/// So many comparisons, each of which is reported for each of so many actions, in whose contexts the compared field is an
+/// entity of the name that belongs to the action.
+fn crowd(comparisons: u32, actions: u8, name: impl Fn(u8) -> String) -> (Schema, Condition, Targets) {
     let action = |number: u8| {
-        let context = Type::record([("a", Type::entity(long_name(number)))]);
+        let context = Type::record([("a", Type::entity(name(number)))]);
         Action::new("Action", number.to_string()).context(context)
     };
     let schema = Schema { entity_types: Vec::new(), actions: (0..actions).map(action).collect() };
     let compared = |at: u32| Condition::comparison(at..at, Operator::Lt, Term::context(["a"]), Term::context(["a"]));
     let condition = joined((0..comparisons).map(compared).collect());
     let targets = (0..actions).fold(Targets::new(), |all, number| all.target(Target::new(number.to_string())));
+    (schema, condition, targets)
+}
+
+/// Reports in words of 590 bytes.
+#[test]
+fn more_than_all_space() {
+    let (comparisons, actions) = (1200, 25);
+    let (schema, condition, targets) = crowd(comparisons, actions, long_name);
     let (schema, condition, targets) =
         (schema.encode().unwrap(), condition.encode().unwrap(), targets.encode().unwrap());
     let found = check(&schema, &condition, &targets).unwrap();
@@ -164,7 +223,8 @@ fn the_decoder_takes_whole_reports_alone() {
     assert_eq!(error.to_string(), "no whole report stands behind the first 0");
 }
 
-/// Any number of threads at a time, each with 64 KiB of stack for a call on the deepest conditions, and 16 KiB of its own.
+/// Any number of threads at a time on the deepest conditions: a check has 64 KiB of stack with what the thread takes for
+/// itself, sums 80 KiB.
 #[test]
 fn threads_with_little_stack() {
     let arith = (0..30).fold(Term::Wildcard, |inner, _| Term::arith(inner, Term::Bool));
@@ -175,15 +235,15 @@ fn threads_with_little_stack() {
         let count = Aggregate::count(0..1, [Binder::new("v", "Long")], deep);
         deep = Condition::comparison(0..1, Operator::Eq, Term::aggregate(count), Term::Integer);
     }
-    let deep = deep.encode().unwrap();
-    let work = move || {
-        let mut buffer = [0; 1024];
-        for condition in [&terms, &deep] {
-            assert!(check_into(SCHEMA, condition, TARGETS, &mut buffer).count > 0);
-            assert_eq!(sums_into(condition, &mut buffer).number(), 0);
+    let conditions = &[terms, deep.encode().unwrap()];
+    type Call = fn(&[u8], &mut [u8]);
+    let checked: Call = |condition, buffer| assert!(check_into(SCHEMA, condition, TARGETS, buffer).count > 0);
+    let summed: Call = |condition, buffer| assert_eq!(sums_into(condition, buffer).number(), 0);
+    let calls = [(64 << 10, checked), (80 << 10, summed)];
+    std::thread::scope(|scope| {
+        for (stack, call) in calls.into_iter().cycle().take(8) {
+            let work = move || conditions.iter().for_each(|condition| call(condition, &mut [0; 1024]));
+            std::thread::Builder::new().stack_size(stack).spawn_scoped(scope, work).unwrap();
         }
-    };
-    let threads: Vec<_> =
-        (0..4).map(|_| std::thread::Builder::new().stack_size(80 << 10).spawn(work.clone()).unwrap()).collect();
-    threads.into_iter().for_each(|thread| thread.join().unwrap());
+    });
 }
