@@ -116,9 +116,13 @@ pub fn searching() -> Vec<Workload> {
     ]
 }
 
-/// Growing numbers of reports, from 1,360 on, for the plot.
+/// Growing numbers of reports, from 1,360 on, for the plot. The buffer grows with them, and so does the workspace, which is
+/// cleared in each call.
 pub fn report_counts() -> Vec<(usize, Workload)> {
-    let counted = |targets: usize| (1_360 * targets, differing("reports", 1_360, targets, 64 << 20));
+    let counted = |targets: usize| {
+        let reports = 1_360 * targets;
+        (reports, differing("reports", 1_360, targets, reports * 96))
+    };
     [1, 2, 4, 8, 16, 32, 64, 128, 255].map(counted).into()
 }
 

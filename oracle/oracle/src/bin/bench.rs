@@ -3,7 +3,8 @@
 //! For each row: the published Rust alone, on trees that are read already; the Rust with the oracle's reading of the
 //! records into its trees; ours, which always reads. The ratio is of the last two. With `--write FOLDER` the table and the
 //! stack go into the marked parts of BENCHMARKS.md of that folder, and the plot into benchmark.svg beside it. With
-//! `--rows TEXT` only the rows whose input has that text are measured, and nothing is written.
+//! `--rows TEXT` only the rows whose input has that text are measured, with `--stack` only the stack, and nothing is
+//! written.
 
 #[path = "../library.rs"]
 mod library;
@@ -24,16 +25,20 @@ use std::{env, fs};
 
 fn main() {
     let words: Vec<String> = env::args().skip(1).collect();
-    if let [flag, text] = &words[..] {
-        if flag == "--rows" {
-            return println!("{}", table(text));
-        }
+    match &words.iter().map(String::as_str).collect::<Vec<_>>()[..] {
+        ["--rows", text] => println!("{}", table(text)),
+        ["--stack"] => println!("{}", stacks()),
+        rest => whole(rest),
     }
+}
+
+/// Everything, and with `--write FOLDER` into the page of that folder.
+fn whole(words: &[&str]) {
     let table = table("");
     let stacks = stacks();
     println!("{table}\n{stacks}");
-    if let [flag, folder] = &words[..] {
-        assert_eq!(flag, "--write");
+    if let [flag, folder] = words {
+        assert_eq!(*flag, "--write");
         write(Path::new(folder), &[("table", &table), ("stack", &stacks)]);
     }
 }
@@ -173,11 +178,15 @@ fn stacks() -> String {
     out
 }
 
-fn stacks_of(w: &Workload) -> [(&'static str, usize); 3] {
-    let mut buffer = vec![0; 65_536];
+fn stacks_of(w: &Workload) -> [(&'static str, usize); 4] {
+    let (mut buffer, mut workspace) = (vec![0; 65_536], vec![0; workspace_for(65_536)]);
     let (s, c, t, p) = (&w.schema[..], &w.condition[..], &w.targets[..], &w.path[..]);
     [
         ("check", stack::taken(|| used(library::check(s, c, t, &mut buffer)))),
+        (
+            "check, workspace lent",
+            stack::taken(|| used(library::check_with(0, [s, c, t], &mut buffer, &mut workspace))),
+        ),
         ("sums", stack::taken(|| used(library::sums(c, &mut buffer)))),
         ("lookup", stack::taken(|| used(library::lookup(s, t, p, &mut buffer)))),
     ]
