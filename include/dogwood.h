@@ -110,7 +110,9 @@ struct dogwood_answer dogwood_check(const uint8_t *schema, size_t schema_length,
  * Time is linear in the number of reports as long as there are fewer than three reports for every four slots, of which
  * DOGWOOD_WORKSPACE(reports_length) are always enough, and the buffer is shorter than 4,294,967,295 bytes. Further reports
  * are compared with all that were found before. dogwood_check has 2,048 slots of its own on the stack, which serve 1,536
- * reports: a buffer of up to 78,335 bytes needs no workspace.
+ * reports: a buffer of up to 78,335 bytes needs no workspace. The slot of a report is chosen by a hash that anyone can
+ * compute: a request whose spans and names are made so that its reports fall on the same slots takes as long as one without
+ * workspace (docs/BENCHMARKS.md).
  * Number 1 to 10 leaves the workspace as it was. Otherwise its contents afterwards mean nothing. It need not be cleared
  * before a call; a call clears it, so that more slots than are needed cost time.
  * `rules` is for what callers will choose. No bit of it has a meaning yet, and a bit without one has no effect: pass 0.

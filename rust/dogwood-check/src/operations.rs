@@ -84,7 +84,7 @@ pub fn check_into(schema: &[u8], condition: &[u8], targets: &[u8], reports: &mut
 ///
 /// The answer and the buffer are the same for every workspace: it may have any number of slots and hold anything.
 /// [`workspace_for`] says how many slots make time linear in the reports; with fewer, further reports are compared with
-/// all before them. Where a record is refused the workspace is as it was, else its contents mean nothing afterwards.
+/// all before them, and so they are in a request that was made against the hash which chooses the slots. Where a record is refused the workspace is as it was, else its contents mean nothing afterwards.
 ///
 /// ```
 /// use dogwood_check::{check_with, workspace_for, Reports, Rules};
