@@ -18,7 +18,7 @@ use Rattle.names.specs.Laws.Rows.{Opens, opens, row-cons, counted-view, counted
 use Rattle.condition.specs.Places.{versionIn, termHere, isTerm, isPath}
 use Rattle.nodes.specs.Offsets.{termPart}
 use Rattle.nodes.specs.Laws.Inside.{term-place}
-use Rattle.nodes.specs.Open.{Skipped, TermOpened}
+use Rattle.nodes.specs.Looked.{Skipped, TermKindHere}
 use Rattle.nodes.specs.Parts.{stringsAt}
 use Rattle.condition.specs.Laws.ByKind.{entity-read, var-read, path-read}
 use Rattle.nodes.specs.Laws.Opens.{term-stands, raw-term, skipped-term}
@@ -119,7 +119,7 @@ pub ruleset by-strings = (needs, names-strings, names-past, path-strings, path-p
 
 -- ---- terms that are a word or a path
 
-module _ (s : List ℕ) (at : ℕ) (acc : isTerm s at ≡ true) (k : ℕ) (o : TermOpened s at k) (p : ℕ) (place : p ≡ termPart s at) where
+module _ (s : List ℕ) (at : ℕ) (acc : isTerm s at ≡ true) (k : ℕ) (o : TermKindHere s at k) (p : ℕ) (place : p ≡ termPart s at) where
   module _ (class : List ℕ → Bool) (i : ending (stringOf class s p) ≡ ending (termHere s at)) where
     own : Accepted (stringOf class s p)
     own = accept _ (passes (stringOf class s p) refl (i ∙ ended (term-stands s at acc .read)))

@@ -19,7 +19,7 @@ use Rattle.condition.specs.Places.{termHere, isCondition, conditionIn, isTerm, 
 use Rattle.nodes.specs.Kinds.{kindOf, spanOf, termKindOf}
 use Rattle.nodes.specs.Offsets.{firstPart, termPart}
 use Rattle.nodes.specs.Laws.Inside.{place-compared, term-place, aggregate-inside}
-use Rattle.nodes.specs.Open.{Skipped, TermOpened}
+use Rattle.nodes.specs.Looked.{Skipped, TermKindHere}
 use Rattle.nodes.specs.Parts.{isTerms, aggregatesIn, AggregateNext, OperandsHere, operandLeaves, leavesIn, LeafNext}
 use Rattle.nodes.specs.Laws.Opens.{term-there, Stands, stood, ends-at, term-stands, term-index, arith-here, comparison-here}
 use Rattle.nodes.specs.Laws.Pieces.{term-ahead}
@@ -109,7 +109,7 @@ module _ {A : Type 0} (g : Term → List A) where
         others-are : list ≡ g (termIn s at) ++ partsIn s (n - 1) m
         others-are = parted ∙ ap (λ l. g (termIn s at) ++ gather g l) (sym (has-value [] others-read))
 
-      turned : ((l r : Term) → g (tree.arith l r) ≡ g l ++ g r) → (k : ℕ) → TermOpened s at k → k ≡ 12 → (p : ℕ) → p ≡ termPart s at → TermsLeft s list (n + 1) p
+      turned : ((l r : Term) → g (tree.arith l r) ≡ g l ++ g r) → (k : ℕ) → TermKindHere s at k → k ≡ 12 → (p : ℕ) → p ≡ termPart s at → TermsLeft s list (n + 1) p
       unfolding gather
       turned splits k o is p place =
           let v = arith-here s at first-stands (sym (o .kind) ∙ is) in
@@ -130,7 +130,7 @@ pub aggregates-left : (s : List ℕ) (n at : ℕ) → isTerms s n at ≡ true �
 unfolding aggregatesIn
 aggregates-left s n at acc = terms-left operandAggregates s n at acc
 
-module _ (s : List ℕ) (list : List Aggregate) (n at : ℕ) (inv : TermsLeft operandAggregates s list n at) (h : 0 < n) (k : ℕ) (o : TermOpened s at k) where
+module _ (s : List ℕ) (list : List Aggregate) (n at : ℕ) (inv : TermsLeft operandAggregates s list n at) (h : 0 < n) (k : ℕ) (o : TermKindHere s at k) where
   module _ (m : ℕ) (z : Skipped (termHere s at) at m) where
     pub found-next : k ≡ 11 → (p : ℕ) → p ≡ termPart s at → AggregateNext s list p (record { count = n - 1; first = m })
     unfolding operandAggregates aggregatesIn
@@ -158,7 +158,7 @@ pub leaves-left : (s : List ℕ) (n at : ℕ) → isTerms s n at ≡ true → Te
 unfolding leavesIn
 leaves-left s n at acc = terms-left operandLeaves s n at acc
 
-module _ (s : List ℕ) (list : List Term) (n at : ℕ) (inv : TermsLeft operandLeaves s list n at) (h : 0 < n) (k : ℕ) (o : TermOpened s at k) where
+module _ (s : List ℕ) (list : List Term) (n at : ℕ) (inv : TermsLeft operandLeaves s list n at) (h : 0 < n) (k : ℕ) (o : TermKindHere s at k) where
   pub leaf-next : (k ≡ 12 → ⊥) → (m : ℕ) → Skipped (termHere s at) at m → LeafNext s list at (record { count = n - 1; first = m })
   unfolding leavesIn
   leaf-next i m z = record {

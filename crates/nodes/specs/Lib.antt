@@ -1,5 +1,5 @@
 pub mod Kinds
 pub mod Offsets
-pub mod Open
+pub mod Looked
 pub mod Parts
 pub mod Laws

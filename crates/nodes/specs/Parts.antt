@@ -162,7 +162,7 @@ BoundStands s (Segments p) = SegmentsHere s p
 BoundStands s Timepoint = Unit {0}
 BoundStands s Nothing = Unit {0}
 
-pub record Says (s : List ℕ) (o : Option Annotation) (r : Bound) : Type 0 where
+pub record BoundBy (s : List ℕ) (o : Option Annotation) (r : Bound) : Type 0 where
   pub stands : BoundStands s r
   pub value : boundIn s r ≡ o
 

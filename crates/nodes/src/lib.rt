@@ -1,7 +1,7 @@
 // A node of a condition or a term taken apart: its kind, and where its parts stand.
 //
 // `s` is an accepted record; a position `at` denotes a condition (`conditionIn`), a term (`termIn`), .. of `condition`'s `specs/Places`, and `is..` says that one
-// stands there. Kinds are document 01's numbers (`specs/Kinds`). What a function tells of its answer is the record of `specs/Open` or `specs/Parts` beside it.
+// stands there. Kinds are document 01's numbers (`specs/Kinds`). What a function tells of its answer is the record of `specs/Looked` or `specs/Parts` beside it.
 // This crate alone knows at which byte of a node its parts stand: `first_part`, `term_part`, `aggregate_part`, of which the laws of `specs/Laws/Inside` say what is there.
 //
 // | module | what it has |

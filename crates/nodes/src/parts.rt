@@ -1,16 +1,16 @@
 // The parts of conditions, terms and aggregates that stand in an accepted record.
 //
-// | function | asks | tells of its answer (`specs/Open`, `specs/Parts`) |
+// | function | asks | tells of its answer (`specs/Looked`, `specs/Parts`) |
 // |---|---|---|
-// | `kind_at(s, at)` | `isCondition` | `Opened`: `kindOf (conditionIn s at)`, document 01's number |
+// | `kind_at(s, at)` | `isCondition` | `KindHere`: `kindOf (conditionIn s at)`, document 01's number |
 // | `span_at`, `own_span_at` | `isCondition`; 7 | `Spans (spanOf ..)`, `Spans (ownSpanOf ..)` |
 // | `comparison_at` | kind 8 | `ComparisonHere`: operator's number, places of both operands, the tree |
 // | `predicate_at` | kind 7 | `PredicateHere`: namespace as a `Listed`, action's place, arguments, the tree |
 // | `argument_at(s, n, at)` | `isArguments s n at`, `0 < n` | `ArgumentHere`: field path, term, the rest; `arguments-over` where n is 0 |
-// | `term_kind_at(s, at)` | `isTerm` | `TermOpened`: `termKindOf (termIn s at)` |
+// | `term_kind_at(s, at)` | `isTerm` | `TermKindHere`: `termKindOf (termIn s at)` |
 // | `elements_at`, `past_element(s, n, at)` | kind 10; `isElements s n at`, `0 < n` | `ElementsHere`, `ElementHere`; `elements-over` where n is 0 |
 // | `arith_at` | kind 12 | `ArithHere`: the places of both operands |
-// | `aggregate_kind_at`, `aggregate_span_at` | `isAggregate` | `AggregateOpened`: 1 Sum, 2 Count, 3 Call; `Spans (aggregateSpanOf ..)` |
+// | `aggregate_kind_at`, `aggregate_span_at` | `isAggregate` | `AggregateKindHere`: 1 Sum, 2 Count, 3 Call; `Spans (aggregateSpanOf ..)` |
 // | `binders_at`, `body_at` | kind not 3 | `BindersHere`, `BodyHere` |
 // | `slot_at` | `isSlot` | `SlotHere s at r` |
 // | `path_at`, `segments_at` | `isPath`, `SegmentsHere` | `Listed` |
@@ -47,8 +47,8 @@ ghost use Rattle.condition.specs.Condition.{slot, binder};
 ghost use Rattle.condition.specs.Walk.{hasName};
 ghost use Rattle.condition.specs.Places.{conditionHere, termHere, isCondition, conditionIn, isTerm, termIn, isAggregate, aggregateIn, isArguments, isElements, isPath, pathIn, isSlot, slotIn, isAnnotation, annotationIn, isBinder, binderIn};
 ghost use Rattle.nodes.specs.Kinds.{kindOf, spanOf, ownSpanOf, oneKind, twoKind, termKindOf, aggregateKindOf, aggregateSpanOf};
-ghost use Rattle.nodes.specs.Open.{placeOf, Skipped, Opened, TermOpened, AggregateOpened, BodyHere};
-ghost use Rattle.nodes.specs.Parts.{EndsHere, Spans, ComparisonHere, ArithHere, PredicateHere, ArgumentHere, ElementsHere, ElementHere, BindersHere, isBinders, SlotHere, segmentsIn, SegmentsHere, Says, stringsAt, nameIn};
+ghost use Rattle.nodes.specs.Looked.{placeOf, Skipped, KindHere, TermKindHere, AggregateKindHere, BodyHere};
+ghost use Rattle.nodes.specs.Parts.{EndsHere, Spans, ComparisonHere, ArithHere, PredicateHere, ArgumentHere, ElementsHere, ElementHere, BindersHere, isBinders, SlotHere, segmentsIn, SegmentsHere, BoundBy, stringsAt, nameIn};
 
 // The place behind what was read; `other` where it was refused.
 fn place_of(r: Read, other: usize) -> usize
@@ -141,7 +141,7 @@ pub fn past_term(s: &[u8], at: usize) -> usize
 // The kind of the condition at `at` by document 01's number; a SigilRef is 11, as a Call.
 pub fn kind_at(s: &[u8], at: usize) -> u8
     requires { ⌜ isCondition (now s) at ≡ true ⌝ }
-    ensures { λ k. ⌜ Opened (now (s .entry)) at k ⌝ }
+    ensures { λ k. ⌜ KindHere (now (s .entry)) at k ⌝ }
 {
     let kind = s[at];
     if kind == 12 {
@@ -187,7 +187,7 @@ pub fn has_two(kind: u8) -> bool
 // The kind of the term at `at` by document 01's number; a BinderRef is 13, as a ParamRef.
 pub fn term_kind_at(s: &[u8], at: usize) -> u8
     requires { ⌜ isTerm (now s) at ≡ true ⌝ }
-    ensures { λ k. ⌜ TermOpened (now (s .entry)) at k ⌝ }
+    ensures { λ k. ⌜ TermKindHere (now (s .entry)) at k ⌝ }
 {
     let kind = s[at];
     if kind == 14 {
@@ -198,7 +198,7 @@ pub fn term_kind_at(s: &[u8], at: usize) -> u8
 
 pub fn aggregate_kind_at(s: &[u8], at: usize) -> u8
     requires { ⌜ isAggregate (now s) at ≡ true ⌝ }
-    ensures { λ k. ⌜ AggregateOpened (now (s .entry)) at k ⌝ }
+    ensures { λ k. ⌜ AggregateKindHere (now (s .entry)) at k ⌝ }
 {
     s[at]
 }
@@ -402,7 +402,7 @@ pub fn slot_at(s: &[u8], at: usize) -> SlotAt
 // What an annotation binds.
 pub fn bound_at(s: &[u8], at: usize) -> Bound
     requires { ⌜ isAnnotation (now s) at ≡ true ⌝ }
-    ensures { λ r. ⌜ Says (now (s .entry)) (some (annotationIn (now (s .entry)) at)) r ⌝ }
+    ensures { λ r. ⌜ BoundBy (now (s .entry)) (some (annotationIn (now (s .entry)) at)) r ⌝ }
 {
     if s[at] == 0 {
         return Bound::Timepoint;

@@ -22,7 +22,7 @@ use Rattle.targets.specs.Places.{targetsIn, isTarget, targetIn, FindsTarget}
 use Rattle.condition.specs.Condition.{Condition, one, two, predicate, comparison, exists, tp, opaque, conditionRecord}
 use Rattle.nodes.specs.Kinds.{kindOf, spanOf}
 use Rattle.condition.specs.Places.{recordIn, isCondition, conditionIn, isTerm, termIn}
-use Rattle.nodes.specs.Open.{Opened}
+use Rattle.nodes.specs.Looked.{KindHere}
 use Rattle.nodes.specs.Parts.{ComparisonHere}
 use Rattle.condition.specs.Walk.{binders}
 use Rattle.walk.specs.Environment.{Environment}
@@ -59,7 +59,7 @@ module _ (s c n env : List ℕ) (f : Facts) (known : Known s c env f) where
   pub root-stands : isCondition c 5 ≡ true
   root-stands = record-starts c (known .ready .condition)
 
-  module _ (k : ℕ) (o : Opened c 5 k) where
+  module _ (k : ℕ) (o : KindHere c 5 k) where
     pub no-comparison : (k ≡ 8 → ⊥) → (which : Operand) (b : List ℕ) → outcomeOf Answer.NoComparison b ≡ answered which (recordIn c) (factsIn s c n f) b
     unfolding answered outcomeOf
     no-comparison h which b = rw (no-operand which (recordIn c) (λ e. h (o .kind ∙ ap kindOf (record-value c (known .ready .condition)) ∙ e)))

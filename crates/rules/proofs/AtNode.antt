@@ -18,7 +18,7 @@ use Rattle.condition.specs.Places.{isCondition, conditionIn, isTerm, termIn, is
 use Rattle.nodes.specs.Offsets.{firstPart}
 use Rattle.nodes.specs.Laws.Pieces.{timepoint-inside}
 use Rattle.nodes.specs.Laws.Leaves.{leaves-gather, one-term, one-leaves, leaf-next, leaf-stands, leaf-plain, fewer-leaves}
-use Rattle.nodes.specs.Open.{Opened, TermOpened}
+use Rattle.nodes.specs.Looked.{KindHere, TermKindHere}
 use Rattle.nodes.specs.Parts.{Spans, ComparisonHere, TimepointHere, SlotHere, isTerms, leavesIn, LeafNext, NextLeafIs}
 use Rattle.nodes.specs.declared.Ends.{Ends}
 use Rattle.nodes.specs.declared.ComparisonAt.{ComparisonAt}
@@ -85,7 +85,7 @@ module _ (f : Facts) (at : Span) where
   operand-by-kind sigil = refl
 
 -- a leaf, by its kind
-module _ (f : Facts) (s c : List ℕ) (at k : ℕ) (o : TermOpened c at k) (not-arith : termKindOf (termIn c at) ≡ 12 → ⊥) where
+module _ (f : Facts) (s c : List ℕ) (at k : ℕ) (o : TermKindHere c at k) (not-arith : termKindOf (termIn c at) ≡ 12 → ⊥) where
   leaf-is : (span : Span) → leafBreaches f (termIn c at) span ≡ cond (eqb k 9) (breachIf true wildcardInside span) (cond (eqb k 11 || eqb k 13) [] (notLongHere (termType (some f) (termIn c at)) span))
   leaf-is span = rw (o .kind) (leaf-by-kind f span (termIn c at) not-arith)
 
@@ -143,11 +143,11 @@ module _ (f : Facts) (c : List ℕ) (span : Span) where
           record { stands = leaf-next c left x is at rest e .others; reporting = reporting-next push breachesOf (rw (leaf-next c left x is at rest e .value) at r) (told s c (leafBreaches f (termIn c at)) span g p) }
 
 module _ (f : Facts) (c : List ℕ) (at : ℕ) (span : Span) {old new table : List ℕ} {st st′ : State} where
-  module _ (k : ℕ) (o : TermOpened c at k) where
+  module _ (k : ℕ) (o : TermKindHere c at k) where
     pub operand-arithmetic : k ≡ 12 → Pushed old st (leafBreaches f (termIn c at) span) new st′ table → Pushed old st (arithmeticBreaches f (termIn c at) span) new st′ table
     operand-arithmetic e g = rw (operand-by-kind f span (termIn c at), ← o .kind, e) g
 
-module _ (f : Facts) (c : List ℕ) (at k : ℕ) (o : TermOpened c at k) where
+module _ (f : Facts) (c : List ℕ) (at k : ℕ) (o : TermKindHere c at k) where
   pub operand-plain : (k ≡ 12 → ⊥) → (span : Span) (old : List ℕ) (st : State) (table : List ℕ) → Lent (sink old st) table → Pushed old st (arithmeticBreaches f (termIn c at) span) old st table
   operand-plain n span old st table p = rw (operand-by-kind f span (termIn c at), ← o .kind, ne-eqb _ _ n) (recorded-none old st p)
 
@@ -248,7 +248,7 @@ quiet f (exists span d x) a b e = refl
 quiet f (tp span d) a b e = absurd (e refl)
 quiet f (opaque span) a b e = refl
 
-module _ (c : List ℕ) (at k : ℕ) (o : Opened c at k) where
+module _ (c : List ℕ) (at k : ℕ) (o : KindHere c at k) where
   pub node-quiet : (k ≡ 7 → ⊥) → (k ≡ 8 → ⊥) → (k ≡ 10 → ⊥) → (f : Facts) (old : List ℕ) (st : State) (table : List ℕ) → Lent (sink old st) table → Pushed old st (nodeBreaches f (conditionIn c at)) old st table
   node-quiet a b d f old st table p = rw (quiet f (conditionIn c at) (λ e. a (o .kind ∙ e)) (λ e. b (o .kind ∙ e)) (λ e. d (o .kind ∙ e))) (recorded-none old st p)
 

@@ -24,7 +24,7 @@ use Rattle.types.specs.declared.Tag.{Tag}
 use Rattle.schema.specs.Schema.{Declared, never, set, extension, kinds, typeAt, attributes}
 use Rattle.schema.specs.Schema as schema
 use Rattle.schema.specs.Find.{richType}
-use Rattle.schema.specs.Places.{typeIn, isType, Opened}
+use Rattle.schema.specs.Places.{typeIn, isType, KindHere}
 use Rattle.schema.proofs.TypeViews.{open-type}
 use Rattle.schema.proofs.Levels.{type-wider}
 
@@ -47,7 +47,7 @@ layered-more n t = rw add-one (go n)
     go (suc n) = ap array (go n)
 
 -- The type that stands at a position, by its first byte.
-module _ (s : List ℕ) (at : ℕ) (is : isType s at ≡ true) (k : ℕ) (op : Opened s at k) where
+module _ (s : List ℕ) (at : ℕ) (is : isType s at ≡ true) (k : ℕ) (op : KindHere s at k) where
   at-kind : (j : ℕ) → k ≡ j → choose j (kinds (typeAt 31)) s (at + 1) ≡ got (typeIn s at) (accept _ is .place)
   at-kind j e =
       let a = accept _ is in

@@ -17,7 +17,7 @@ use Rattle.names.specs.Laws.Readers.{Keeps, next-wider, u8-view, string-view, S
 use Rattle.names.specs.Laws.Rows.{Opens, opens, each-done, row-cons, row-append}
 use Rattle.names.specs.declared.Row.{Row}
 use Rattle.schema.specs.Schema.{Declared, Attributes, ascending, typeAt, attributes, attributesOf, entityType, action}
-use Rattle.schema.specs.Places.{pastWord, isType, areFields, areNames, isEntity, entityIn, areEntities, entitiesAt, isAction, actionIn, attributeAt, Opened, Below, Inside}
+use Rattle.schema.specs.Places.{pastWord, isType, areFields, areNames, isEntity, entityIn, areEntities, entitiesAt, isAction, actionIn, attributeAt, KindHere, Below, Inside}
 use Rattle.schema.specs.Laws.ByKind.{ascending-string, type-set, type-object, type-extension, type-entity, type-leaf}
 use Rattle.schema.proofs.Levels.{type-wider, attributes-wider}
 use Rattle.schema.proofs.Ahead.{type-ahead}
@@ -113,7 +113,7 @@ module _ (s : List ℕ) (start at : ℕ) (b : Below s start at) where
   ends-here : ending (typeAt levels s start) ≡ Next (here .place)
   ends-here = b .ends ∙ ended (here .read)
 
-  module _ (k : ℕ) (o : Opened s at k) where
+  module _ (k : ℕ) (o : KindHere s at k) where
     pub set-below : k ≡ 4 → Below s start (at + 1)
     set-below e =
         let i = type-set s at levels (o .inside) (λ z. omega arith) (sym (o .kind) ∙ e) _ refl in

@@ -13,7 +13,7 @@ use Rattle.names.specs.Fields.{got, Reader, u8, choose, stringOf, levels}
 use Rattle.names.specs.Names.{pathName}
 use Rattle.names.specs.Laws.Readers.{u8-view, split, accept, Accepted, is-accepted, has-value, got-value, Each, each-below, _&_}
 use Rattle.schema.specs.Schema.{Declared, Attributes, never, nothing, object, kinds, typeAt, attributes}
-use Rattle.schema.specs.Places.{typeIn, isType, fieldsIn, areFields, FindsFields, Opened}
+use Rattle.schema.specs.Places.{typeIn, isType, fieldsIn, areFields, FindsFields, KindHere}
 use Rattle.schema.specs.Find.{fieldsOf}
 use Rattle.names.specs.declared.Found.the-variants as Found
 use Rattle.schema.specs.Laws.ByKind.{choose-above}
@@ -66,7 +66,7 @@ record-is inner s at e i = got-value (sym (rw i at e))
 
 -- Of the type that stands at a position.
 module _ (s : List ℕ) (at : ℕ) (is : isType s at ≡ true) where
-  pub type-opened : (k : ℕ) → k ≡ getD s at 0 → Opened s at k
+  pub type-opened : (k : ℕ) → k ≡ getD s at 0 → KindHere s at k
   type-opened k e = record { inside = open-type s at (accept _ is .read) .inside; kind = e }
 
   pub type-inside : at < length s
@@ -98,7 +98,7 @@ module _ (s : List ℕ) (at : ℕ) (is : isType s at ≡ true) where
         ∙ ap some (sym (has-value nothing fields-wide))
 
 -- The attributes of a type, by what its first byte was found to be.
-module _ (s : List ℕ) (at : ℕ) (is : isType s at ≡ true) (k : ℕ) (op : Opened s at k) where
+module _ (s : List ℕ) (at : ℕ) (is : isType s at ≡ true) (k : ℕ) (op : KindHere s at k) where
   pub a-record : k ≡ 6 → FindsFields s (fieldsOf (typeIn s at)) (Found.At (at + 1))
   a-record h = record { value = sym (object-fields s at is k (op .kind) h); stands = object-accepted s at is k (op .kind) h }
 

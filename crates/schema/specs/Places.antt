@@ -135,7 +135,7 @@ pub record Standing {A : Type 0} (is : ℕ → Bool) (what : ℕ → A) (a : A) 
   pub value : what r ≡ a
 
 -- a byte that stands at a position: the first of a type, a count
-pub record Opened (s : List ℕ) (at k : ℕ) : Type 0 where
+pub record KindHere (s : List ℕ) (at k : ℕ) : Type 0 where
   pub inside : at < length s
   pub kind : k ≡ getD s at 0
 

@@ -11,12 +11,12 @@ ghost use Rattle.names.specs.Names.{pathName};
 ghost use Rattle.names.specs.Read.{ending, row, isRow};
 ghost use Rattle.names.specs.declared.Read.the-variants.{Next};
 ghost use Rattle.schema.specs.Schema.{ascending, typeAt, attributes, entityType, action};
-ghost use Rattle.schema.specs.Places.{isType, areFields, areNames, isEntity, areEntities, entitiesAt, isAction, attributeAt, Opened, Below, Inside};
+ghost use Rattle.schema.specs.Places.{isType, areFields, areNames, isEntity, areEntities, entitiesAt, isAction, attributeAt, KindHere, Below, Inside};
 
 // The count that stands at `at`.
 pub fn count_at(s: &[u8], at: usize) -> usize
     requires { ⌜ at < length (now s) ⌝ }
-    ensures { λ r. ⌜ Opened (now (s .entry)) at r ⌝ }
+    ensures { λ r. ⌜ KindHere (now (s .entry)) at r ⌝ }
     ensures { λ r. ⌜ r < 256 ⌝ }
 {
     names::wide(s[at])

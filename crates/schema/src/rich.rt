@@ -13,12 +13,12 @@ ghost use Rattle.names.specs.Names.{simpleName};
 ghost use Rattle.names.specs.Read.{wordAt};
 ghost use Rattle.types.specs.Meaning.{richOf, baseOf, tagOf};
 ghost use Rattle.schema.specs.Find.{richType};
-ghost use Rattle.schema.specs.Places.{isType, typeIn, Opened};
+ghost use Rattle.schema.specs.Places.{isType, typeIn, KindHere};
 
 // The first byte of a type.
 pub fn kind_at(s: &[u8], at: usize) -> u8
     requires { ⌜ isType (now s) at ≡ true ⌝ }
-    ensures { λ r. ⌜ Opened (now (s .entry)) at r ⌝ }
+    ensures { λ r. ⌜ KindHere (now (s .entry)) at r ⌝ }
 {
     s[at]
 }

@@ -22,7 +22,7 @@ use Rattle.nodes.specs.Kinds.{aggregateKindOf, aggregateSpanOf}
 use Rattle.nodes.specs.Offsets.{aggregatePart}
 use Rattle.condition.specs.Places.{recordIn, isAggregate, aggregateIn, slotIn}
 use Rattle.nodes.specs.Laws.Pieces.{summand-inside, summand-slot}
-use Rattle.nodes.specs.Parts.{segmentsIn, SegmentsHere, boundIn, BoundStands, Says, slotOf, SummandHere, Spans, SlotHere}
+use Rattle.nodes.specs.Parts.{segmentsIn, SegmentsHere, boundIn, BoundStands, BoundBy, slotOf, SummandHere, Spans, SlotHere}
 use Rattle.condition.specs.Walk.{binders, lastNamed}
 use Rattle.reports.specs.declared.Message.the-variants.{CannotSum, CannotSumTimepoint, CannotSumDecimal}
 use Rattle.reports.specs.declared.State.{State}
@@ -135,7 +135,7 @@ module _ (s : List ℕ) (at : ℕ) (x : SlotAt) (h : SummandIs s at x) (old : Li
   unfolding aggregateBreaches
   slot-binder e k = rw (h .value, e) (recorded-none old st k)
 
-  module _ (q : ℕ) (e : x ≡ Named q) (w : List ℕ) (is : w ≡ wordAt s q) (b : Bound) (says : Says s (lastNamed w (binders (recordIn s))) b) (ends : Ends) (spans : Spans (aggregateSpanOf (aggregateIn s at)) ends) where
+  module _ (q : ℕ) (e : x ≡ Named q) (w : List ℕ) (is : w ≡ wordAt s q) (b : Bound) (says : BoundBy s (lastNamed w (binders (recordIn s))) b) (ends : Ends) (spans : Spans (aggregateSpanOf (aggregateIn s at)) ends) where
     pub slot-named : (said : Said) → Tells s s (summandBreach (wordAt s q) (boundIn s b)) said → (new : List ℕ) (r : State) → Appended old st (saidBreaches s s said (spanIn ends)) new r → Appended old st (aggregateBreaches (binders (recordIn s)) (aggregateIn s at)) new r
     unfolding aggregateBreaches
     slot-named said tells new r j =

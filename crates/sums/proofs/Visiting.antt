@@ -25,7 +25,7 @@ use Rattle.condition.specs.Condition as tree
 use Rattle.nodes.specs.Kinds.{kindOf, termKindOf, aggregateKindOf}
 use Rattle.condition.specs.Places.{versionIn, recordIn, conditionIn, isTerm, termIn, aggregateIn, isArguments, argumentsIn}
 use Rattle.nodes.specs.Laws.Inside.{aggregate-first, aggregate-inside}
-use Rattle.nodes.specs.Open.{Opened, TermOpened, AggregateOpened, AggregateHere}
+use Rattle.nodes.specs.Looked.{KindHere, TermKindHere, AggregateKindHere, AggregateHere}
 use Rattle.nodes.specs.Parts.{ComparisonHere, PredicateHere, ArgumentHere, isTerms, leavesIn, LeafNext, NextLeafIs}
 use Rattle.nodes.specs.Laws.Leaves.{leaves-gather, one-term, one-leaves, leaf-next, leaf-stands, leaf-plain, fewer-leaves}
 use Rattle.walk.specs.Index.{nodesOf, Index, Reached}
@@ -144,18 +144,18 @@ module _ (s : List ℕ) (at : ℕ) {old : List ℕ} {st : State} where
     unfolding termBreaches
     sum-visited e = rw (h .value) e
 
-    pub other-visited : (k : ℕ) → AggregateOpened s p k → (k ≡ 1 → ⊥) → Sound (sink old st) → Appended old st (termBreaches (binders (recordIn s)) (termIn s at)) old st
+    pub other-visited : (k : ℕ) → AggregateKindHere s p k → (k ≡ 1 → ⊥) → Sound (sink old st) → Appended old st (termBreaches (binders (recordIn s)) (termIn s at)) old st
     unfolding termBreaches
     other-visited k o i q = rw (h .value) (no-report old st q _ (other-free (binders (recordIn s)) (aggregateIn s p) (λ e. i (o .kind ∙ e))))
 
-  pub leaf-visited : isTerm s at ≡ true → (termKindOf (termIn s at) ≡ 12 → ⊥) → (k : ℕ) → TermOpened s at k → (k ≡ 11 → ⊥) → Sound (sink old st) → Appended old st (termBreaches (binders (recordIn s)) (termIn s at)) old st
+  pub leaf-visited : isTerm s at ≡ true → (termKindOf (termIn s at) ≡ 12 → ⊥) → (k : ℕ) → TermKindHere s at k → (k ≡ 11 → ⊥) → Sound (sink old st) → Appended old st (termBreaches (binders (recordIn s)) (termIn s at)) old st
   leaf-visited acc h k o i p = no-report old st p _ (go (eqb (termKindOf (termIn s at)) 10) refl)
     where
       go : (b : Bool) → eqb (termKindOf (termIn s at)) 10 ≡ b → termBreaches (binders (recordIn s)) (termIn s at) ≡ []
       go true e = array-free (binders (recordIn s)) s at acc (eqb-true _ _ e)
       go false e = leaf-free (binders (recordIn s)) (termIn s at) h (λ q. i (o .kind ∙ q)) (eqb-false _ _ e)
 
-pub is-sum : (s : List ℕ) (p k : ℕ) → AggregateOpened s p k → k ≡ 1 → aggregateKindOf (aggregateIn s p) ≡ 1
+pub is-sum : (s : List ℕ) (p k : ℕ) → AggregateKindHere s p k → k ≡ 1 → aggregateKindOf (aggregateIn s p) ≡ 1
 is-sum s p k o e = sym (o .kind) ∙ e
 
 pub ruleset visits = (needs, is-sum, aggregate-first, aggregate-inside, sum-visited, other-visited, leaf-visited)
@@ -223,10 +223,10 @@ module _ (s : List ℕ) (at : ℕ) {old : List ℕ} {st : State} where
   unfolding conditionBreaches
   predicate-visited p h k = let e : conditionBreaches (binders (recordIn s)) (conditionIn s at) ≡ _ = ap (conditionBreaches (binders (recordIn s))) (h .value) in rw e k
 
-  pub others-visited : (k : ℕ) → Opened s at k → (k ≡ 8 → ⊥) → (k ≡ 7 → ⊥) → Sound (sink old st) → Appended old st (conditionBreaches (binders (recordIn s)) (conditionIn s at)) old st
+  pub others-visited : (k : ℕ) → KindHere s at k → (k ≡ 8 → ⊥) → (k ≡ 7 → ⊥) → Sound (sink old st) → Appended old st (conditionBreaches (binders (recordIn s)) (conditionIn s at)) old st
   others-visited k o h i p = no-report old st p _ (condition-free (binders (recordIn s)) (conditionIn s at) (λ q. h (o .kind ∙ q)) (λ q. i (o .kind ∙ q)))
 
-pub is-comparison : (s : List ℕ) (at k : ℕ) → Opened s at k → k ≡ 8 → kindOf (conditionIn s at) ≡ 8
+pub is-comparison : (s : List ℕ) (at k : ℕ) → KindHere s at k → k ≡ 8 → kindOf (conditionIn s at) ≡ 8
 is-comparison s at k o e = sym (o .kind) ∙ e
 
 pub ruleset nodes = (needs, is-comparison, comparison-visited, predicate-visited, others-visited)

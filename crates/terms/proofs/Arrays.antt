@@ -19,7 +19,7 @@ use Rattle.condition.specs.Condition.{Condition, Term, Terms, nil, cons, elemen
 use Rattle.condition.specs.Condition as tree
 use Rattle.nodes.specs.Kinds.{termKindOf}
 use Rattle.condition.specs.Places.{versionIn, termHere, isTerm, termIn}
-use Rattle.nodes.specs.Open.{TermOpened, Skipped}
+use Rattle.nodes.specs.Looked.{TermKindHere, Skipped}
 use Rattle.condition.specs.Laws.Levels.{none-left, term-wider, term-anywhere}
 use Rattle.nodes.specs.Offsets.{termPart}
 use Rattle.nodes.specs.Laws.Inside.{term-place}
@@ -185,7 +185,7 @@ module _ (c : List ℕ) (at left : ℕ) (h : left ≤ 32) (acc : accepted (termA
   any-level = is-accepted (widened (accept _ acc .read))
 
   -- An array: its list stands behind the kind byte, with one level less.
-  module _ (k : ℕ) (o : TermOpened c at k) (e : k ≡ 10) where
+  module _ (k : ℕ) (o : TermKindHere c at k) (e : k ≡ 10) where
     parts : ArrayParts c at left (accept _ acc .value) (accept _ acc .place)
     parts = array-parts c at left (accept _ acc .read) (raw-term c at any-level 10 (λ i. omega arith) (sym (o .kind) ∙ e))
 
@@ -221,7 +221,7 @@ module _ (c : List ℕ) (at left : ℕ) (h : left ≤ 32) (acc : accepted (termA
   pub leaf-typed : (s : List ℕ) (r : Typed) (n : ℕ) → LeafTyped c at r → Skipped (termHere c at) at n → TypedAt s c (termHere c at) (termType none (termIn c at)) left (record { typed = r; next = n })
   leaf-typed s r n h z = record { value = h .value s; ends = z .ends; within = record { layers = omega (arith, h .within .layers); tag = h .within .tag } }
 
-  pub not-array : (k : ℕ) → TermOpened c at k → (k ≡ 10 → ⊥) → (termKindOf (termIn c at) ≡ 10 → ⊥)
+  pub not-array : (k : ℕ) → TermKindHere c at k → (k ≡ 10 → ⊥) → (termKindOf (termIn c at) ≡ 10 → ⊥)
   not-array k o h e = h (o .kind ∙ e)
 
 pub ruleset of-elements = (needs, any-level, array-level, array-falls, array-inside, array-list, array-typed, leaf-typed, not-array)

@@ -22,7 +22,7 @@ use Rattle.condition.specs.Condition.{Term, entity, literal, integer, decimal, 
 use Rattle.condition.specs.Condition as tree
 use Rattle.nodes.specs.Kinds.{termKindOf}
 use Rattle.condition.specs.Places.{versionIn, isTerm, termIn}
-use Rattle.nodes.specs.Open.{TermOpened}
+use Rattle.nodes.specs.Looked.{TermKindHere}
 use Rattle.nodes.specs.Offsets.{termPart}
 use Rattle.nodes.specs.Laws.Inside.{term-place}
 use Rattle.nodes.specs.Laws.Views.{PartView, entity-view}
@@ -103,7 +103,7 @@ kind-within (tree.arith l r) = record { layers = omega arith; tag = omega arith 
 kind-within sigil = record { layers = omega arith; tag = omega arith }
 
 -- A term that stands at a place.
-module _ (c : List ℕ) (at : ℕ) (acc : isTerm c at ≡ true) (k : ℕ) (o : TermOpened c at k) where
+module _ (c : List ℕ) (at : ℕ) (acc : isTerm c at ≡ true) (k : ℕ) (o : TermKindHere c at k) where
   module _ (e : k ≡ 1) where
     named : PartView (stringOf pathName) entity c at (termIn c at) (term-stands c at acc .end)
     named = entity-view (versionIn c) c at (term-stands c at acc .read) (raw-term c at acc 1 (λ i. omega arith) (sym (o .kind) ∙ e))

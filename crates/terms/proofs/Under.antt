@@ -23,8 +23,8 @@ use Rattle.condition.specs.Walk.{lastNamed, binders}
 use Rattle.nodes.specs.Kinds.{termKindOf}
 use Rattle.condition.specs.Places.{termHere, recordIn, termIn, pathIn}
 use Rattle.nodes.specs.Laws.Pieces.{context-path, scope-path, context-inside, scope-inside, var-inside}
-use Rattle.nodes.specs.Open.{TermOpened}
-use Rattle.nodes.specs.Parts.{PathHere, segmentsIn, SegmentsHere, Says}
+use Rattle.nodes.specs.Looked.{TermKindHere}
+use Rattle.nodes.specs.Parts.{PathHere, segmentsIn, SegmentsHere, BoundBy}
 use Rattle.nodes.specs.declared.Bound.{Bound}
 use Rattle.nodes.specs.declared.Bound.the-variants as Bound
 use Rattle.resolution.specs.Resolution.{contextType}
@@ -97,7 +97,7 @@ plain-typed s c at e h = record { value = h .value; small = within-small s c (e 
 pub ruleset plainly = (needs, plain-typed)
 
 -- A name, by what its last binder says.
-module _ (s c : List ℕ) (facts : Facts) (name : List ℕ) (b : Bound) (says : Says c (lastNamed name (binders (recordIn c))) b) where
+module _ (s c : List ℕ) (facts : Facts) (name : List ℕ) (b : Bound) (says : BoundBy c (lastNamed name (binders (recordIn c))) b) where
   pub bound-stands : (p : ℕ) → b ≡ Bound.Segments p → SegmentsHere c p
   bound-stands p e = rw e at (says .stands)
 
@@ -122,7 +122,7 @@ module _ (s c : List ℕ) (facts : Facts) (name : List ℕ) (b : Bound) (says : 
 pub ruleset bindings = (needs, bound-stands, name-annotated, name-timepoint, name-free)
 
 -- A term by its kind.
-module _ (s c n : List ℕ) (facts : Facts) (at k : ℕ) (o : TermOpened c at k) where
+module _ (s c n : List ℕ) (facts : Facts) (at k : ℕ) (o : TermKindHere c at k) where
   pub kind-here : (j : ℕ) → k ≡ j → termKindOf (termIn c at) ≡ j
   kind-here j e = sym (o .kind) ∙ e
 

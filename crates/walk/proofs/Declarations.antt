@@ -17,7 +17,7 @@ use Rattle.condition.specs.Condition.{paramRef, timepoint, Binder, binder}
 use Rattle.condition.specs.Walk.{declaredBy, operandAggregates, operandBinders, declares, binders, namedOnes}
 use Rattle.condition.specs.Places.{recordIn, isCondition, conditionIn, isAggregate, aggregateIn, isBinder, binderIn}
 use Rattle.nodes.specs.Offsets.{firstPart}
-use Rattle.nodes.specs.Open.{Skipped, Opened, AggregateOpened, QuantifiedHere}
+use Rattle.nodes.specs.Looked.{Skipped, KindHere, AggregateKindHere, QuantifiedHere}
 use Rattle.nodes.specs.Laws.Inside.{quantified-inside}
 use Rattle.nodes.specs.Parts.{isBinders, bindersIn, BindersHere, isTerms, aggregatesIn, AggregateNext, NextIs, OperandsHere}
 use Rattle.walk.specs.Index.{nodesOf, Index, Reached}
@@ -88,7 +88,7 @@ pub ruleset declaring-row = (needs, binders-index, binders-begin, binders-done, 
 
 -- an aggregate
 module _ (s : List ℕ) (at : ℕ) (t : List ℕ) (a : ℕ) (may : MayDeclare s (declaredBy (aggregateIn s at)) t a) where
-  pub call-table : (k : ℕ) → AggregateOpened s at k → k ≡ 3 → Declared s (declaredBy (aggregateIn s at)) t a t a
+  pub call-table : (k : ℕ) → AggregateKindHere s at k → k ≡ 3 → Declared s (declaredBy (aggregateIn s at)) t a t a
   call-table k o e = rw (call-declares (aggregateIn s at) (sym (o .kind) ∙ e)) (same-table s t a may)
 
   module _ (p : ℕ) (h : BindersHere s at p) where
@@ -144,7 +144,7 @@ module _ (s : List ℕ) where
 pub ruleset declaring-operands = (needs, operands-begin, operands-done, aggregate-there, aggregate-may, fewer-left, operands-next)
 
 -- a reached condition
-module _ (s : List ℕ) (at : ℕ) (k : ℕ) (o : Opened s at k) (t : List ℕ) (a : ℕ) (may : MayDeclare s (declares (conditionIn s at)) t a) where
+module _ (s : List ℕ) (at : ℕ) (k : ℕ) (o : KindHere s at k) (t : List ℕ) (a : ℕ) (may : MayDeclare s (declares (conditionIn s at)) t a) where
   module _ (acc : isCondition s at ≡ true) (is : k ≡ 9) (p : ℕ) (place : p ≡ firstPart s at) where
     own : QuantifiedHere s at p
     own = quantified-inside s at acc p place k (o .kind) is

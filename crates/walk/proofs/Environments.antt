@@ -20,8 +20,8 @@ use Rattle.condition.specs.Condition.{Slot, named, paramRef, binderRef, Annotat
 use Rattle.condition.specs.Walk.{binders, hasName, namedOnes, namedHere, lastNamed}
 use Rattle.condition.specs.Places.{isRecord, recordIn, isSlot, isAnnotation, annotationIn, isBinder, binderIn}
 use Rattle.condition.specs.Laws.Sizes.{named-append, record-bytes}
-use Rattle.nodes.specs.Open.{Skipped}
-use Rattle.nodes.specs.Parts.{Says, nameIn}
+use Rattle.nodes.specs.Looked.{Skipped}
+use Rattle.nodes.specs.Parts.{BoundBy, nameIn}
 use Rattle.walk.specs.Environment.{nameAt, Sorted, Entry, Environment, SpotOf, insertAt, Inserted, MayDeclare, Declared}
 use Rattle.condition.specs.Laws.Records.{record-small}
 use Rattle.walk.proofs.ByPlace.{prefix}
@@ -295,12 +295,12 @@ module _ (s table name : List ℕ) (bs : List Binder) (env : Environment s bs ta
         pub found-annotation : isAnnotation s m ≡ true
         found-annotation = binder-annotation s q (found .stands) m z
 
-        pub found-says : (r : Bound) → Says s (some (annotationIn s m)) r → Says s (lastNamed name bs) r
+        pub found-says : (r : Bound) → BoundBy s (some (annotationIn s m)) r → BoundBy s (lastNamed name bs) r
         found-says r y =
             let f : lastNamed name bs ≡ some (annotationIn s m) = ap (λ w. lastNamed w bs) (sym found-name) ∙ found .last ∙ ap some (annotation-is s q (found .stands) m z) in
             rw f y
 
-  pub none-says : p .found ≡ false → Says s (lastNamed name bs) Nothing
+  pub none-says : p .found ≡ false → BoundBy s (lastNamed name bs) Nothing
   none-says is = rw (env .complete name (λ i h. differ i h (ltb i (p .at)) refl)) (says-nothing s)
     where
       differ : (i : ℕ) → i < length table → (b : Bool) → ltb i (p .at) ≡ b → same (nameAt s table i) name ≡ false

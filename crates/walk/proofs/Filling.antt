@@ -16,7 +16,7 @@ use Rattle.condition.specs.Walk.{reached, reachedIn, reachedBody}
 use Rattle.condition.specs.Places.{conditionHere, termHere, isCondition, conditionIn, isTerm, termIn, isAggregate, aggregateIn, isBinder}
 use Rattle.nodes.specs.Kinds.{kindOf, oneNumber, twoNumber, oneKind, twoKind, termKindOf, aggregateKindOf}
 use Rattle.nodes.specs.Offsets.{firstPart, termPart}
-use Rattle.nodes.specs.Open.{Skipped, Opened, TermOpened, AggregateOpened, OneHere, TwoHere, ComparedHere, QuantifiedHere, AddedHere, AggregateHere, BodyHere}
+use Rattle.nodes.specs.Looked.{Skipped, KindHere, TermKindHere, AggregateKindHere, OneHere, TwoHere, ComparedHere, QuantifiedHere, AddedHere, AggregateHere, BodyHere}
 use Rattle.walk.specs.Index.{Indexes, Room, Put, Filled}
 use Rattle.nodes.specs.Laws.Opens.{condition-ahead}
 use Rattle.nodes.specs.Laws.Inside.{two-inside, one-inside, compared-inside, quantified-inside, added-inside, aggregate-inside}
@@ -123,7 +123,7 @@ ends-there e f = cc
 
 -- What each kind of condition asks of its parts, and what it puts into the table. For `search`: the premises stand as the code learns them, in an order in
 -- which each leaves little open when it is looked for.
-module _ (s : List ℕ) (at : ℕ) (acc : isCondition s at ≡ true) (k : ℕ) (o : Opened s at k) (p : ℕ) (place : p ≡ firstPart s at) where
+module _ (s : List ℕ) (at : ℕ) (acc : isCondition s at ≡ true) (k : ℕ) (o : KindHere s at k) (p : ℕ) (place : p ≡ firstPart s at) where
   module _ (b : Bool) (q : b ≡ twoKind k) (taken : b ≡ true) where
     two-is : TwoHere s at p
     two-is = two-inside s at acc p place k (o .kind) (sym q ∙ taken)
@@ -181,7 +181,7 @@ module _ (s : List ℕ) (at : ℕ) (acc : isCondition s at ≡ true) (k : ℕ) (
       exists-filled u f = alike s (rw body-is at (quantified-is .ends)) (rw body-is at (quantified-is .reaches)) (self s acc u f (omega (arith, quantified-is .ahead, z .ahead)))
 
 -- any other kind
-module _ (s : List ℕ) (at : ℕ) (acc : isCondition s at ≡ true) (k : ℕ) (o : Opened s at k) where
+module _ (s : List ℕ) (at : ℕ) (acc : isCondition s at ≡ true) (k : ℕ) (o : KindHere s at k) where
   pub alone-filled : {m n : ℕ} {t₀ t₁ : List ℕ} (two-in one-in : Bool) → two-in ≡ twoKind k → two-in ≡ false → one-in ≡ oneKind k → one-in ≡ false → (k ≡ 8 → ⊥) → (k ≡ 9 → ⊥) → Room s at (length t₀) n → Put t₀ n at t₁ → Skipped (conditionHere s at) at m
       → Filled s at (conditionHere s at) (reached (conditionIn s at)) t₀ n t₁ (record { next = m; count = n + 1 })
   alone-filled two-in one-in h h′ i i′ a b room u z =
@@ -189,7 +189,7 @@ module _ (s : List ℕ) (at : ℕ) (acc : isCondition s at ≡ true) (k : ℕ) (
       alike s refl e (self s acc u (empty s (z .ends) (condition-ahead s at acc z) (omega arith)) (omega arith))
 
 -- The same of an operand.
-module _ (s : List ℕ) (at : ℕ) (acc : isTerm s at ≡ true) (k : ℕ) (o : TermOpened s at k) (p : ℕ) (place : p ≡ termPart s at) where
+module _ (s : List ℕ) (at : ℕ) (acc : isTerm s at ≡ true) (k : ℕ) (o : TermKindHere s at k) (p : ℕ) (place : p ≡ termPart s at) where
   module _ (is : k ≡ 11) where
     aggregate-is : AggregateHere s at p
     aggregate-is = aggregate-inside s at acc p place k o is
@@ -199,7 +199,7 @@ module _ (s : List ℕ) (at : ℕ) (acc : isTerm s at ≡ true) (k : ℕ) (o : T
     unfolding reachedIn
     body-filled y f = alike s (aggregate-is .ends ∙ y .ends) (rw (aggregate-is .value) (y .value)) (onward s f (omega (arith, aggregate-is .ahead, y .ahead)))
 
-    pub call-filled : (j : ℕ) → AggregateOpened s p j → j ≡ 3 → {m n : ℕ} {t : List ℕ} → Room s at (length t) n → Skipped (termHere s at) at m → Filled s at (termHere s at) (reachedIn (termIn s at)) t n t (record { next = m; count = n })
+    pub call-filled : (j : ℕ) → AggregateKindHere s p j → j ≡ 3 → {m n : ℕ} {t : List ℕ} → Room s at (length t) n → Skipped (termHere s at) at m → Filled s at (termHere s at) (reachedIn (termIn s at)) t n t (record { next = m; count = n })
     unfolding reachedIn
     call-filled j g h room z =
         alike s refl (ap reachedIn (aggregate-is .value) ∙ calls (aggregateIn s p) (sym (g .kind) ∙ h)) (empty s (z .ends) (z .ahead) (omega arith))
@@ -220,18 +220,18 @@ module _ (s : List ℕ) (at : ℕ) (acc : isTerm s at ≡ true) (k : ℕ) (o : T
           alike s (rw m at (added-is .ends)) (ap reachedIn (rw m at (added-is .value))) (onward s (both s f g) (omega (arith, added-is .ahead)))
 
 -- any other kind
-module _ (s : List ℕ) (at : ℕ) (k : ℕ) (o : TermOpened s at k) where
+module _ (s : List ℕ) (at : ℕ) (k : ℕ) (o : TermKindHere s at k) where
   pub bare-filled : {m n : ℕ} {t : List ℕ} → (k ≡ 11 → ⊥) → (k ≡ 12 → ⊥) → Room s at (length t) n → Skipped (termHere s at) at m
       → Filled s at (termHere s at) (reachedIn (termIn s at)) t n t (record { next = m; count = n })
   bare-filled h i room z = rw (bare (termIn s at) (λ e. h (o .kind ∙ e)) (λ e. i (o .kind ∙ e))) (empty s (z .ends) (z .ahead) (omega arith))
 
 -- Where the part behind another stands.
 module _ (s : List ℕ) (p : ℕ) {m n : ℕ} {xs : List Condition} {t u : List ℕ} {a : Indexed} where
-  pub two-next : Filled s m (conditionHere s p) xs t n u a → (at k : ℕ) → Opened s at k → p ≡ firstPart s at → (b : Bool) → b ≡ twoKind k → b ≡ true → isCondition s at ≡ true → isCondition s (a .next) ≡ true
+  pub two-next : Filled s m (conditionHere s p) xs t n u a → (at k : ℕ) → KindHere s at k → p ≡ firstPart s at → (b : Bool) → b ≡ twoKind k → b ≡ true → isCondition s at ≡ true → isCondition s (a .next) ≡ true
   two-next f at k o place b q is acc = let v = two-is s at acc k o p place b q is in rw (ends-there (f .ends) (v .between)) (v .behind)
 
   pub comparison-next : Filled s m (termHere s p) xs t n u a → (at : ℕ) → p ≡ firstPart s at → kindOf (conditionIn s at) ≡ 8 → isCondition s at ≡ true → isTerm s (a .next) ≡ true
   comparison-next f at place is acc = let v = compared-inside s at acc p place 8 (sym is) refl in rw (ends-there (f .ends) (v .between)) (v .behind)
 
-  pub arith-next : Filled s m (termHere s p) xs t n u a → (at k : ℕ) → TermOpened s at k → k ≡ 12 → p ≡ termPart s at → isTerm s at ≡ true → isTerm s (a .next) ≡ true
+  pub arith-next : Filled s m (termHere s p) xs t n u a → (at k : ℕ) → TermKindHere s at k → k ≡ 12 → p ≡ termPart s at → isTerm s at ≡ true → isTerm s (a .next) ≡ true
   arith-next f at k o is place acc = let v = added-is s at acc k o p place is in rw (ends-there (f .ends) (v .between)) (v .behind)

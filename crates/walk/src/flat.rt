@@ -26,7 +26,7 @@ ghost use lib.ListN.{length, take};
 ghost use Rattle.condition.specs.Walk.{declaredBy, declares, binders, hasName, lastNamed};
 ghost use Rattle.condition.specs.Places.{isRecord, recordIn, isCondition, conditionIn, isAggregate, aggregateIn, isBinder, binderIn};
 ghost use Rattle.nodes.specs.Kinds.{kindOf};
-ghost use Rattle.nodes.specs.Parts.{nameIn, isBinders, bindersIn, Says};
+ghost use Rattle.nodes.specs.Parts.{nameIn, isBinders, bindersIn, BoundBy};
 ghost use Rattle.walk.specs.Index.{Index};
 ghost use Rattle.walk.specs.Environment.{Environment, SpotOf, MayDeclare, Declared};
 
@@ -162,7 +162,7 @@ pub fn environment(s: &[u8], places: &[u16], table: &mut [u16]) -> usize
 // The annotation of the last binder of a name, by halving.
 pub fn bound_in(s: &[u8], table: &[u16], name: &[u8]) -> Bound
     requires { ⌜ Environment (now s) (binders (recordIn (now s))) (now table) ⌝ }
-    ensures { λ r. ⌜ Says (now (s .entry)) (lastNamed (now (name .entry)) (binders (recordIn (now (s .entry))))) r ⌝ }
+    ensures { λ r. ⌜ BoundBy (now (s .entry)) (lastNamed (now (name .entry)) (binders (recordIn (now (s .entry))))) r ⌝ }
 {
     let p = spot(s, table, name);
     let i = p.at;

@@ -4,7 +4,7 @@
 // |---|---|
 // | index | `index_record(s, table)`: the places of the reached conditions in walk order, `Index s (take r table)` |
 // | places | `reached_at(s, places, i)`: `Reached` |
-// | flat | `environment(s, places, table)`: the last binder of each name, sorted by name, `Environment s (binders (recordIn s)) (take r table)`; `bound_in(s, table, name)`: `Says` of `lastNamed name (binders (recordIn s))`, by halving |
+// | flat | `environment(s, places, table)`: the last binder of each name, sorted by name, `Environment s (binders (recordIn s)) (take r table)`; `bound_in(s, table, name)`: `BoundBy` of `lastNamed name (binders (recordIn s))`, by halving |
 // | sorted | a table of places that is sorted by name: `spot`, `replace`, `insert` |
 mod flat;
 mod index;

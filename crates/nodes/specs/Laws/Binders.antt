@@ -18,14 +18,14 @@ use Rattle.condition.specs.Condition.{Slot, named, Annotation, timepoint, path,
 use Rattle.condition.specs.Condition as tree
 use Rattle.condition.specs.Walk.{hasName}
 use Rattle.condition.specs.Places.{isSlot, slotIn, isAnnotation, annotationIn, isBinder, binderIn}
-use Rattle.nodes.specs.Open.{Skipped}
-use Rattle.nodes.specs.Parts.{segmentsIn, Says, nameIn}
+use Rattle.nodes.specs.Looked.{Skipped}
+use Rattle.nodes.specs.Parts.{segmentsIn, BoundBy, nameIn}
 use Rattle.nodes.specs.Laws.Pieces.{slot-index, slot-name, slot-param, slot-binder}
 use Rattle.nodes.specs.Laws.Opens.{Stands, stood, ends-at}
 
 -- What is bound, by cases.
 module _ (s : List ℕ) where
-  pub says-nothing : Says s none Nothing
+  pub says-nothing : BoundBy s none Nothing
   says-nothing = record { stands = tt; value = refl }
 
 -- An annotation.
@@ -48,10 +48,10 @@ module _ (s : List ℕ) (at : ℕ) (acc : isAnnotation s at ≡ true) where
   pub annotation-index : at < length s
   annotation-index = annotation-view .inside
 
-  pub bound-timepoint : getD s at 0 ≡ 0 → Says s (some (annotationIn s at)) Timepoint
+  pub bound-timepoint : getD s at 0 ≡ 0 → BoundBy s (some (annotationIn s at)) Timepoint
   bound-timepoint e = record { stands = tt; value = ap some (got-value (rw (eq-eqb _ _ e) at (annotation-view .read))) }
 
-  pub bound-segments : (getD s at 0 ≡ 0 → ⊥) → Says s (some (annotationIn s at)) (Segments at)
+  pub bound-segments : (getD s at 0 ≡ 0 → ⊥) → BoundBy s (some (annotationIn s at)) (Segments at)
   unfolding segmentsIn counted
   bound-segments h =
       let v = annotation-view in

@@ -17,7 +17,7 @@ use Rattle.condition.specs.Walk.{reached, reachedIn, declares}
 use Rattle.condition.specs.Places.{versionIn, isCondition, conditionIn, isTerm, termIn, isAggregate, aggregateIn, binderIn}
 use Rattle.nodes.specs.Kinds.{kindOf, oneKind, twoKind, termKindOf}
 use Rattle.nodes.specs.Offsets.{firstPart, termPart, aggregatePart}
-use Rattle.nodes.specs.Open.{TermOpened, OneHere, TwoHere, ComparedHere, QuantifiedHere, AddedHere, AggregateHere}
+use Rattle.nodes.specs.Looked.{TermKindHere, OneHere, TwoHere, ComparedHere, QuantifiedHere, AddedHere, AggregateHere}
 use Rattle.nodes.specs.Laws.Views.{aggregate-view}
 use Rattle.nodes.specs.Laws.Opens.{condition-value, term-value, condition-stands, condition-index, raw-kind, two-here, one-here, comparison-here, exists-here, term-stands, raw-term, arith-here}
 
@@ -124,7 +124,7 @@ module _ (s : List ℕ) (at : ℕ) where
           ends = same-end (term-stands s at acc .read) (v .further);
         })
 
-    pub aggregate-inside : (k : ℕ) → TermOpened s at k → k ≡ 11 → AggregateHere s at p
+    pub aggregate-inside : (k : ℕ) → TermKindHere s at k → k ≡ 11 → AggregateHere s at p
     unfolding termPart aggregateIn
     aggregate-inside k o is =
         let v = aggregate-view (versionIn s) s at (term-stands s at acc .read) (raw-term s at acc 11 (λ i. omega arith) (sym (o .kind) ∙ is)) in
@@ -135,7 +135,7 @@ module _ (s : List ℕ) (at : ℕ) where
           ends = same-end (term-stands s at acc .read) (v .reads);
         })
 
-    pub aggregate-first : (k : ℕ) → TermOpened s at k → k ≡ 11 → isAggregate s p ≡ true
+    pub aggregate-first : (k : ℕ) → TermKindHere s at k → k ≡ 11 → isAggregate s p ≡ true
     aggregate-first k o is = aggregate-inside k o is .stands
 
 pub term-part-is : (s : List ℕ) (at : ℕ) → at + 1 ≡ termPart s at

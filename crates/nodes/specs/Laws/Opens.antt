@@ -16,7 +16,7 @@ use Rattle.names.specs.Laws.Readers.{arrives, has-value}
 use Rattle.condition.specs.Condition.{Condition, Term, Aggregate, sum, count, call, slot, binder, conditionAt, termAt}
 use Rattle.condition.specs.Places.{versionIn, conditionHere, termHere, isCondition, conditionIn, isTerm, termIn, aggregateAt, isAggregate, aggregateIn, isSlot, isBinder}
 use Rattle.nodes.specs.Kinds.{kindOf, oneKind, twoKind, termKindOf, aggregateKindOf}
-use Rattle.nodes.specs.Open.{placeOf, Skipped, Opened, TermOpened, AggregateOpened}
+use Rattle.nodes.specs.Looked.{placeOf, Skipped, KindHere, TermKindHere, AggregateKindHere}
 use Rattle.condition.specs.Laws.Sizes.{Forward, nine-condition, forward-slot, forward-binder, forward-counted, forward-condition, forward-term}
 use Rattle.nodes.specs.Laws.Views.{Head, head-view, OneView, one-view, TwoView, two-view, ComparisonView, comparison-view, ExistsView, exists-view, span-view, inside, term-inside, term-number, ArithView, arith-view, aggregate-head-view, SumView, sum-view, CountView, count-view, CallView, call-view}
 
@@ -139,10 +139,10 @@ module _ (s : List ℕ) (at : ℕ) (acc : isCondition s at ≡ true) where
       let e = arrives (condition-stands .read) (sym (z .ends)) refl in
       omega arith
 
-  pub kind-sigil : getD s at 0 ≡ 12 → Opened s at 11
+  pub kind-sigil : getD s at 0 ≡ 12 → KindHere s at 11
   kind-sigil e = record { inside = condition-room; kind = rw e at (condition-head .kind) }
 
-  pub kind-itself : (getD s at 0 ≡ 12 → ⊥) → Opened s at (getD s at 0)
+  pub kind-itself : (getD s at 0 ≡ 12 → ⊥) → KindHere s at (getD s at 0)
   kind-itself h = record { inside = condition-room; kind = rw (ne-eqb (getD s at 0) 12 h) at (condition-head .kind) }
 
   -- its byte
@@ -175,10 +175,10 @@ module _ (s : List ℕ) (at : ℕ) (acc : isTerm s at ≡ true) where
   pub term-index : at < length s
   term-index = term-inside (versionIn s) s at (term-stands .read)
 
-  pub term-sigil : getD s at 0 ≡ 14 → TermOpened s at 13
+  pub term-sigil : getD s at 0 ≡ 14 → TermKindHere s at 13
   term-sigil e = record { inside = term-index; kind = rw e at (term-number (versionIn s) s at (term-stands .read)) }
 
-  pub term-itself : (getD s at 0 ≡ 14 → ⊥) → TermOpened s at (getD s at 0)
+  pub term-itself : (getD s at 0 ≡ 14 → ⊥) → TermKindHere s at (getD s at 0)
   term-itself h = record { inside = term-index; kind = rw (ne-eqb (getD s at 0) 14 h) at (term-number (versionIn s) s at (term-stands .read)) }
 
   pub raw-term : (k : ℕ) → (k ≡ 13 → ⊥) → termKindOf (termIn s at) ≡ k → getD s at 0 ≡ k
@@ -193,7 +193,7 @@ module _ (s : List ℕ) (at : ℕ) (acc : isAggregate s at ≡ true) where
   unfolding aggregateIn
   aggregate-stands = stood _ _ acc
 
-  pub aggregate-kind-here : AggregateOpened s at (getD s at 0)
+  pub aggregate-kind-here : AggregateKindHere s at (getD s at 0)
   aggregate-kind-here =
       let v = aggregate-head-view (versionIn s) s at (aggregate-stands .read) in
       let w = span-view s (at + 1) (v .spans) in

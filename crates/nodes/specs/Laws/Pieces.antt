@@ -25,7 +25,7 @@ use Rattle.condition.specs.Places.{versionIn, termHere, isCondition, conditionI
 use Rattle.nodes.specs.Offsets.{firstPart, termPart, aggregatePart}
 use Rattle.nodes.specs.Laws.Inside.{same-end, ended, place-other, place-compared, compared-inside, added-inside}
 use Rattle.nodes.specs.Kinds.{kindOf, spanOf, ownSpanOf, termKindOf, aggregateKindOf, aggregateSpanOf}
-use Rattle.nodes.specs.Open.{placeOf, Skipped, Opened, TermOpened, AggregateOpened, ComparedHere, BodyHere}
+use Rattle.nodes.specs.Looked.{placeOf, Skipped, KindHere, TermKindHere, AggregateKindHere, ComparedHere, BodyHere}
 use Rattle.nodes.specs.Parts.{EndsHere, Spans, ComparisonHere, ArithHere, PredicateHere, ArgumentHere, TimepointHere, ElementsHere, ElementHere, PathHere, SummandHere, bindersIn, BindersHere, slotOf, segmentsIn, SegmentsHere, SlotHere}
 use Rattle.condition.specs.Laws.Sizes.{forward-counted, forward-string, forward-path, one-term}
 use Rattle.condition.specs.Laws.Levels.{term-anywhere}
@@ -135,7 +135,7 @@ module _ (s : List ℕ) (at : ℕ) (acc : isTerm s at ≡ true) (p : ℕ) (e : p
         rw i (record { left = h .stands; right = h .behind; ahead = h .ahead; further = omega arith; value = h .value })
 
   -- names and paths
-  module _ (k : ℕ) (o : TermOpened s at k) where
+  module _ (k : ℕ) (o : TermKindHere s at k) where
     pub entity-inside : k ≡ 1 → termIn s at ≡ entity (wordAt s p)
     unfolding termPart
     entity-inside is =
@@ -416,7 +416,7 @@ module _ (s : List ℕ) (at : ℕ) (acc : isAggregate s at ≡ true) where
   pub summand-slot : aggregateKindOf (aggregateIn s at) ≡ 1 → (p : ℕ) → p ≡ aggregatePart s at → isSlot s p ≡ true
   summand-slot is p e = summand-inside is p e .stands
 
-  module _ (k : ℕ) (o : AggregateOpened s at k) (p : ℕ) (e : p ≡ aggregatePart s at) where
+  module _ (k : ℕ) (o : AggregateKindHere s at k) (p : ℕ) (e : p ≡ aggregatePart s at) where
     pub sum-slot : k ≡ 1 → isSlot s p ≡ true
     sum-slot is = summand-inside (sym (o .kind) ∙ is) p e .stands
 

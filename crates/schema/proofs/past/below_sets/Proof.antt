@@ -1,13 +1,13 @@
 -- `schema::past::below_sets` meets its contract. The type at hand ends where the first does. Assumes nothing.
 use Prim.Native.Nat.{_-_}
 use lib.ListN.{length}
-use Rattle.schema.specs.Places.{Opened, Below}
+use Rattle.schema.specs.Places.{KindHere, Below}
 use Rattle.schema.proofs.Passing.{belowSets}
 use Rattle.schema.proofs.past.below_sets.Statement.{statement}
 use Rattle.schema.proofs.past.below_sets.Tie as tie
 
 abbrev Inv-loop : tie.InvT-loop
-Inv-loop s start at₀ kind₀ at kind = Below s start at × Opened s at kind
+Inv-loop s start at₀ kind₀ at kind = Below s start at × KindHere s at kind
 
 abbrev μ-loop : tie.MeasureT-loop
 μ-loop s start at₀ kind₀ at kind = length s - at

@@ -24,15 +24,15 @@ pub record Skipped {A : Type 0} (g : Got A) (at n : ℕ) : Type 0 where
   pub ahead : at ≤ n
 
 -- the kind of the condition, of the term, of the aggregate that stands there
-pub record Opened (s : List ℕ) (at k : ℕ) : Type 0 where
+pub record KindHere (s : List ℕ) (at k : ℕ) : Type 0 where
   pub inside : at + 9 ≤ length s
   pub kind : k ≡ kindOf (conditionIn s at)
 
-pub record TermOpened (s : List ℕ) (at k : ℕ) : Type 0 where
+pub record TermKindHere (s : List ℕ) (at k : ℕ) : Type 0 where
   pub inside : at < length s
   pub kind : k ≡ termKindOf (termIn s at)
 
-pub record AggregateOpened (s : List ℕ) (at k : ℕ) : Type 0 where
+pub record AggregateKindHere (s : List ℕ) (at k : ℕ) : Type 0 where
   pub inside : at + 9 ≤ length s
   pub kind : k ≡ aggregateKindOf (aggregateIn s at)
 
