@@ -223,8 +223,8 @@ fn the_decoder_takes_whole_reports_alone() {
     assert_eq!(error.to_string(), "no whole report stands behind the first 0");
 }
 
-/// Any number of threads at a time on the deepest conditions: a check has 64 KiB of stack with what the thread takes for
-/// itself, sums 80 KiB.
+/// Any number of threads at a time on the deepest conditions, each with 64 KiB of stack, of which the thread takes some for
+/// itself.
 #[test]
 fn threads_with_little_stack() {
     let arith = (0..30).fold(Term::Wildcard, |inner, _| Term::arith(inner, Term::Bool));
@@ -239,11 +239,10 @@ fn threads_with_little_stack() {
     type Call = fn(&[u8], &mut [u8]);
     let checked: Call = |condition, buffer| assert!(check_into(SCHEMA, condition, TARGETS, buffer).count > 0);
     let summed: Call = |condition, buffer| assert_eq!(sums_into(condition, buffer).number(), 0);
-    let calls = [(64 << 10, checked), (80 << 10, summed)];
     std::thread::scope(|scope| {
-        for (stack, call) in calls.into_iter().cycle().take(8) {
+        for call in [checked, summed].into_iter().cycle().take(8) {
             let work = move || conditions.iter().for_each(|condition| call(condition, &mut [0; 1024]));
-            std::thread::Builder::new().stack_size(stack).spawn_scoped(scope, work).unwrap();
+            std::thread::Builder::new().stack_size(64 << 10).spawn_scoped(scope, work).unwrap();
         }
     });
 }
