@@ -1,4 +1,6 @@
 -- A table of the reports by a number made of their start and message, so that a repeat is found without asking all of them.
+-- The first entry of a lent table is a key, which the caller may choose, and the slots are the entries behind it. The number is made with the key, so that
+-- whoever writes a request without knowing it does not know which reports share a slot. What is reported does not depend on it.
 -- A slot is 0 where it is free, else one more than the place of a report in the buffer. A report stands in the first slot that was free when it came, from
 -- its own first slot on and from the last slot to the first one again.
 -- Every function that reports a (message, start) once says: `requires` Lent (sink (now buf) state) (now table), and `ensures` Pushed of its breaches.
@@ -17,41 +19,52 @@ use Rattle.reports.specs.Reports.{Breach, samePair}
 use Rattle.reports.specs.Decode.{size}
 use Rattle.reports.specs.Sink.{Sink, sink, held, push, Sound, Recorded}
 
+-- the two parts of a table
+abbrev pub keyOf : List ℕ → ℕ
+keyOf table = getD table 0 0
+
+abbrev pub slotsOf : List ℕ → List ℕ
+slotsOf table = drop 1 table
+
+-- what a key makes the numbers be multiplied by: it is odd, whatever the key is
+abbrev pub multiplier : ℕ → ℕ
+multiplier key = (key * 2 + 2654435761) % 4294967296
+
 -- a number made of a message's bytes, four at a time, and of those that are left: the table asks nothing of it but that it is a function
-abbrev pub mixed : ℕ → ℕ → ℕ
-mixed h n = (h * 2654435761 + n) % 4294967296
+abbrev pub mixed : ℕ → ℕ → ℕ → ℕ
+mixed by h n = (h * by + n) % 4294967296
 
-unfoldable pub mixedBytes : ℕ → List ℕ → ℕ
-mixedBytes h [] = h
-mixedBytes h (b ∷ bs) = mixedBytes (mixed h b) bs
+unfoldable pub mixedBytes : ℕ → ℕ → List ℕ → ℕ
+mixedBytes by h [] = h
+mixedBytes by h (b ∷ bs) = mixedBytes by (mixed by h b) bs
 
-unfoldable pub mixedWords : ℕ → ℕ → List ℕ → ℕ
-mixedWords zero h s = mixedBytes h s
-mixedWords (suc n) h s = mixedWords n (mixed h (number 0 (take 4 s))) (drop 4 s)
+unfoldable pub mixedWords : ℕ → ℕ → ℕ → List ℕ → ℕ
+mixedWords by zero h s = mixedBytes by h s
+mixedWords by (suc n) h s = mixedWords by n (mixed by h (number 0 (take 4 s))) (drop 4 s)
 
-unfoldable pub hashedMessage : List ℕ → ℕ
-hashedMessage message = mixedWords (length message / 4) 0 message
+unfoldable pub hashedMessage : ℕ → List ℕ → ℕ
+hashedMessage by message = mixedWords by (length message / 4) 0 message
 
 -- the middle of a square, so that the distance of two starts says nothing of that of their slots
 abbrev pub squared : ℕ → ℕ
 squared n = n * n / 65536 % 4294967296
 
-unfoldable pub hashed : ℕ → List ℕ → ℕ
-hashed start message = squared (mixed (hashedMessage message) start)
+unfoldable pub hashed : ℕ → ℕ → List ℕ → ℕ
+hashed key start message = squared (mixed (multiplier key) (hashedMessage (multiplier key) message) start)
 
--- the slot of a table of m in which the search for a pair begins, and the one that is k behind it
-abbrev pub firstSlot : ℕ → Breach → ℕ
-firstSlot m b = hashed (b .start) (b .message) % m
+-- the one of m slots in which the search for a pair begins, and the one that is k behind it
+abbrev pub firstSlot : ℕ → ℕ → Breach → ℕ
+firstSlot key m b = hashed key (b .start) (b .message) % m
 
 abbrev pub slotAt : ℕ → ℕ → ℕ → ℕ
 slotAt m first k = cond (ltb (first + k) m) (first + k) (first + k - m)
 
 -- the search from a first slot on meets this entry: no slot before it is free
-pub record Met (table : List ℕ) (first entry : ℕ) : Type 0 where
+pub record Met (slots : List ℕ) (first entry : ℕ) : Type 0 where
   pub steps : ℕ
-  pub within : steps < length table
-  pub here : getD table (slotAt (length table) first steps) 0 ≡ entry
-  pub passed : (k : ℕ) → k < steps → 0 < getD table (slotAt (length table) first k) 0
+  pub within : steps < length slots
+  pub here : getD slots (slotAt (length slots) first steps) 0 ≡ entry
+  pub passed : (k : ℕ) → k < steps → 0 < getD slots (slotAt (length slots) first k) 0
 
 -- how many slots are taken
 unfoldable pub taken : List ℕ → ℕ
@@ -66,51 +79,51 @@ pub record EntryOf (bs : List Breach) (entry : ℕ) : Type 0 where
   pub split : bs ≡ before ++ (here ∷ after)
   pub place : entry ≡ size before + 1
 
--- the table has these reports, each where the search for it comes, and nothing else
-pub record Tabled (bs : List Breach) (table : List ℕ) : Type 0 where
-  pub number : taken table ≡ length bs
-  pub entries : (j : ℕ) → 0 < getD table j 0 → EntryOf bs (getD table j 0)
-  pub met : (before : List Breach) (b : Breach) (after : List Breach) → bs ≡ before ++ (b ∷ after) → Met table (firstSlot (length table) b) (size before + 1)
+-- the slots have these reports, each where the search for it comes under the key, and nothing else
+pub record Tabled (key : ℕ) (bs : List Breach) (slots : List ℕ) : Type 0 where
+  pub number : taken slots ≡ length bs
+  pub entries : (j : ℕ) → 0 < getD slots j 0 → EntryOf bs (getD slots j 0)
+  pub met : (before : List Breach) (b : Breach) (after : List Breach) → bs ≡ before ++ (b ∷ after) → Met slots (firstSlot key (length slots) b) (size before + 1)
 
--- how many reports a table of m slots takes, so that a search passes few
+-- how many reports m slots take, so that a search passes few
 abbrev pub room : ℕ → ℕ
 room m = m - m / 4
 
 -- the reports of a buffer are in the table, as long as they are no more than it takes, and their places fit a slot
 pub record Filed (s : Sink) (table : List ℕ) : Type 0 where
-  pub tabled : length (held s) ≤ room (length table) → length (s .bytes) < 4294967295 → Tabled (held s) table
+  pub tabled : length (held s) ≤ room (length (slotsOf table)) → length (s .bytes) < 4294967295 → Tabled (keyOf table) (held s) (slotsOf table)
 
 -- whether one more is put into it
 abbrev pub isOpen : Sink → List ℕ → Bool
-isOpen s table = ltb (s .state .count) (room (length table)) && ltb (length (s .bytes)) 4294967295
+isOpen s table = ltb (s .state .count) (room (length (slotsOf table))) && ltb (length (s .bytes)) 4294967295
 
 -- a slot for a pair that none of the reports has: the first free one of its search
-pub record FreeFor (bs : List Breach) (table : List ℕ) (b : Breach) (j : ℕ) : Type 0 where
+pub record FreeFor (key : ℕ) (bs : List Breach) (slots : List ℕ) (b : Breach) (j : ℕ) : Type 0 where
   pub new : anyOf (samePair b) bs ≡ false
   pub steps : ℕ
-  pub within : steps < length table
-  pub is : j ≡ slotAt (length table) (firstSlot (length table) b) steps
-  pub free : getD table j 0 ≡ 0
-  pub passed : (k : ℕ) → k < steps → 0 < getD table (slotAt (length table) (firstSlot (length table) b) k) 0
+  pub within : steps < length slots
+  pub is : j ≡ slotAt (length slots) (firstSlot key (length slots) b) steps
+  pub free : getD slots j 0 ≡ 0
+  pub passed : (k : ℕ) → k < steps → 0 < getD slots (slotAt (length slots) (firstSlot key (length slots) b) k) 0
 
 -- what the search for a pair says
-abbrev pub Finds : List Breach → List ℕ → Breach → Slot → Type 0
-Finds bs table b Seen = anyOf (samePair b) bs ≡ true
-Finds bs table b (Free j) = FreeFor bs table b j
+abbrev pub Finds : ℕ → List Breach → List ℕ → Breach → Slot → Type 0
+Finds key bs slots b Seen = anyOf (samePair b) bs ≡ true
+Finds key bs slots b (Free j) = FreeFor key bs slots b j
 
 -- a slot of the table of a buffer is free for a pair that none of its reports is
 pub record FreeIn (s : List ℕ) (st : State) (table : List ℕ) (start : ℕ) (message : List ℕ) (j : ℕ) : Type 0 where
   pub filed : Filed (sink s st) table
-  pub tabled : Tabled (held (sink s st)) table
-  pub slot : FreeFor (held (sink s st)) table (record { start = start; end = 0; message = message }) j
-  pub inside : j < length table
+  pub tabled : Tabled (keyOf table) (held (sink s st)) (slotsOf table)
+  pub slot : FreeFor (keyOf table) (held (sink s st)) (slotsOf table) (record { start = start; end = 0; message = message }) j
+  pub inside : j + 1 < length table
   pub place : st .used < 4294967295
 
 -- ---- what is lent to a function that reports each pair once, and what it does
 
--- no slot is taken
+-- no slot is taken, whatever the key is
 abbrev pub Empty : List ℕ → Type 0
-Empty table = (j : ℕ) → getD table j 0 ≡ 0
+Empty table = (j : ℕ) → getD (slotsOf table) j 0 ≡ 0
 
 -- the buffer with its state, and the table that has its reports
 pub record Lent (s : Sink) (table : List ℕ) : Type 0 where

@@ -1,4 +1,5 @@
 // The table of the reports so far, by a number made of their start and message: a repeat is found without asking all reports.
+// Its first entry is a key, which the caller may choose, and the slots are the entries behind it.
 use crate::Slot;
 use crate::State;
 use crate::earlier::is_repeat;
@@ -8,7 +9,7 @@ ghost use mathlib.Core.Path.{_≡_};
 ghost use Prim.Native.Nat.{_+_, _*_, _<_, _≤_};
 ghost use lib.ListN.{length, getD, set, drop};
 ghost use Rattle.reports.specs.Sink.{sink, Sound, held};
-ghost use Rattle.reports.specs.Slots.{mixed, mixedBytes, hashedMessage, squared, hashed, slotAt, Tabled, Finds, isOpen, Empty};
+ghost use Rattle.reports.specs.Slots.{keyOf, slotsOf, multiplier, mixed, mixedBytes, hashedMessage, squared, hashed, slotAt, Tabled, Finds, isOpen, Empty};
 
 fn from_u32(n: u32) -> usize
     ensures { λ r. ⌜ r ≡ n ⌝ }
@@ -17,44 +18,53 @@ fn from_u32(n: u32) -> usize
     n as usize
 }
 
-// One number more in a hash.
-fn mix(h: usize, n: usize) -> usize
-    requires { ⌜ (h < 4294967296) × (n < 4294967296) ⌝ }
-    ensures { λ r. ⌜ r ≡ mixed h n ⌝ }
+// What the numbers of a hash are multiplied by under a key.
+fn multiplier_of(key: u32) -> usize
+    ensures { λ r. ⌜ r ≡ multiplier key ⌝ }
     ensures { λ r. ⌜ r < 4294967296 ⌝ }
 {
-    (h * 2654435761 + n) % 4294967296
+    (from_u32(key) * 2 + 2654435761) % 4294967296
+}
+
+// One number more in a hash.
+fn mix(by: usize, h: usize, n: usize) -> usize
+    requires { ⌜ (by < 4294967296) × (h < 4294967296) × (n < 4294967296) ⌝ }
+    ensures { λ r. ⌜ r ≡ mixed by h n ⌝ }
+    ensures { λ r. ⌜ r < 4294967296 ⌝ }
+{
+    (h * by + n) % 4294967296
 }
 
 // The bytes of a message from a place on.
-fn mix_bytes(h: usize, message: &[u8], from: usize) -> usize
-    requires { ⌜ (h < 4294967296) × (from ≤ length (now message)) ⌝ }
-    ensures { λ r. ⌜ r ≡ mixedBytes h (drop from (now (message .entry))) ⌝ }
+fn mix_bytes(by: usize, h: usize, message: &[u8], from: usize) -> usize
+    requires { ⌜ (by < 4294967296) × (h < 4294967296) × (from ≤ length (now message)) ⌝ }
+    ensures { λ r. ⌜ r ≡ mixedBytes by h (drop from (now (message .entry))) ⌝ }
     ensures { λ r. ⌜ r < 4294967296 ⌝ }
 {
     let mut mixed = h;
     let mut at = from;
     while at < message.len() {
-        mixed = mix(mixed, wide(message[at]));
+        mixed = mix(by, mixed, wide(message[at]));
         at += 1;
     }
     mixed
 }
 
 // The number of a message.
-fn hash_message(message: &[u8]) -> usize
-    ensures { λ r. ⌜ r ≡ hashedMessage (now (message .entry)) ⌝ }
+fn hash_message(by: usize, message: &[u8]) -> usize
+    requires { ⌜ by < 4294967296 ⌝ }
+    ensures { λ r. ⌜ r ≡ hashedMessage by (now (message .entry)) ⌝ }
     ensures { λ r. ⌜ r < 4294967296 ⌝ }
 {
     let mut mixed = 0;
     let mut at = 0;
     let mut left = message.len() / 4;
     while 0 < left {
-        mixed = mix(mixed, from_u32(u32_at(message, at)));
+        mixed = mix(by, mixed, from_u32(u32_at(message, at)));
         at += 4;
         left -= 1;
     }
-    mix_bytes(mixed, message, at)
+    mix_bytes(by, mixed, message, at)
 }
 
 // The middle of a number's square.
@@ -67,10 +77,22 @@ fn square(n: usize) -> usize
 
 // The number of a start and a message. Without the square it would be a sum of what the two are mixed to, and a rule's writer could choose starts that
 // share a slot under every message.
-fn hash(start: u32, message: &[u8]) -> usize
-    ensures { λ r. ⌜ r ≡ hashed start (now (message .entry)) ⌝ }
+fn hash(key: u32, start: u32, message: &[u8]) -> usize
+    ensures { λ r. ⌜ r ≡ hashed key start (now (message .entry)) ⌝ }
 {
-    square(mix(hash_message(message), from_u32(start)))
+    let by = multiplier_of(key);
+    square(mix(by, hash_message(by, message), from_u32(start)))
+}
+
+// How many slots a table has: its entries behind the key.
+fn slots_in(table: &[u32]) -> usize
+    ensures { λ r. ⌜ r ≡ length (slotsOf (now (table .entry))) ⌝ }
+{
+    let size = table.len();
+    if size == 0 {
+        return 0;
+    }
+    size - 1
 }
 
 // The slot that is k behind the first of a search.
@@ -86,22 +108,23 @@ fn slot_at(size: usize, first: usize, k: usize) -> usize
     k - behind
 }
 
+// What a slot holds.
 fn entry_at(table: &[u32], at: usize) -> usize
-    requires { ⌜ at < length (now table) ⌝ }
-    ensures { λ r. ⌜ r ≡ getD (now (table .entry)) at 0 ⌝ }
+    requires { ⌜ at + 1 < length (now table) ⌝ }
+    ensures { λ r. ⌜ r ≡ getD (slotsOf (now (table .entry))) at 0 ⌝ }
 {
-    from_u32(table[at])
+    from_u32(table[at + 1])
 }
 
 // Whether a report with this start and message is in the table, or the slot that it is put into: the first free one from its own slot on.
 pub fn find(buf: &[u8], state: State, table: &[u32], start: u32, message: &[u8]) -> Slot
     requires { ⌜ Sound (sink (now buf) state) ⌝ }
-    requires { ⌜ Tabled (held (sink (now buf) state)) (now table) ⌝ }
-    requires { ⌜ length (held (sink (now buf) state)) < length (now table) ⌝ }
-    ensures { λ r. ⌜ Finds (held (sink (now (buf .entry)) state)) (now (table .entry)) (record { start = start; end = 0; message = now (message .entry) }) r ⌝ }
+    requires { ⌜ Tabled (keyOf (now table)) (held (sink (now buf) state)) (slotsOf (now table)) ⌝ }
+    requires { ⌜ length (held (sink (now buf) state)) < length (slotsOf (now table)) ⌝ }
+    ensures { λ r. ⌜ Finds (keyOf (now (table .entry))) (held (sink (now (buf .entry)) state)) (slotsOf (now (table .entry))) (record { start = start; end = 0; message = now (message .entry) }) r ⌝ }
 {
-    let size = table.len();
-    let first = hash(start, message) % size;
+    let size = slots_in(table);
+    let first = hash(table[0], start, message) % size;
     let mut k = 0;
     while k < size {
         let at = slot_at(size, first, k);
@@ -119,17 +142,17 @@ pub fn find(buf: &[u8], state: State, table: &[u32], start: u32, message: &[u8])
 
 // A report that stands at a place is put into a slot.
 pub fn file(table: &mut [u32], slot: usize, place: usize)
-    requires { ⌜ (slot < length (now table)) × (place < 4294967295) ⌝ }
-    ensures { λ r. ⌜ now (table .exit) ≡ set (now (table .entry)) slot (place + 1) ⌝ }
+    requires { ⌜ (slot + 1 < length (now table)) × (place < 4294967295) ⌝ }
+    ensures { λ r. ⌜ now (table .exit) ≡ set (now (table .entry)) (slot + 1) (place + 1) ⌝ }
 {
-    table[slot] = (place + 1) as u32;
+    table[slot + 1] = (place + 1) as u32;
 }
 
-// All slots made free, whatever they held.
+// All slots made free, whatever they held. The key stays.
 pub fn clear(table: &mut [u32])
     ensures { λ r. ⌜ Empty (now (table .exit)) ⌝ }
 {
-    let mut at = 0;
+    let mut at = 1;
     while at < table.len() {
         table[at] = 0;
         at += 1;
@@ -141,7 +164,7 @@ pub fn is_open(buf: &[u8], table: &[u32], state: State) -> bool
     requires { ⌜ Sound (sink (now buf) state) ⌝ }
     ensures { λ r. ⌜ r ≡ isOpen (sink (now (buf .entry)) state) (now (table .entry)) ⌝ }
 {
-    let size = table.len();
+    let size = slots_in(table);
     if state.count < size - size / 4 {
         return buf.len() < 4294967295;
     }

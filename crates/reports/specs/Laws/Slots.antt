@@ -5,9 +5,10 @@ use mathlib.Core.Bool.{Bool, true, false, cond, _&&_, _||_, true≢false, false�
 use mathlib.Core.List.{List, [], _∷_, _++_, append-assoc}
 use Prim.Native.Nat.{ℕ, zero, suc, _+_, _-_, _/_, _%_, _≤_, _<_}
 use native.Mathlib.Omega.{arith}
-use native.Mathlib.Nat.{mod-lt, eq-or-lt-of-le}
+use native.Mathlib.Nat.{mod-lt, eq-or-lt-of-le, add-comm}
+use native.Mathlib.Numerals.{add-one}
 use lib.ListN.{length, getD, set, take, drop, replicate, length-append, length-set, length-drop}
-use lib.Seq.{drop-append-seam, drop-drop, getD-set-same, getD-set-other}
+use lib.Seq.{drop-append-seam, drop-drop, getD-drop, getD-set-same, getD-set-other}
 use lib.Dec.{ltb, leb, eqb}
 use borrow.Author.Count.{below-more}
 use borrow.Author.Tests.{ltb-true, ltb-false, lt-ltb, le-ltb, eqb-true, eqb-false, eq-eqb, ne-eqb}
@@ -23,7 +24,7 @@ use Rattle.reports.specs.Decode.{width, size, reports, long, longAt, rep
 use Rattle.reports.specs.Kept.{fold, Log, step}
 use Rattle.reports.specs.Sink.{Sink, sink, held, append, push, Sound, written, logOf, start}
 use Rattle.reports.specs.Laws.Sinks.{log-written, length-written, append-written, step-fits, sound-size, sound-start, sound-push}
-use Rattle.reports.specs.Slots.{hashed, firstSlot, slotAt, Met, taken, EntryOf, Tabled, FreeFor, Finds, room, isOpen, Filed, Empty, Lent, Pushed}
+use Rattle.reports.specs.Slots.{keyOf, slotsOf, hashed, firstSlot, slotAt, Met, taken, EntryOf, Tabled, FreeFor, Finds, room, isOpen, Filed, Empty, Lent, Pushed}
 
 -- ---- the reports of a sound buffer, by the size of those before them
 
@@ -69,10 +70,10 @@ module _ (q : Breach → Bool) where
 
 -- ---- the search
 
-pub first-within : (m : ℕ) (b : Breach) → 0 < m → firstSlot m b < m
-first-within m b h = mod-lt (hashed (b .start) (b .message)) h
+pub first-within : (key m : ℕ) (b : Breach) → 0 < m → firstSlot key m b < m
+first-within key m b h = mod-lt (hashed key (b .start) (b .message)) h
 
--- a slot of the table, and each slot comes within as many steps as there are slots
+-- one of the slots, and each slot comes within as many steps as there are slots
 module _ (m first : ℕ) (h : first < m) where
   pub slot-within : (k : ℕ) → k < m → slotAt m first k < m
   slot-within k l = go (ltb (first + k) m) refl
@@ -110,7 +111,7 @@ module _ (m first : ℕ) (h : first < m) where
           rw (e, over) (omega arith)
 
 -- where no slot is free, all are taken
-pub all-taken : (table : List ℕ) → ((j : ℕ) → j < length table → 0 < getD table j 0) → taken table ≡ length table
+pub all-taken : (slots : List ℕ) → ((j : ℕ) → j < length slots → 0 < getD slots j 0) → taken slots ≡ length slots
 unfolding taken
 all-taken [] h = refl
 all-taken (e ∷ es) h = rw (ne-eqb e 0 (λ z. omega (arith, h 0 (omega arith)))) (ap suc (all-taken es (λ j l. h (suc j) (omega arith))))
@@ -124,64 +125,64 @@ taken-under x xs ys q = go (eqb x 0)
     go true = q
     go false = omega arith
 
-pub taken-set : (table : List ℕ) (j e : ℕ) → j < length table → getD table j 0 ≡ 0 → 0 < e → taken (set table j e) ≡ taken table + 1
+pub taken-set : (slots : List ℕ) (j e : ℕ) → j < length slots → getD slots j 0 ≡ 0 → 0 < e → taken (set slots j e) ≡ taken slots + 1
 unfolding taken
 taken-set [] j e h f p = absurd (omega arith)
 taken-set (x ∷ xs) zero e h f p = rw (ne-eqb e 0 (λ z. omega arith), eq-eqb x 0 f) (omega arith)
 taken-set (x ∷ xs) (suc j) e h f p = taken-under x (set xs j e) xs (taken-set xs j e (omega arith) f p)
 
 -- what a search for the pair b knows after k steps: each slot passed has a report, and not this one
-pub record Searched (s table : List ℕ) (b : Breach) (k : ℕ) : Type 0 where
-  pub passed : (i : ℕ) → i < k → 0 < getD table (slotAt (length table) (firstSlot (length table) b) i) 0
-  pub other : (i : ℕ) → i < k → samePair b (report (drop (getD table (slotAt (length table) (firstSlot (length table) b) i) 0 - 1) s)) ≡ false
+pub record Searched (key : ℕ) (s slots : List ℕ) (b : Breach) (k : ℕ) : Type 0 where
+  pub passed : (i : ℕ) → i < k → 0 < getD slots (slotAt (length slots) (firstSlot key (length slots) b) i) 0
+  pub other : (i : ℕ) → i < k → samePair b (report (drop (getD slots (slotAt (length slots) (firstSlot key (length slots) b) i) 0 - 1) s)) ≡ false
 
-pub searched-none : (s table : List ℕ) (b : Breach) → Searched s table b 0
-searched-none s table b = record { passed = λ i h. absurd (omega arith); other = λ i h. absurd (omega arith) }
+pub searched-none : (key : ℕ) (s slots : List ℕ) (b : Breach) → Searched key s slots b 0
+searched-none key s slots b = record { passed = λ i h. absurd (omega arith); other = λ i h. absurd (omega arith) }
 
 -- the slot of the next step
-module _ (s table : List ℕ) (b : Breach) (k entry : ℕ) (before : Searched s table b k) (at : ℕ) (is : at ≡ slotAt (length table) (firstSlot (length table) b) k) (here : entry ≡ getD table at 0) where
-  pub searched-more : (entry ≡ 0 → ⊥) → samePair b (report (drop (entry - 1) s)) ≡ false → Searched s table b (k + 1)
+module _ (key : ℕ) (s slots : List ℕ) (b : Breach) (k entry : ℕ) (before : Searched key s slots b k) (at : ℕ) (is : at ≡ slotAt (length slots) (firstSlot key (length slots) b) k) (here : entry ≡ getD slots at 0) where
+  pub searched-more : (entry ≡ 0 → ⊥) → samePair b (report (drop (entry - 1) s)) ≡ false → Searched key s slots b (k + 1)
   searched-more full unlike = record {
-    passed = λ i h. below-more (λ n. 0 < getD table (slotAt (length table) (firstSlot (length table) b) n) 0) k (before .passed) (rw (← is, ← here) (omega arith)) i h;
-    other = λ i h. below-more (λ n. samePair b (report (drop (getD table (slotAt (length table) (firstSlot (length table) b) n) 0 - 1) s)) ≡ false) k (before .other) (rw (← is, ← here) unlike) i h;
+    passed = λ i h. below-more (λ n. 0 < getD slots (slotAt (length slots) (firstSlot key (length slots) b) n) 0) k (before .passed) (rw (← is, ← here) (omega arith)) i h;
+    other = λ i h. below-more (λ n. samePair b (report (drop (getD slots (slotAt (length slots) (firstSlot key (length slots) b) n) 0 - 1) s)) ≡ false) k (before .other) (rw (← is, ← here) unlike) i h;
   }
 
 -- pairs that are alike are looked for from the same slot
-same-first : (m : ℕ) (a b : Breach) → samePair a b ≡ true → firstSlot m b ≡ firstSlot m a
-same-first m a b h =
+same-first : (key m : ℕ) (a b : Breach) → samePair a b ≡ true → firstSlot key m b ≡ firstSlot key m a
+same-first key m a b h =
     let starts : a .start ≡ b .start = eqb-true (a .start) (b .start) (and-left (eqb (a .start) (b .start)) (same (a .message) (b .message)) h) in
     let messages : a .message ≡ b .message = same-eq (a .message) (b .message) (and-right (eqb (a .start) (b .start)) (same (a .message) (b .message)) h) in
     rw (starts, messages)
 
-module _ (sink : Sink) (p : Sound sink) (table : List ℕ) (tabled : Tabled (held sink) table) (b : Breach) where
+module _ (sink : Sink) (p : Sound sink) (key : ℕ) (slots : List ℕ) (tabled : Tabled key (held sink) slots) (b : Breach) where
   -- an entry's report, and that it is whole
-  pub entry-whole : (j : ℕ) → 0 < getD table j 0 → (getD table j 0 - 1) + 10 + longAt (sink .bytes) (getD table j 0 - 1) ≤ length (sink .bytes)
+  pub entry-whole : (j : ℕ) → 0 < getD slots j 0 → (getD slots j 0 - 1) + 10 + longAt (sink .bytes) (getD slots j 0 - 1) ≤ length (sink .bytes)
   entry-whole j h =
       let e = tabled .entries j h in
-      let at : getD table j 0 - 1 ≡ size (e .before) = omega (arith, e .place) in
+      let at : getD slots j 0 - 1 ≡ size (e .before) = omega (arith, e .place) in
       rw at (report-whole sink p (e .before) (e .here) (e .after) (e .split))
 
-  pub entry-seen : (j : ℕ) → 0 < getD table j 0 → samePair b (report (drop (getD table j 0 - 1) (sink .bytes))) ≡ true → anyOf (samePair b) (held sink) ≡ true
+  pub entry-seen : (j : ℕ) → 0 < getD slots j 0 → samePair b (report (drop (getD slots j 0 - 1) (sink .bytes))) ≡ true → anyOf (samePair b) (held sink) ≡ true
   entry-seen j h q =
       let e = tabled .entries j h in
-      let at : getD table j 0 - 1 ≡ size (e .before) = omega (arith, e .place) in
+      let at : getD slots j 0 - 1 ≡ size (e .before) = omega (arith, e .place) in
       any-there (samePair b) (held sink) (e .before) (e .here) (e .after) (e .split) (rw (at, report-at sink p (e .before) (e .here) (e .after) (e .split)) at q)
 
   -- a free slot after k steps: none of the reports is the pair
-  module _ (k : ℕ) (searched : Searched (sink .bytes) table b k) (free : getD table (slotAt (length table) (firstSlot (length table) b) k) 0 ≡ 0) where
+  module _ (k : ℕ) (searched : Searched key (sink .bytes) slots b k) (free : getD slots (slotAt (length slots) (firstSlot key (length slots) b) k) 0 ≡ 0) where
     -- a report that is the pair would have been met: before, at, or behind the free slot
     module _ (before : List Breach) (c : Breach) (after : List Breach) (e : held sink ≡ before ++ (c ∷ after)) (q : samePair b c ≡ true) where
-      its-slot : Met table (firstSlot (length table) b) (size before + 1)
-      its-slot = subst (λ f. Met table f (size before + 1)) (same-first (length table) b c q) (tabled .met before c after e)
+      its-slot : Met slots (firstSlot key (length slots) b) (size before + 1)
+      its-slot = subst (λ f. Met slots f (size before + 1)) (same-first key (length slots) b c q) (tabled .met before c after e)
 
       met-before : its-slot .steps < k → ⊥
       met-before l =
-          let at : getD table (slotAt (length table) (firstSlot (length table) b) (its-slot .steps)) 0 - 1 ≡ size before = omega (arith, its-slot .here) in
+          let at : getD slots (slotAt (length slots) (firstSlot key (length slots) b) (its-slot .steps)) 0 - 1 ≡ size before = omega (arith, its-slot .here) in
           let other : samePair b c ≡ false = rw (at, report-at sink p before c after e) at (searched .other (its-slot .steps) l) in
           true≢false (sym q ∙ other)
 
       met-behind : k ≤ its-slot .steps → ⊥
-      met-behind l = ⊎-elim (λ same. omega (arith, its-slot .here, free, ap (λ n. getD table (slotAt (length table) (firstSlot (length table) b) n) 0) same)) (λ less. omega (arith, its-slot .passed k less)) (eq-or-lt-of-le l)
+      met-behind l = ⊎-elim (λ same. omega (arith, its-slot .here, free, ap (λ n. getD slots (slotAt (length slots) (firstSlot key (length slots) b) n) 0) same)) (λ less. omega (arith, its-slot .passed k less)) (eq-or-lt-of-le l)
 
       not-met : ⊥
       not-met = go (ltb (its-slot .steps) k) refl
@@ -197,12 +198,12 @@ module _ (sink : Sink) (p : Sound sink) (table : List ℕ) (tabled : Tabled (hel
         go before c after e true q = absurd (not-met before c after e q)
         go before c after e false q = q
 
-  -- and one is free while the table has fewer reports than slots
-  pub some-free : (k : ℕ) → length table ≤ k → Searched (sink .bytes) table b k → length (held sink) < length table → ⊥
+  -- and one is free while there are fewer reports than slots
+  pub some-free : (k : ℕ) → length slots ≤ k → Searched key (sink .bytes) slots b k → length (held sink) < length slots → ⊥
   some-free k over searched fewer =
-      let m : ℕ = length table in
-      let within = first-within m b (omega arith) in
-      let all = all-taken table (λ j l. subst (λ n. 0 < getD table n 0) (away-slot m (firstSlot m b) within j l) (searched .passed (away m (firstSlot m b) within j) (omega (arith, away-within m (firstSlot m b) within j l)))) in
+      let m : ℕ = length slots in
+      let within = first-within key m b (omega arith) in
+      let all = all-taken slots (λ j l. subst (λ n. 0 < getD slots n 0) (away-slot m (firstSlot key m b) within j l) (searched .passed (away m (firstSlot key m b) within j) (omega (arith, away-within m (firstSlot key m b) within j l)))) in
       omega (arith, all, tabled .number)
 
 -- ---- one report more
@@ -226,20 +227,20 @@ module _ (x : Breach) where
       let tails : xs ++ (x ∷ []) ≡ before ++ (b ∷ after) = cc in
       subst (λ d. Part (y ∷ xs) (d ∷ before) b) heads (part-under y (part-of-snoc xs before b after tails))
 
--- an entry of the table stays where a free slot is taken
-module _ (table : List ℕ) (j e : ℕ) (h : j < length table) (free : getD table j 0 ≡ 0) (p : 0 < e) where
-  kept : (i : ℕ) → 0 < getD table i 0 → getD (set table j e) i 0 ≡ getD table i 0
-  kept i l = getD-set-other table j i e 0 (λ q. omega (arith, ap (λ n. getD table n 0) q, free))
+-- an entry stays in its slot where a free slot is taken
+module _ (slots : List ℕ) (j e : ℕ) (h : j < length slots) (free : getD slots j 0 ≡ 0) (p : 0 < e) where
+  kept : (i : ℕ) → 0 < getD slots i 0 → getD (set slots j e) i 0 ≡ getD slots i 0
+  kept i l = getD-set-other slots j i e 0 (λ q. omega (arith, ap (λ n. getD slots n 0) q, free))
 
-  still : (i : ℕ) → 0 < getD table i 0 → 0 < getD (set table j e) i 0
+  still : (i : ℕ) → 0 < getD slots i 0 → 0 < getD (set slots j e) i 0
   still i l = rw (kept i l) l
 
-  met-still : (first entry : ℕ) → 0 < entry → Met table first entry → Met (set table j e) first entry
+  met-still : (first entry : ℕ) → 0 < entry → Met slots first entry → Met (set slots j e) first entry
   met-still first entry some m = record {
     steps = m .steps;
     within = rw length-set (m .within);
-    here = rw length-set (kept (slotAt (length table) first (m .steps)) (rw (m .here) some) ∙ m .here);
-    passed = λ k l. rw length-set (still (slotAt (length table) first k) (m .passed k l));
+    here = rw length-set (kept (slotAt (length slots) first (m .steps)) (rw (m .here) some) ∙ m .here);
+    passed = λ k l. rw length-set (still (slotAt (length slots) first k) (m .passed k l));
   }
 
 -- the entry of one of the reports is that of one of more
@@ -253,58 +254,73 @@ entry-more bs b x = record {
 }
 
 -- the slot that a search gave takes the report
-module _ (bs : List Breach) (table : List ℕ) (tabled : Tabled bs table) (b : Breach) (j : ℕ) (slot : FreeFor bs table (record { start = b .start; end = 0; message = b .message }) j) where
+module _ (key : ℕ) (bs : List Breach) (slots : List ℕ) (tabled : Tabled key bs slots) (b : Breach) (j : ℕ) (slot : FreeFor key bs slots (record { start = b .start; end = 0; message = b .message }) j) where
   abbrev entry : ℕ
   entry = size bs + 1
 
-  slot-inside : j < length table
-  slot-inside = rw (slot .is) (slot-within (length table) (firstSlot (length table) b) (first-within (length table) b (omega (arith, slot .within))) (slot .steps) (slot .within))
+  slot-inside : j < length slots
+  slot-inside = rw (slot .is) (slot-within (length slots) (firstSlot key (length slots) b) (first-within key (length slots) b (omega (arith, slot .within))) (slot .steps) (slot .within))
 
-  here-now : getD (set table j entry) j 0 ≡ entry
-  here-now = getD-set-same table j entry 0 slot-inside
+  here-now : getD (set slots j entry) j 0 ≡ entry
+  here-now = getD-set-same slots j entry 0 slot-inside
 
-  met-new : Met (set table j entry) (firstSlot (length (set table j entry)) b) entry
+  met-new : Met (set slots j entry) (firstSlot key (length (set slots j entry)) b) entry
   met-new = record {
     steps = slot .steps;
     within = rw length-set (slot .within);
     here = rw (length-set, ← slot .is) here-now;
-    passed = λ k l. rw length-set (still table j entry slot-inside (slot .free) (omega arith) (slotAt (length table) (firstSlot (length table) b) k) (slot .passed k l));
+    passed = λ k l. rw length-set (still slots j entry slot-inside (slot .free) (omega arith) (slotAt (length slots) (firstSlot key (length slots) b) k) (slot .passed k l));
   }
 
-  met-all : (before : List Breach) (c : Breach) → Part b bs before c → Met (set table j entry) (firstSlot (length (set table j entry)) c) (size before + 1)
+  met-all : (before : List Breach) (c : Breach) → Part b bs before c → Met (set slots j entry) (firstSlot key (length (set slots j entry)) c) (size before + 1)
   met-all before c (last e q) = rw (e, q) met-new
-  met-all before c (within rest e) = rw length-set (met-still table j entry slot-inside (slot .free) (omega arith) (firstSlot (length table) c) (size before + 1) (omega arith) (tabled .met before c rest e))
+  met-all before c (within rest e) = rw length-set (met-still slots j entry slot-inside (slot .free) (omega arith) (firstSlot key (length slots) c) (size before + 1) (omega arith) (tabled .met before c rest e))
 
-  entries-all : (i : ℕ) → 0 < getD (set table j entry) i 0 → EntryOf (bs ++ (b ∷ [])) (getD (set table j entry) i 0)
+  entries-all : (i : ℕ) → 0 < getD (set slots j entry) i 0 → EntryOf (bs ++ (b ∷ [])) (getD (set slots j entry) i 0)
   entries-all i l = go (eqb i j) refl
     where
-      go : (t : Bool) → eqb i j ≡ t → EntryOf (bs ++ (b ∷ [])) (getD (set table j entry) i 0)
+      go : (t : Bool) → eqb i j ≡ t → EntryOf (bs ++ (b ∷ [])) (getD (set slots j entry) i 0)
       go true e = rw (eqb-true i j e, here-now) (record { before = bs; here = b; after = []; split = refl; place = refl })
       go false e =
-          let other : getD (set table j entry) i 0 ≡ getD table i 0 = getD-set-other table j i entry 0 (eqb-false i j e) in
+          let other : getD (set slots j entry) i 0 ≡ getD slots i 0 = getD-set-other slots j i entry 0 (eqb-false i j e) in
           rw other (entry-more bs b (tabled .entries i (rw other at l)))
 
-  pub tabled-more : Tabled (bs ++ (b ∷ [])) (set table j entry)
+  pub tabled-more : Tabled key (bs ++ (b ∷ [])) (set slots j entry)
   tabled-more = record {
-    number = taken-set table j entry slot-inside (slot .free) (omega arith) ∙ rw (tabled .number) (sym (length-append bs (b ∷ [])));
+    number = taken-set slots j entry slot-inside (slot .free) (omega arith) ∙ rw (tabled .number) (sym (length-append bs (b ∷ [])));
     entries = entries-all;
     met = λ before c after e. met-all before c (part-of-snoc b bs before c after e);
   }
 
--- no report is in a table of free slots
-pub taken-none : (table : List ℕ) → Empty table → taken table ≡ 0
+-- no report is in slots that are all free
+pub taken-none : (slots : List ℕ) → ((j : ℕ) → getD slots j 0 ≡ 0) → taken slots ≡ 0
 unfolding taken
 taken-none [] h = refl
 taken-none (e ∷ es) h = rw (eq-eqb e 0 (h 0)) (taken-none es (λ j. h (suc j)))
 
-pub tabled-none : (table : List ℕ) → Empty table → Tabled [] table
-tabled-none table free = record {
-  number = taken-none table free;
+pub tabled-none : (key : ℕ) (slots : List ℕ) → ((j : ℕ) → getD slots j 0 ≡ 0) → Tabled key [] slots
+tabled-none key slots free = record {
+  number = taken-none slots free;
   entries = λ j l. absurd (omega (arith, free j));
   met = λ before b after e. absurd (omega (arith, simp length-append at (ap length e)));
 }
 
 -- ---- a buffer and its table
+
+-- an entry behind the key is a slot: reading it, and setting it, which leaves the key
+pub slot-entry : (table : List ℕ) (j : ℕ) → getD (slotsOf table) j 0 ≡ getD table (j + 1) 0
+slot-entry table j = getD-drop 1 table j 0 ∙ ap (λ n. getD table n 0) (add-comm 1 j)
+
+pub slots-length : (table : List ℕ) → length (slotsOf table) ≡ length table - 1
+slots-length table = length-drop 1 table
+
+pub key-set : (table : List ℕ) (j e : ℕ) → keyOf (set table (j + 1) e) ≡ keyOf table
+key-set [] j e = refl
+key-set (x ∷ xs) j e = rw add-one
+
+pub slots-set : (table : List ℕ) (j e : ℕ) → slotsOf (set table (j + 1) e) ≡ set (slotsOf table) j e
+slots-set [] j e = refl
+slots-set (x ∷ xs) j e = rw add-one
 
 module _ (s : Sink) (p : Sound s) where
   held-count : length (held s) ≡ s .state .count
@@ -349,7 +365,7 @@ module _ (s : Sink) (p : Sound s) where
 -- the table at the start of a run
 pub filed-start : (old table : List ℕ) → Empty table → Filed (start old) table
 unfolding reports
-filed-start old table free = record { tabled = λ few short. tabled-none table free }
+filed-start old table free = record { tabled = λ few short. tabled-none (keyOf table) (slotsOf table) free }
 
 -- the code's answer t, whether the table is of use: it takes one more, and every place fits a slot
 module _ (s : List ℕ) (st : State) (table : List ℕ) (p : Sound (sink s st)) (filed : Filed (sink s st) table) where
@@ -357,32 +373,34 @@ module _ (s : List ℕ) (st : State) (table : List ℕ) (p : Sound (sink s st)) 
   before = sink s st
 
   module _ {t : Bool} (is : t ≡ isOpen before table) where
-    few-open : t ≡ true → st .count < room (length table)
-    few-open e = ltb-true (st .count) (room (length table)) (and-left (ltb (st .count) (room (length table))) (ltb (length s) 4294967295) (sym is ∙ e))
+    few-open : t ≡ true → st .count < room (length (slotsOf table))
+    few-open e = ltb-true (st .count) (room (length (slotsOf table))) (and-left (ltb (st .count) (room (length (slotsOf table)))) (ltb (length s) 4294967295) (sym is ∙ e))
 
     open-short : t ≡ true → length s < 4294967295
-    open-short e = ltb-true (length s) 4294967295 (and-right (ltb (st .count) (room (length table))) (ltb (length s) 4294967295) (sym is ∙ e))
+    open-short e = ltb-true (length s) 4294967295 (and-right (ltb (st .count) (room (length (slotsOf table)))) (ltb (length s) 4294967295) (sym is ∙ e))
 
-    pub open-tabled : t ≡ true → Tabled (held before) table
+    pub open-tabled : t ≡ true → Tabled (keyOf table) (held before) (slotsOf table)
     open-tabled e = filed .tabled (omega (arith, few-open e, held-count before p)) (open-short e)
 
     -- the slot that was found, and the place that is put into it
-    pub free-within : t ≡ true → (b : Breach) (j : ℕ) → FreeFor (held before) table b j → j < length table
+    pub free-within : t ≡ true → (b : Breach) (j : ℕ) → FreeFor (keyOf table) (held before) (slotsOf table) b j → j + 1 < length table
     free-within e b j slot =
-        rw (slot .is) (slot-within (length table) (firstSlot (length table) b) (first-within (length table) b (omega (arith, slot .within))) (slot .steps) (slot .within))
+        let inside : j < length (slotsOf table) = rw (slot .is) (slot-within (length (slotsOf table)) (firstSlot (keyOf table) (length (slotsOf table)) b) (first-within (keyOf table) (length (slotsOf table)) b (omega (arith, slot .within))) (slot .steps) (slot .within)) in
+        omega (arith, slots-length table)
 
     pub place-fits : t ≡ true → st .used < 4294967295
     place-fits e = omega (arith, open-short e, p .within)
 
-    pub open-room : t ≡ true → length (held before) < length table
+    pub open-room : t ≡ true → length (held before) < length (slotsOf table)
     open-room e = omega (arith, few-open e, held-count before p)
 
   -- a report that the search did not find
   module _ (b : Breach) {after : Sink} (is : after ≡ append before b) where
-    pub filed-more : Tabled (held before) table → (j : ℕ) → FreeFor (held before) table (record { start = b .start; end = 0; message = b .message }) j
-        → after .state .full ≡ false → (table′ : List ℕ) → table′ ≡ set table j (st .used + 1) → Filed after table′
+    pub filed-more : Tabled (keyOf table) (held before) (slotsOf table) → (j : ℕ) → FreeFor (keyOf table) (held before) (slotsOf table) (record { start = b .start; end = 0; message = b .message }) j
+        → after .state .full ≡ false → (table′ : List ℕ) → table′ ≡ set table (j + 1) (st .used + 1) → Filed after table′
     filed-more tabled j slot kept′ table′ e = record {
-      tabled = λ few short. rw (is, held-more before p b (ap (λ (x : Sink). x .state .full) (sym is) ∙ kept′), e, held-used before p) (tabled-more (held before) table tabled b j slot);
+      tabled = λ few short.
+          rw (is, held-more before p b (ap (λ (x : Sink). x .state .full) (sym is) ∙ kept′), e, key-set, slots-set, held-used before p) (tabled-more (keyOf table) (held before) (slotsOf table) tabled b j slot);
     }
 
     pub filed-still : after .state .full ≡ true → Filed after table
@@ -403,18 +421,22 @@ module _ (s : List ℕ) (st : State) (table : List ℕ) (p : Sound (sink s st)) 
           tabled = λ few short.
               let more : held after ≡ held before ++ (b ∷ []) = ap held is ∙ held-more before p b (ap (λ (x : Sink). x .state .full) (sym is) ∙ f) in
               let long : length (after .bytes) ≡ length s = ap (λ (x : Sink). length (x .bytes)) is ∙ append-length before p b in
-              let fewer : st .count < room (length table) = omega (arith, simp length-append at (rw more at few), held-count before p) in
+              let fewer : st .count < room (length (slotsOf table)) = omega (arith, simp length-append at (rw more at few), held-count before p) in
               let shorter : length s < 4294967295 = omega arith in
-              absurd (true≢false (sym (known ∙ rw (lt-ltb (st .count) (room (length table)) fewer, lt-ltb (length s) 4294967295 shorter)) ∙ e));
+              absurd (true≢false (sym (known ∙ rw (lt-ltb (st .count) (room (length (slotsOf table))) fewer, lt-ltb (length s) 4294967295 shorter)) ∙ e));
         }
 
 -- ---- what is lent, from call to call
 
 -- a table of nothing but zeros, and what is lent to the first call of a run
+zeros-free : (n j : ℕ) → getD {A = ℕ} (replicate n 0) j 0 ≡ 0
+zeros-free zero j = refl
+zeros-free (suc n) zero = refl
+zeros-free (suc n) (suc j) = zeros-free n j
+
 pub zeros-empty : (n : ℕ) → Empty (replicate n 0)
 zeros-empty zero j = refl
-zeros-empty (suc n) zero = refl
-zeros-empty (suc n) (suc j) = zeros-empty n j
+zeros-empty (suc n) j = zeros-free n j
 
 pub lent-start : (old table : List ℕ) → Empty table → Lent (start old) table
 lent-start old table free = record { sound = sound-start old; filed = filed-start old table free }

@@ -25,7 +25,7 @@ module _ (s : List ℕ) (st : State) (table : List ℕ) (start end : ℕ) (messa
     stopped-filed : after .state .full ≡ true → Filed after table
     stopped-filed = filed-still s st table p (free .filed) b added
 
-    more-filed : after .state .full ≡ false → (table′ : List ℕ) → table′ ≡ set table at (st .used + 1) → Filed after table′
+    more-filed : after .state .full ≡ false → (table′ : List ℕ) → table′ ≡ set table (at + 1) (st .used + 1) → Filed after table′
     more-filed = filed-more s st table p (free .filed) b added (free .tabled) at (free .slot)
 
 ruleset steps = (needs, pushed, stopped-filed, more-filed)

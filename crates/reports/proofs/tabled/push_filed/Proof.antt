@@ -11,7 +11,7 @@ use Rattle.reports.specs.declared.Slot.the-variants.{Seen, Free}
 use Rattle.reports.specs.Reports.{Breach}
 use Rattle.reports.specs.Sink.{sink, held, push, Sound}
 use Rattle.reports.specs.Laws.Sinks.{push-old}
-use Rattle.reports.specs.Slots.{Tabled, FreeFor, Finds, isOpen, Filed, FreeIn}
+use Rattle.reports.specs.Slots.{keyOf, slotsOf, Tabled, FreeFor, Finds, isOpen, Filed, FreeIn}
 use Rattle.reports.specs.Laws.Slots.{open-tabled, open-room, free-within, place-fits}
 use Rattle.reports.proofs.tabled.push_filed.Statement.{statement}
 use Rattle.reports.proofs.tabled.push_filed.Tie as tie
@@ -23,19 +23,19 @@ module _ (s : List ℕ) (st : State) (table : List ℕ) (start end : ℕ) (messa
   abbrev pair : Breach
   pair = record { start = start; end = 0; message = message }
 
-  tabled : Tabled (held (sink s st)) table
+  tabled : Tabled (keyOf table) (held (sink s st)) (slotsOf table)
   tabled = open-tabled s st table p filed (sym is) refl
 
-  more : length (held (sink s st)) < length table
+  more : length (held (sink s st)) < length (slotsOf table)
   more = open-room s st table p filed (sym is) refl
 
-  module _ (slot : Slot) (finds : Finds (held (sink s st)) table pair slot) where
+  module _ (slot : Slot) (finds : Finds (keyOf table) (held (sink s st)) (slotsOf table) pair slot) where
     repeated : slot ≡ Seen → sink s st ≡ push (sink s st) b
     repeated e = push-old s st b {t = true} (sym (rw e at finds)) refl
 
     free : (at : ℕ) → slot ≡ Free at → FreeIn s st table start message at
     free at e =
-        let here : FreeFor (held (sink s st)) table pair at = rw e at finds in
+        let here : FreeFor (keyOf table) (held (sink s st)) (slotsOf table) pair at = rw e at finds in
         record { filed = filed; tabled = tabled; slot = here; inside = free-within s st table p filed (sym is) refl pair at here; place = place-fits s st table p filed (sym is) refl }
 
 ruleset steps = (needs, tabled, more, repeated, free)
