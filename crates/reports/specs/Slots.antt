@@ -30,9 +30,14 @@ slotsOf table = drop 1 table
 abbrev pub multiplier : ℕ → ℕ
 multiplier key = (key * 2 + 2654435761) % 4294967296
 
+-- The middle of a product of two numbers of 32 bits. Its low bits would not do: they are those of the factors' low bits alone, and since the square of an
+-- odd number is 1 modulo 8, names whose letters differ in case at the right places would share a number under every key.
+abbrev pub middle : ℕ → ℕ → ℕ
+middle a b = a * b / 65536 % 4294967296
+
 -- a number made of a message's bytes, four at a time, and of those that are left: the table asks nothing of it but that it is a function
 abbrev pub mixed : ℕ → ℕ → ℕ → ℕ
-mixed by h n = (h * by + n) % 4294967296
+mixed by h n = middle ((h + n) % 4294967296) by
 
 unfoldable pub mixedBytes : ℕ → ℕ → List ℕ → ℕ
 mixedBytes by h [] = h
@@ -45,9 +50,9 @@ mixedWords by (suc n) h s = mixedWords by n (mixed by h (number 0 (take 4 s))) (
 unfoldable pub hashedMessage : ℕ → List ℕ → ℕ
 hashedMessage by message = mixedWords by (length message / 4) 0 message
 
--- the middle of a square, so that the distance of two starts says nothing of that of their slots
+-- the number of a pair, squared at the end, so that the distance of two starts says nothing of that of their slots
 abbrev pub squared : ℕ → ℕ
-squared n = n * n / 65536 % 4294967296
+squared n = middle n n
 
 unfoldable pub hashed : ℕ → ℕ → List ℕ → ℕ
 hashed key start message = squared (mixed (multiplier key) (hashedMessage (multiplier key) message) start)

@@ -9,7 +9,7 @@ ghost use mathlib.Core.Path.{_≡_};
 ghost use Prim.Native.Nat.{_+_, _*_, _<_, _≤_};
 ghost use lib.ListN.{length, getD, set, drop};
 ghost use Rattle.reports.specs.Sink.{sink, Sound, held};
-ghost use Rattle.reports.specs.Slots.{keyOf, slotsOf, multiplier, mixed, mixedBytes, hashedMessage, squared, hashed, slotAt, Tabled, Finds, isOpen, Empty};
+ghost use Rattle.reports.specs.Slots.{keyOf, slotsOf, multiplier, middle, mixed, mixedBytes, hashedMessage, hashed, slotAt, Tabled, Finds, isOpen, Empty};
 
 fn from_u32(n: u32) -> usize
     ensures { λ r. ⌜ r ≡ n ⌝ }
@@ -26,13 +26,22 @@ fn multiplier_of(key: u32) -> usize
     (from_u32(key) * 2 + 2654435761) % 4294967296
 }
 
+// The middle of a product.
+fn middle(a: usize, b: usize) -> usize
+    requires { ⌜ (a < 4294967296) × (b < 4294967296) ⌝ }
+    ensures { λ r. ⌜ r ≡ middle a b ⌝ }
+    ensures { λ r. ⌜ r < 4294967296 ⌝ }
+{
+    a * b / 65536 % 4294967296
+}
+
 // One number more in a hash.
 fn mix(by: usize, h: usize, n: usize) -> usize
     requires { ⌜ (by < 4294967296) × (h < 4294967296) × (n < 4294967296) ⌝ }
     ensures { λ r. ⌜ r ≡ mixed by h n ⌝ }
     ensures { λ r. ⌜ r < 4294967296 ⌝ }
 {
-    (h * by + n) % 4294967296
+    middle((h + n) % 4294967296, by)
 }
 
 // The bytes of a message from a place on.
@@ -67,21 +76,13 @@ fn hash_message(by: usize, message: &[u8]) -> usize
     mix_bytes(by, mixed, message, at)
 }
 
-// The middle of a number's square.
-fn square(n: usize) -> usize
-    requires { ⌜ n < 4294967296 ⌝ }
-    ensures { λ r. ⌜ r ≡ squared n ⌝ }
-{
-    n * n / 65536 % 4294967296
-}
-
-// The number of a start and a message. Without the square it would be a sum of what the two are mixed to, and a rule's writer could choose starts that
-// share a slot under every message.
+// The number of a start and a message. Without the square the starts' slots would stand about as far from each other under one message as under another.
 fn hash(key: u32, start: u32, message: &[u8]) -> usize
     ensures { λ r. ⌜ r ≡ hashed key start (now (message .entry)) ⌝ }
 {
     let by = multiplier_of(key);
-    square(mix(by, hash_message(by, message), from_u32(start)))
+    let mixed = mix(by, hash_message(by, message), from_u32(start));
+    middle(mixed, mixed)
 }
 
 // How many slots a table has: its entries behind the key.
