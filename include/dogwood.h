@@ -37,9 +37,10 @@ extern "C" {
 
 /*
  * Slots of workspace (32 bits each) with which dogwood_check_with is linear in the reports of a buffer of so many bytes,
- * whatever they are: a report has at least 51 bytes, and four slots serve three of them. It can size an array.
+ * whatever they are: a report has at least 51 bytes, four slots serve three of them, and the first is the key. It can size
+ * an array.
  */
-#define DOGWOOD_WORKSPACE(bytes) ((bytes) / 38 + 1)
+#define DOGWOOD_WORKSPACE(bytes) ((bytes) / 38 + 2)
 
 /* Why there is no answer. The numbers 1 to 10 are met while a record is read, the first one from the left counts. */
 enum dogwood_cause {
@@ -107,12 +108,14 @@ struct dogwood_answer dogwood_check(const uint8_t *schema, size_t schema_length,
  * The same check with lent workspace, in which repeated reports are found: the same answer and the same bytes in the buffer
  * as dogwood_check gives, for every workspace. It may have any number of slots, none too, and hold anything.
  *
- * Time is linear in the number of reports as long as there are fewer than three reports for every four slots, of which
- * DOGWOOD_WORKSPACE(reports_length) are always enough, and the buffer is shorter than 4,294,967,295 bytes. Further reports
- * are compared with all that were found before. dogwood_check has 2,048 slots of its own on the stack, which serve 1,536
- * reports: a buffer of up to 78,335 bytes needs no workspace. The slot of a report is chosen by a hash that anyone can
- * compute: a request whose spans and names are made so that its reports fall on the same slots takes as long as one without
- * workspace (docs/BENCHMARKS.md).
+ * Time is linear in the number of reports as long as there are fewer than three reports for every four slots behind the
+ * first, for which DOGWOOD_WORKSPACE(reports_length) are always enough, and the buffer is shorter than 4,294,967,295 bytes.
+ * Further reports are compared with all that were found before. dogwood_check has 2,048 slots of its own on the stack, which
+ * serve 1,536 reports: a buffer of up to 78,335 bytes needs no workspace.
+ * The slot of a report is chosen by a hash, and the first slot is its key. Whoever knows the key can make a request whose
+ * reports fall on the same slots, which then takes as long as one without workspace (docs/BENCHMARKS.md). A caller who
+ * takes requests from strangers puts a random number into the first slot before each call. The answer is the same for every
+ * key. The key of dogwood_check's own slots is 0.
  * Number 1 to 10 leaves the workspace as it was. Otherwise its contents afterwards mean nothing. It need not be cleared
  * before a call; a call clears it, so that more slots than are needed cost time.
  * `rules` is for what callers will choose. No bit of it has a meaning yet, and a bit without one has no effect: pass 0.
