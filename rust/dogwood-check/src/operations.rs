@@ -1,5 +1,8 @@
 //! The library's operations: in a lent buffer, and with space of their own.
 
+use std::collections::hash_map::RandomState;
+use std::hash::{BuildHasher, Hasher};
+
 use crate::{ffi, Answer, Cause, Findings, Refusal, Reports, Rules, ScopePath};
 
 /// The space that [`check`], [`sums`] and [`lookup`] begin with: 64 KiB, which hold hundreds of reports.
@@ -54,8 +57,8 @@ pub fn read_path(bytes: &[u8]) -> Result<(), Cause> {
 /// Without refusal the buffer begins with [`count`](Answer::count) reports, which [`Reports`] decodes. After
 /// [`Cause::NoSpace`] it begins with the `count` reports before the first that does not fit. After any other refusal,
 /// and behind the reports, the buffer is as it was. Where the records and the buffer have room for more than 1,535
-/// reports, workspace is allocated as [`workspace_for`] says, so that time is linear in the reports; [`check_with`]
-/// allocates nothing.
+/// reports, workspace is allocated as [`workspace_for`] says, with a random key, so that time is linear in the reports;
+/// [`check_with`] allocates nothing.
 ///
 /// ```
 /// use dogwood_check::{check_into, Reports};
@@ -77,6 +80,7 @@ pub fn check_into(schema: &[u8], condition: &[u8], targets: &[u8], reports: &mut
         return Answer::new(ffi::check(schema, condition, targets, reports));
     }
     let mut workspace = vec![0; slots_for(most)];
+    workspace[0] = random_key();
     check_with(Rules::plain(), schema, condition, targets, reports, &mut workspace)
 }
 
@@ -84,7 +88,11 @@ pub fn check_into(schema: &[u8], condition: &[u8], targets: &[u8], reports: &mut
 ///
 /// The answer and the buffer are the same for every workspace: it may have any number of slots and hold anything.
 /// [`workspace_for`] says how many slots make time linear in the reports; with fewer, further reports are compared with
-/// all before them, and so they are in a request that was made against the hash which chooses the slots. Where a record is refused the workspace is as it was, else its contents mean nothing afterwards.
+/// all before them. Where a record is refused the workspace is as it was, else its contents mean nothing afterwards.
+///
+/// The first slot is the key of the hash that chooses the slots. Whoever knows the key can make a request in which the
+/// reports are compared with all before them after all. Where requests come from strangers, put a random number there
+/// before each call, as [`check_into`] does.
 ///
 /// ```
 /// use dogwood_check::{check_with, workspace_for, Reports, Rules};
@@ -116,15 +124,22 @@ pub fn check_with(
 /// records are.
 ///
 /// ```
-/// assert_eq!(dogwood_check::workspace_for(1 << 20), 27_414);
+/// assert_eq!(dogwood_check::workspace_for(1 << 20), 27_415);
 /// ```
 pub fn workspace_for(space: usize) -> usize {
     slots_for(space / LEAST_REPORT)
 }
 
-/// Slots for so many reports: a table takes three for every four slots, and has to have one place left.
+/// Slots for so many reports: the key, and behind it a table that takes three for every four slots, and has to have one
+/// place left.
 fn slots_for(reports: usize) -> usize {
-    reports + reports / 3 + 1
+    1 + reports + reports / 3 + 1
+}
+
+/// A number that nobody who made a request knows: the standard library's hashers have random keys.
+fn random_key() -> u32 {
+    let number = RandomState::new().build_hasher().finish();
+    (number >> 32) as u32
 }
 
 /// No more reports than this come of these records and fit: under each target a report is about a byte of the condition

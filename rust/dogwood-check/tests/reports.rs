@@ -80,6 +80,22 @@ fn any_workspace_gives_the_same() {
     }
 }
 
+/// Whatever stands in the first slot, which is the key of the hash: the same reports, and the repeats among them found.
+#[test]
+fn any_key_gives_the_same() {
+    let condition = joined((0..600).map(|number| wrong_comparison(number % 300 * 10)).collect()).encode().unwrap();
+    let space = 300 * ONE;
+    let mut workspace = vec![0; workspace_for(space)];
+    let (answer, expected, _) = lent(&condition, space, &workspace);
+    assert_eq!(answer, Answer { refusal: None, count: 300 });
+    let mut rng = Rng::new(19);
+    for key in [1, 2, 1 << 31, u32::MAX].into_iter().chain((0..200).map(|_| rng.number32())) {
+        workspace[0] = key;
+        let (other, buffer, _) = lent(&condition, space, &workspace);
+        assert_eq!((other, &buffer), (answer, &expected), "key {key}");
+    }
+}
+
 #[test]
 fn a_refusal_leaves_the_workspace() {
     let workspace = [7; 100];
