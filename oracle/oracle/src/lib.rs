@@ -3,6 +3,7 @@
 //! The reader is written from document 01 (the order that the product is built to) and the readings of its open points,
 //! and from nothing else.
 
+pub mod against;
 pub mod answers;
 pub mod cases;
 pub mod coverage;

@@ -1,6 +1,7 @@
 //! Records for the benchmark: small everyday ones, a condition of 32 KB with 255 targets, a schema of hundreds of names,
 //! deep arrays, very many reports.
 
+use crate::against;
 use crate::cases::{Case, Operation};
 use crate::pieces::*;
 use crate::records::LONGEST;
@@ -43,7 +44,7 @@ fn workload(name: &str, reads: bool, schema: Piece, condition: Piece, targets: P
 
 /// Slots of workspace that are enough for every report of a buffer, as `DOGWOOD_WORKSPACE` of include/dogwood.h has it.
 pub fn workspace_for(space: usize) -> usize {
-    space / 38 + 1
+    space / 38 + 2
 }
 
 pub fn all() -> Vec<Workload> {
@@ -104,6 +105,7 @@ pub fn crowded() -> Vec<Workload> {
         alike("one start, 26 long names, 255 times, in 1 MiB", 26, 1 << 20),
         alike("one start, 10 long names, 255 times, in 64 KiB", 10, 64 << 10),
         three_each("500,310 reports: 654 comparisons, 255 targets", 654, 255, 64 << 20),
+        chosen("136,000 reports, chosen against key 0", 1_360, 100, 32 << 20),
     ]
 }
 
@@ -169,6 +171,19 @@ pub fn differing(name: &str, comparisons: usize, targets: usize, space: usize) -
     let compared = |i: usize| comparison((i as u32, i as u32 + 9), 1, context_field(&["a"]), integer());
     let context = |i: usize| vec![("a", tagged(&format!("T{i:03}")))];
     let condition = condition_record(joined((0..comparisons).map(compared).collect()));
+    let all = (0..targets).map(|i| target("", &format!("{i:03}"))).collect();
+    crowd(name, contexts(targets, context), condition, all, space)
+}
+
+/// The reports of [`differing`] with starts and names for which our table has few first slots under key 0, where the
+/// workspace is that of the buffer.
+pub fn chosen(name: &str, comparisons: usize, targets: usize, space: usize) -> Workload {
+    let front = "comparison requires numeric operands on both sides, got `";
+    let names = against::names(front, 7);
+    let starts = against::starts(&format!("{front}{}` and `int`", names[0]), comparisons, workspace_for(space) - 1);
+    let compared = |start: &u32| comparison((*start, start + 9), 1, context_field(&["a"]), integer());
+    let context = |i: usize| vec![("a", tagged(&names[i]))];
+    let condition = condition_record(joined(starts.iter().map(compared).collect()));
     let all = (0..targets).map(|i| target("", &format!("{i:03}"))).collect();
     crowd(name, contexts(targets, context), condition, all, space)
 }
@@ -410,7 +425,7 @@ mod tests {
     #[test]
     fn crowded_requests_have_the_reports_that_they_say() {
         let all = crowded();
-        for (row, count) in [(0, 136_000), (3, 100), (4, 500_310)] {
+        for (row, count) in [(0, 136_000), (3, 100), (4, 500_310), (5, 136_000)] {
             assert_eq!(reported(&all[row], all[row].space), (0, count));
         }
         assert!(all.iter().all(|w| w.schema.len() + w.condition.len() + w.targets.len() <= 50_000));

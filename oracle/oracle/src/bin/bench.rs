@@ -18,6 +18,8 @@ use oracle::records;
 use oracle::stack;
 use oracle::timing::{shown, time};
 use oracle::workloads::{self, workspace_for, Workload};
+use std::collections::hash_map::RandomState;
+use std::hash::{BuildHasher, Hasher};
 use std::hint::black_box;
 use std::path::Path;
 use std::process::Command;
@@ -118,12 +120,17 @@ fn check(w: &Workload) -> Times {
     Times { alone: Some(alone), with_reading, ours }
 }
 
-/// Our time with workspace lent beside the buffer; none where the library has no such function.
+/// Our time with workspace lent beside the buffer, and a random key in it; none where the library has no such function.
 fn lent(w: &Workload, buffer: &mut [u8]) -> Option<f64> {
     let (s, c, t) = (&w.schema[..], &w.condition[..], &w.targets[..]);
     let mut workspace = vec![0; workspace_for(w.space)];
-    library::check_with(0, [s, c, t], buffer, &mut workspace)?;
-    Some(time(|| used(library::check_with(0, [black_box(s), c, t], buffer, &mut workspace))))
+    let key = RandomState::new().build_hasher().finish() as u32;
+    let mut call = || {
+        workspace[0] = key;
+        library::check_with(0, [black_box(s), c, t], buffer, &mut workspace)
+    };
+    call()?;
+    Some(time(|| used(call())))
 }
 
 fn sums(w: &Workload) -> Times {
