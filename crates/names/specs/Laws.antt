@@ -3,6 +3,7 @@ pub mod Lists
 pub mod Names
 pub mod Joined
 pub mod Fields
+pub mod Words
 pub mod Writers
 pub mod Walks
 pub mod Tables

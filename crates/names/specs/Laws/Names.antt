@@ -1,6 +1,7 @@
 -- Laws of names. Assumes nothing.
 --     same-refl, same-eq, same-lengths     `same` is equality
 --     order-refl, order-same               the order is 1 just at equal strings
+--     same-order, below-order              what `same` and `below` say, by the order
 --     order-flip                           the other way round it is the opposite: it is total
 --     below-trans                          `below` is transitive
 use mathlib.Core.Path.{_≡_, refl, sym, ap, ap₂, _∙_}
@@ -44,12 +45,12 @@ same-eq (a ∷ s) (b ∷ t) h = ap₂ _∷_ (eqb-true a b (and-left (eqb a b) (s
 -- ---- the order
 
 -- one number before the other, the same, or after it
-data Three (x y : ℕ) : Type 0 where
+pub data Three (x y : ℕ) : Type 0 where
   less : x < y → Three x y
   equal : x ≡ y → Three x y
   more : y < x → Three x y
 
-three : (x y : ℕ) → Three x y
+pub three : (x y : ℕ) → Three x y
 three x y = go (ltb x y) (ltb y x) refl refl
   where
     go : (p q : Bool) → ltb x y ≡ p → ltb y x ≡ q → Three x y
@@ -117,6 +118,20 @@ order-same xs ys e = same-eq xs ys (go (below xs ys) (same xs ys) e)
     go true s e = absurd (omega arith)
     go false true e = refl
     go false false e = absurd (omega arith)
+
+-- two strings are the same where their order says so
+pub same-order : (xs ys : List ℕ) → same xs ys ≡ eqb (order xs ys) 1
+unfolding order
+same-order xs ys = go (same xs ys) refl
+  where
+    other : (b s : Bool) → s ≡ false → false ≡ eqb (cond b 0 (cond s 1 2)) 1
+    other true s e = refl
+    other false true e = absurd (false≢true (sym e))
+    other false false e = refl
+
+    go : (t : Bool) → same xs ys ≡ t → same xs ys ≡ eqb (order xs ys) 1
+    go true e = e ∙ rw (same-eq xs ys e) (sym (ap (λ (n : ℕ). eqb n 1) (order-refl ys)))
+    go false e = e ∙ other (below xs ys) (same xs ys) e
 
 pub below-trans : (xs ys zs : List ℕ) → below xs ys ≡ true → below ys zs ≡ true → below xs zs ≡ true
 unfolding below
