@@ -1,6 +1,7 @@
 //! Cases made from a seed: valid records in which rules break and repeats occur, damaged copies, and boundaries.
 
 pub mod boundaries;
+pub mod compared;
 pub mod conditions;
 pub mod damage;
 pub mod large;
@@ -58,6 +59,11 @@ pub fn large_draft(rng: &mut Rng, operation: Operation) -> Draft {
     let mut draft = draft_of(rng, operation, scene);
     draft.size = draft.size_from(rng);
     draft
+}
+
+/// A fresh draft about two names that begin alike, where the operation sees their order or equality.
+pub fn compared_draft(rng: &mut Rng, operation: Operation) -> Draft {
+    compared::draft(rng, operation).unwrap_or_else(|| draft(rng, operation))
 }
 
 fn draft_of(rng: &mut Rng, operation: Operation, scene: Scene) -> Draft {

@@ -3,7 +3,7 @@
 use crate::cases::{self, Case, Operation, Outcome};
 use crate::coverage::Coverage;
 use crate::examples::{bytes, rules};
-use crate::generate::{self, boundaries};
+use crate::generate::{self, boundaries, compared};
 use crate::pieces::Piece;
 use crate::rng::Rng;
 
@@ -125,6 +125,7 @@ fn readers() -> Vec<Case> {
         cases.extend(e.path.map(|path| case(Operation::ReadPath, vec![path], 0)));
     }
     cases.extend(boundaries::all());
+    cases.extend(compared::ordered());
     for (operation, count) in [
         (Operation::ReadSchema, 60),
         (Operation::ReadCondition, 120),
@@ -145,6 +146,7 @@ fn checks() -> Vec<Case> {
         let records = [&e.schema, &e.condition, &e.targets].map(Piece::bytes).to_vec();
         cases.extend(at_three_sizes(Operation::Check, records, &e.reports));
     }
+    cases.extend(compared::equal());
     cases.extend(random(SEED, Operation::Check, 520));
     once(cases)
 }

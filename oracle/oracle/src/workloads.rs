@@ -118,6 +118,36 @@ pub fn searching() -> Vec<Workload> {
     ]
 }
 
+/// Schemas of 32 KB of entity types, for reading alone: long names that begin alike, short names, everyday ones. And one in
+/// which each of many actions is looked for among others whose ids begin as its own does.
+pub fn naming() -> (Vec<Workload>, Workload) {
+    let own = |name: &str, schema: Piece| crowd(name, schema, condition_record(everyday()), vec![], SPACE);
+    let named = |name: &str, word: fn(usize) -> String| {
+        let of = |count: usize| schema((0..count).map(|i| bare(&word(i))).collect(), vec![]);
+        own(name, of(most(LONGEST, of)))
+    };
+    let read = vec![
+        named("names of 254 bytes that share 250", |i| format!("{}{i:04}", "n".repeat(250))),
+        named("names of 5 bytes", |i| format!("n{i:04x}")),
+        named("everyday names", |i| format!("App::Kind{i:04}")),
+    ];
+    (read, long_ids("an action among 120 of ids that share 250 bytes, 120 targets", 120))
+}
+
+/// An entity type without ancestors and attributes.
+fn bare(name: &str) -> Piece {
+    entity_type(name, &NONE, attributes(vec![]))
+}
+
+/// As many targets as actions, each of its own.
+fn long_ids(name: &str, count: usize) -> Workload {
+    let id = |i: usize| format!("{}{i:04}", "v".repeat(250));
+    let own = |i: usize| action("Action", &id(i), &NONE, &NONE, record_type(vec![("a", ty(0, vec![]))]));
+    let compared = comparison((0, 9), 1, context_field(&["a"]), integer());
+    let all = (0..count).map(|i| target("", &id(i))).collect();
+    crowd(name, schema(vec![], (0..count).map(own).collect()), condition_record(compared), all, SPACE)
+}
+
 /// Growing numbers of reports, from 1,360 on, for the plot. The buffer grows with them, and so does the workspace, which is
 /// cleared in each call.
 pub fn report_counts() -> Vec<(usize, Workload)> {

@@ -59,6 +59,9 @@ fn table(text: &str) -> String {
     let mut out = format!("{}\n\n", machine());
     out += "| input | operation | Rust alone | Rust with reading | ours | Rust with reading / ours |\n";
     out += "|---|---|---:|---:|---:|---:|\n";
+    for (input, operation, times) in naming(text) {
+        out += &row(&input, operation, &times);
+    }
     let all = workloads::all().into_iter().chain(workloads::crowded()).chain(workloads::searching());
     for w in all.filter(|w| w.name.contains(text)) {
         for (input, operation, times) in rows_of(&w) {
@@ -66,6 +69,18 @@ fn table(text: &str) -> String {
         }
     }
     out
+}
+
+/// What the comparison of names costs, in the rows whose input has this text.
+fn naming(text: &str) -> Vec<(String, &'static str, Times)> {
+    let (schemas, found) = workloads::naming();
+    let sized = |w: &Workload| format!("{} ({} bytes)", w.name, w.schema.len());
+    let reading = |w: &Workload| (sized(w), "read schema", read(Operation::ReadSchema, &w.schema));
+    let mut rows: Vec<_> = schemas.iter().filter(|w| w.name.contains(text)).map(reading).collect();
+    if found.name.contains(text) {
+        rows.push((found.name.clone(), "check", check(&found)));
+    }
+    rows
 }
 
 fn rows_of(w: &Workload) -> Vec<(String, &'static str, Times)> {

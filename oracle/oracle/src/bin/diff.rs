@@ -63,6 +63,7 @@ fn compare_fresh(operations: &[Operation], count: usize, seed: u64) -> Coverage 
         let operation = operations[i % operations.len()];
         let draft = match rng.below(50) {
             0 => generate::large_draft(&mut rng, operation),
+            1 | 2 => generate::compared_draft(&mut rng, operation),
             _ => generate::draft(&mut rng, operation),
         };
         let case = draft.case();
