@@ -2,4 +2,5 @@ pub mod Types
 pub mod Meaning
 pub mod Rules
 pub mod Words
+pub mod Relations
 pub mod Laws
