@@ -44,7 +44,7 @@ module _ (s : Schema) (c : Condition) (scope : Scope) (t : Target) where
       go (some a) is = rw is
 
 module _ (x : Checked) where
-  computed : (c : Condition) → reports x c ≡ length (gather (nodeBreaches (factsIn x c)) (reached c))
+  pub computed : (c : Condition) → reports x c ≡ length (gather (nodeBreaches (factsIn x c)) (reached c))
   computed c = ap length (judged (x .schema) c (x .scope) (x .target) (x .is))
 
 -- a term with a type that is no Long is no arithmetic and no aggregate
@@ -129,7 +129,7 @@ last-binder name type [] after h = rw (h, same-refl name)
 last-binder name type (b ∷ before) after h = ap (maybe (namedHere name (b .annotation) (b .slot)) some) (last-binder name type before after h)
 
 module _ (under : Checked) (whole : Condition) (name type : List ℕ) (before after : List Binder) (passes : binders whole ≡ before ++ (binderOf name type ∷ after)) (last : lastNamed name after ≡ none) where
-  declared-type : varType (factsIn under whole) name ≡ some (annotationType (path (type ∷ [])))
+  pub declared-type : varType (factsIn under whole) name ≡ some (annotationType (path (type ∷ [])))
   unfolding varType
   declared-type = rw (passes, last-binder name type before after last)
 

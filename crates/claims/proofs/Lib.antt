@@ -2,3 +2,4 @@ pub mod Written
 pub mod Demand3
 pub mod WholeRun
 pub mod Examples
+pub mod Reordering

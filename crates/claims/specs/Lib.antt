@@ -3,3 +3,4 @@ pub mod Breaches
 pub mod Rows
 pub mod Examples
 pub mod WholeRun
+pub mod Reordering
