@@ -169,7 +169,8 @@ fn held(shows: &'static str, root: Piece, targets: Piece, reports: Vec<(u32, u32
 }
 
 pub fn checked() -> Vec<Checked> {
-    [operands(), arrays(), scopes(), environment(), targets_and_repeats(), arguments(), surprises()].concat_all()
+    [operands(), arrays(), scopes(), environment(), targets_and_repeats(), arguments(), surprises(), reordered()]
+        .concat_all()
 }
 
 /// `concat` for lists whose items cannot be copied.
@@ -595,6 +596,75 @@ fn arguments() -> Vec<Checked> {
             view(),
             vec![],
         ),
+    ]
+}
+
+/// What holds when a comparison is reordered and what does not; docs/DIFFERENCES.md has these.
+fn reordered() -> Vec<Checked> {
+    let list = |item| array(vec![item]);
+    let mixed = || array(vec![integer(), words()]);
+    let view = || on(&[("App", "view")]);
+    let given = |value| predicate((0, 9), (2, 4), &["App"], "view", vec![argument("w", &["input", "who"], value)]);
+    let asking = || count((1, 2), vec![named("v", &["Long"])], comparison((5, 6), EQ, var("v"), integer()));
+    let other = || count((1, 2), vec![named("v", &["String"])], call());
+    vec![
+        compared("an equality", EQ, truth(), integer(), vec![equality("boolean", "int")]),
+        compared("swapped: the words change places", EQ, integer(), truth(), vec![equality("int", "boolean")]),
+        compared("an order", LT, truth(), integer(), vec![numeric("boolean", "int")]),
+        compared("the order that says the same", 3, integer(), truth(), vec![numeric("int", "boolean")]),
+        compared(
+            "arithmetic comes first, that of the left operand before that of the right",
+            EQ,
+            arith(words(), integer()),
+            arith(truth(), integer()),
+            vec![arithmetic("string"), arithmetic("boolean")],
+        ),
+        compared(
+            "swapped: in the other order",
+            EQ,
+            arith(truth(), integer()),
+            arith(words(), integer()),
+            vec![arithmetic("boolean"), arithmetic("string")],
+        ),
+        compared("an empty array fits on the left", EQ, list(integer()), array(vec![]), vec![]),
+        compared("and on the right", EQ, array(vec![]), list(truth()), vec![]),
+        compared(
+            "what fits beside it does not fit",
+            EQ,
+            list(integer()),
+            list(truth()),
+            vec![equality("array<int>", "array<boolean>")],
+        ),
+        compared("an empty array in an array", EQ, list(mixed()), list(array(vec![])), vec![]),
+        compared("fits beside either", EQ, list(array(vec![])), list(list(integer())), vec![]),
+        compared(
+            "and the two do not fit",
+            EQ,
+            list(mixed()),
+            list(list(integer())),
+            vec![equality("array<mixed-type array>", "array<array<int>>")],
+        ),
+        compared("mixed arrays fit each other", EQ, mixed(), array(vec![wildcard()]), vec![]),
+        compared("entities of two tags compare", EQ, entity("App::User"), entity("App::Bot"), vec![]),
+        held(
+            "and are not accepted for each other",
+            given(entity("App::Bot")),
+            view(),
+            vec![(2, 4, argument_expects("w", "view", "User", "Bot"))],
+        ),
+        held(
+            "an untagged entity is accepted for either",
+            given(scope_field(&["principal"])),
+            on(&[("App", "chat")]),
+            vec![],
+        ),
+        held(
+            "the last binder of a name counts in the whole condition",
+            comparison((3, 7), EQ, asking(), other()),
+            view(),
+            vec![(5, 6, equality("string", "int"))],
+        ),
+        held("so that a swap may change what is reported", comparison((3, 7), EQ, other(), asking()), view(), vec![]),
     ]
 }
 
