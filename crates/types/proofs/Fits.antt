@@ -16,6 +16,7 @@ use Rattle.types.specs.declared.Scalar.{Scalar}
 use Rattle.types.specs.declared.Tag.{Tag}
 use Rattle.types.specs.declared.Base.{Base}
 use Rattle.types.specs.declared.Base.the-variants as Base
+use Rattle.types.specs.declared.Profile.the-variants as Profile
 use Rattle.types.specs.declared.Test.{Test}
 use Rattle.types.specs.declared.Test.the-variants as Test
 
@@ -23,17 +24,20 @@ use Rattle.types.specs.declared.Test.the-variants as Test
 tags-none : (r : Test) (e : List ℕ) → loose r ≡ tagsBy r none (some e)
 tags-none Test.Equal e = refl
 tags-none Test.Accepts e = refl
-tags-none Test.Compatible e = refl
+tags-none (Test.Compatible Profile.Plain) e = refl
+tags-none (Test.Compatible Profile.Strict) e = refl
 
 tags-none-right : (r : Test) (e : List ℕ) → loose r ≡ tagsBy r (some e) none
 tags-none-right Test.Equal e = refl
 tags-none-right Test.Accepts e = refl
-tags-none-right Test.Compatible e = refl
+tags-none-right (Test.Compatible Profile.Plain) e = refl
+tags-none-right (Test.Compatible Profile.Strict) e = refl
 
 tags-both-none : (r : Test) → true ≡ tagsBy r none none
 tags-both-none Test.Equal = refl
 tags-both-none Test.Accepts = refl
-tags-both-none Test.Compatible = refl
+tags-both-none (Test.Compatible Profile.Plain) = refl
+tags-both-none (Test.Compatible Profile.Strict) = refl
 
 module _ (r : Test) (s c : List ℕ) where
   plain-base : (a : Scalar) (y : Base) → plainFits a y ≡ fitsBy r (scalar (scalarOf a)) (baseOf s c y)

@@ -2,3 +2,4 @@
 pub mod Types
 pub mod Texts
 pub mod Relations
+pub mod Profiles

@@ -3,4 +3,5 @@ pub mod Meaning
 pub mod Rules
 pub mod Words
 pub mod Relations
+pub mod Profiles
 pub mod Laws

@@ -5,6 +5,8 @@ use mathlib.Core.Option.{none, some}
 use lib.ListN.{take, drop}
 use Rattle.types.specs.Types.{Ty, scalar, entity, anyArray, mixedArray, array}
 use Rattle.types.specs.Types as types
+use Rattle.types.specs.declared.Profile.{Profile}
+use Rattle.types.specs.declared.Profile.the-variants as Profile
 use Rattle.types.specs.declared.Scalar.{Scalar}
 use Rattle.types.specs.declared.Scalar.the-variants as Scalar
 use Rattle.types.specs.declared.Source.{Source}
@@ -22,6 +24,11 @@ scalarOf Scalar.Bool = types.bool
 scalarOf Scalar.Timepoint = types.timepoint
 scalarOf Scalar.Object = types.object
 scalarOf Scalar.Never = types.never
+
+-- the profile that the code's enum stands for
+abbrev pub profileIn : Profile → types.Profile
+profileIn Profile.Plain = types.plain
+profileIn Profile.Strict = types.strict
 
 -- the record that holds a tag
 abbrev pub bytesOf : List ℕ → List ℕ → Source → List ℕ

@@ -3,8 +3,10 @@ use mathlib.Core.Bool.{Bool, true, false}
 use mathlib.Core.List.{List}
 use mathlib.Core.Option.{Option}
 use Prim.Native.Nat.{ℕ}
-use Rattle.types.specs.Types.{Ty, fits, sameTag, tagFits, sameScalar}
-use Rattle.types.specs.Meaning.{scalarOf}
+use Rattle.types.specs.Types.{Ty, fits, sameTag, tagFits, tagsUnder, sameScalar}
+use Rattle.types.specs.Meaning.{scalarOf, profileIn}
+use Rattle.types.specs.declared.Profile.{Profile}
+use Rattle.types.specs.declared.Profile.the-variants as Profile
 use Rattle.types.specs.declared.Scalar.{Scalar}
 use Rattle.types.specs.declared.Base.{Base}
 use Rattle.types.specs.declared.Base.the-variants as Base
@@ -15,18 +17,22 @@ use Rattle.types.specs.declared.Test.the-variants as Test
 abbrev pub loose : Test → Bool
 loose Test.Equal = false
 loose Test.Accepts = true
-loose Test.Compatible = true
+loose (Test.Compatible p) = true
 
--- entities fit whatever their tags
+-- entities fit whatever their tags: in an equality under the plain profile
+abbrev pub isPlain : Profile → Bool
+isPlain Profile.Plain = true
+isPlain Profile.Strict = false
+
 abbrev pub anyTags : Test → Bool
 anyTags Test.Equal = false
 anyTags Test.Accepts = false
-anyTags Test.Compatible = true
+anyTags (Test.Compatible p) = isPlain p
 
 abbrev pub tagsBy : Test → Option (List ℕ) → Option (List ℕ) → Bool
 tagsBy Test.Equal = sameTag
 tagsBy Test.Accepts = tagFits
-tagsBy Test.Compatible = λ e f. true
+tagsBy (Test.Compatible p) = tagsUnder (profileIn p)
 
 -- `sameType`, `accepts` and `compatible`
 abbrev pub fitsBy : Test → Ty → Ty → Bool

@@ -79,9 +79,19 @@ sameType = fits sameTag false
 abbrev pub accepts : Ty → Ty → Bool
 accepts = fits tagFits true
 
--- `compatible`: the two may stand on the sides of an equality; any two entities may. The Rust's clause for two numeric types adds nothing: only Long is numeric
-abbrev pub compatible : Ty → Ty → Bool
-compatible = fits (λ e f. true) true
+-- how an equality takes two entities: plain, as the Rust does; or strict, as a caller may choose
+pub data Profile : Type 0 where
+  plain strict : Profile
+
+-- plain, any two entities are compatible; strict, two known, different tags are not
+abbrev pub tagsUnder : Profile → Option (List ℕ) → Option (List ℕ) → Bool
+tagsUnder plain = λ e f. true
+tagsUnder strict = tagFits
+
+-- `compatible`: the two may stand on the sides of an equality. The profile is handed down to the elements of arrays, and decides of two entities alone.
+-- The Rust's clause for two numeric types adds nothing: only Long is numeric
+abbrev pub compatible : Profile → Ty → Ty → Bool
+compatible p = fits (tagsUnder p) true
 
 -- what arithmetic wants of an operand: only Long is a number
 abbrev pub isNumeric : Ty → Bool

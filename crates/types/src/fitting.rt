@@ -1,5 +1,6 @@
 // The tests of two types. They differ in two rules, `is_loose` and `takes_any_tags`.
 use crate::Base;
+use crate::Profile;
 use crate::Rich;
 use crate::Scalar;
 use crate::Tag;
@@ -8,8 +9,8 @@ use crate::tags::tag_bytes;
 ghost use mathlib.Core.Path.{_≡_};
 ghost use mathlib.Core.Option.{some};
 ghost use Rattle.types.specs.Types.{rank, scalar, entity, timepoint, sameType, accepts, compatible, isNumeric, areOrdered};
-ghost use Rattle.types.specs.Meaning.{scalarOf, tagOf, baseOf, richOf};
-ghost use Rattle.types.specs.Rules.{anyTags, loose, tagsBy, fitsBy, plainFits, untaggedFits, anyArrayFits, mixedArrayFits, unknownFits};
+ghost use Rattle.types.specs.Meaning.{scalarOf, profileIn, tagOf, baseOf, richOf};
+ghost use Rattle.types.specs.Rules.{isPlain, anyTags, loose, tagsBy, fitsBy, plainFits, untaggedFits, anyArrayFits, mixedArrayFits, unknownFits};
 
 pub fn rank_of(s: Scalar) -> usize
     ensures { λ r. ⌜ r ≡ rank (scalarOf s) ⌝ }
@@ -32,7 +33,17 @@ fn is_loose(test: Test) -> bool
     match test {
         Test::Equal => false,
         Test::Accepts => true,
-        Test::Compatible => true,
+        Test::Compatible(_) => true,
+    }
+}
+
+// Whether an equality takes any two entities.
+fn is_plain(profile: Profile) -> bool
+    ensures { λ r. ⌜ r ≡ isPlain profile ⌝ }
+{
+    match profile {
+        Profile::Plain => true,
+        Profile::Strict => false,
     }
 }
 
@@ -43,7 +54,7 @@ fn takes_any_tags(test: Test) -> bool
     match test {
         Test::Equal => false,
         Test::Accepts => false,
-        Test::Compatible => true,
+        Test::Compatible(profile) => is_plain(profile),
     }
 }
 
@@ -178,11 +189,17 @@ pub fn accepts<'a>(schema: &'a [u8], condition: &'a [u8], declared: Rich, actual
     fits(schema, condition, Test::Accepts, declared, actual)
 }
 
-// Whether the two may stand on the sides of an equality.
-pub fn compatible<'a>(schema: &'a [u8], condition: &'a [u8], left: Rich, right: Rich) -> bool
-    ensures { λ r. ⌜ r ≡ compatible (richOf (now (schema .entry)) (now (condition .entry)) left) (richOf (now (schema .entry)) (now (condition .entry)) right) ⌝ }
+// Whether the two may stand on the sides of an equality, under the profile.
+pub fn compatible<'a>(
+    schema: &'a [u8],
+    condition: &'a [u8],
+    profile: Profile,
+    left: Rich,
+    right: Rich,
+) -> bool
+    ensures { λ r. ⌜ r ≡ compatible (profileIn profile) (richOf (now (schema .entry)) (now (condition .entry)) left) (richOf (now (schema .entry)) (now (condition .entry)) right) ⌝ }
 {
-    fits(schema, condition, Test::Compatible, left, right)
+    fits(schema, condition, Test::Compatible(profile), left, right)
 }
 
 pub fn is_numeric<'a>(schema: &'a [u8], condition: &'a [u8], t: Rich) -> bool

@@ -52,11 +52,17 @@ pub struct Rich {
     pub base: Base,
 }
 
-// The tests of two types: the Rust's `==`, `accepts` and `compatible`.
+// How an equality takes two entities: plain, any two are compatible, as in the Rust; strict, two known, different tags are not.
+pub enum Profile {
+    Plain,
+    Strict,
+}
+
+// The tests of two types: the Rust's `==`, `accepts` and `compatible`, of which the last takes the profile.
 pub enum Test {
     Equal,
     Accepts,
-    Compatible,
+    Compatible(Profile),
 }
 
 // The texts of a type: the Rust's `display` and `render`.

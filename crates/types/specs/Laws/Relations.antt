@@ -1,5 +1,6 @@
 -- The laws that rule writers rely on, and what does not hold. A scalar of its own adds a line to `unrank` and one to `unranked`. Assumes nothing.
 --     fits-itself, fits-swapped, fits-more     of `fits`, over any test of tags
+--     tag-itself, tag-swapped                  of the test of two tags
 --     relied, relied-in-code, refuted          the statements of Relations.antt
 use mathlib.Core.Path.{_≡_, refl, sym, ap, _∙_}
 use mathlib.Core.Bool.{Bool, true, false, cond, false≢true}
@@ -11,7 +12,7 @@ use borrow.Author.Tests.{eqb-true, eq-eqb}
 use Rattle.names.specs.Names.{same}
 use Rattle.names.specs.Text.{text}
 use Rattle.names.specs.Laws.Names.{same-refl, same-eq}
-use Rattle.types.specs.Types.{Scalar, long, string, decimal, bool, timepoint, object, never, Ty, scalar, entity, anyArray, mixedArray, array, rank, sameTag, tagFits, fits, sameType, accepts, compatible}
+use Rattle.types.specs.Types.{Scalar, long, string, decimal, bool, timepoint, object, never, Ty, scalar, entity, anyArray, mixedArray, array, rank, sameTag, tagFits, fits, plain, sameType, accepts, compatible}
 use Rattle.types.specs.Meaning.{richOf}
 use Rattle.types.specs.Relations.{isKnown, isTagged, Relied, ReliedInCode, Refuted}
 
@@ -132,7 +133,7 @@ accepts-is-equal (array t) anyArray k h l j = absurd (false≢true l)
 accepts-is-equal (array t) mixedArray k h l j = refl
 accepts-is-equal (array t) (array u) k h l j = accepts-is-equal t u k h l j
 
-compatible-is-transitive : (t u v : Ty) → isKnown u ≡ true → compatible t u ≡ true → compatible u v ≡ true → compatible t v ≡ true
+compatible-is-transitive : (t u v : Ty) → isKnown u ≡ true → compatible plain t u ≡ true → compatible plain u v ≡ true → compatible plain t v ≡ true
 unfolding fits isKnown
 compatible-is-transitive (scalar a) (scalar b) (scalar c) k h i = eq-eqb (rank a) (rank c) (eqb-true (rank a) (rank b) h ∙ eqb-true (rank b) (rank c) i)
 compatible-is-transitive (scalar a) (scalar b) (entity g) k h i = absurd (false≢true i)
@@ -184,11 +185,11 @@ compatible-is-transitive (array t) (array u) anyArray k h i = refl
 compatible-is-transitive (array t) (array u) mixedArray k h i = absurd (false≢true i)
 compatible-is-transitive (array t) (array u) (array v) k h i = compatible-is-transitive t u v k h i
 
-tag-itself : (e : Option (List ℕ)) → tagFits e e ≡ true
+pub tag-itself : (e : Option (List ℕ)) → tagFits e e ≡ true
 tag-itself none = refl
 tag-itself (some x) = same-refl x
 
-tag-swapped : (e f : Option (List ℕ)) → tagFits e f ≡ tagFits f e
+pub tag-swapped : (e f : Option (List ℕ)) → tagFits e f ≡ tagFits f e
 tag-swapped none none = refl
 tag-swapped none (some y) = refl
 tag-swapped (some x) none = refl

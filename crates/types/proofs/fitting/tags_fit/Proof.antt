@@ -6,6 +6,7 @@ use mathlib.Core.Option.{some}
 use Prim.Native.Nat.{ℕ}
 use Rattle.names.specs.Names.{same}
 use Rattle.types.specs.Rules.{anyTags, tagsBy}
+use Rattle.types.specs.declared.Profile.the-variants as Profile
 use Rattle.types.specs.declared.Test.{Test}
 use Rattle.types.specs.declared.Test.the-variants as Test
 use borrow.Author.Needs.{needs}
@@ -19,7 +20,8 @@ module _ (r : Test) (v w : List ℕ) (a : Bool) (rule : a ≡ anyTags r) where
       go : (r : Test) → anyTags r ≡ true → true ≡ tagsBy r (some v) (some w)
       go Test.Equal e = absurd (false≢true e)
       go Test.Accepts e = absurd (false≢true e)
-      go Test.Compatible e = refl
+      go (Test.Compatible Profile.Plain) e = refl
+      go (Test.Compatible Profile.Strict) e = absurd (false≢true e)
 
   alike : a ≡ false → (x y : List ℕ) → x ≡ v → y ≡ w → (b : Bool) → b ≡ same x y → b ≡ tagsBy r (some v) (some w)
   alike h x y p q b e = go r (sym rule ∙ h)
@@ -30,7 +32,8 @@ module _ (r : Test) (v w : List ℕ) (a : Bool) (rule : a ≡ anyTags r) where
       go : (r : Test) → anyTags r ≡ false → b ≡ tagsBy r (some v) (some w)
       go Test.Equal e = is
       go Test.Accepts e = is
-      go Test.Compatible e = absurd (false≢true (sym e))
+      go (Test.Compatible Profile.Plain) e = absurd (false≢true (sym e))
+      go (Test.Compatible Profile.Strict) e = is
 
 ruleset steps = (needs, any, alike)
 
