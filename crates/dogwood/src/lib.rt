@@ -10,7 +10,7 @@ ghost use Rattle.targets.specs.PathRecord.{pathRecord};
 ghost use Rattle.reports.specs.Answers.{outcomeOf, Spared};
 ghost use Rattle.sums.specs.Sums.{sums};
 ghost use Rattle.lookup.specs.Lookup.{lookup};
-ghost use Rattle.typecheck.specs.Check.{check};
+ghost use Rattle.typecheck.specs.Check.{checkWith, check};
 
 // The number with which a schema record is refused, 0 for none.
 #[no_mangle]
@@ -71,7 +71,8 @@ pub extern "C" fn dogwood_check<'a>(
 }
 
 // The same check with workspace that the caller lends: slots in which it finds repeats. They may be of any number and hold anything, and the answer does not
-// depend on them; with four slots for every three reports that the buffer holds, time is linear in the reports. No bit of `rules` has a meaning yet.
+// depend on them; with four slots for every three reports that the buffer holds, time is linear in the reports. Bit 0 (value 1) of
+// `rules` makes the check strict: two entities with known, different tags are incompatible in an equality. No other bit has an effect.
 #[no_mangle]
 pub extern "C" fn dogwood_check_with<'a>(
     rules: u8,
@@ -81,10 +82,10 @@ pub extern "C" fn dogwood_check_with<'a>(
     reports: &mut [u8],
     workspace: &mut [u32],
 ) -> Answer
-    ensures { λ r. ⌜ outcomeOf r (now (reports .exit)) ≡ check (now (schema .entry)) (now (condition .entry)) (now (targets .entry)) (now (reports .entry)) ⌝ }
+    ensures { λ r. ⌜ outcomeOf r (now (reports .exit)) ≡ checkWith rules (now (schema .entry)) (now (condition .entry)) (now (targets .entry)) (now (reports .entry)) ⌝ }
     ensures { λ r. ⌜ Spared r (now (workspace .entry)) (now (workspace .exit)) ⌝ }
 {
-    typecheck::check_with(schema, condition, targets, reports, workspace)
+    typecheck::check_with(rules, schema, condition, targets, reports, workspace)
 }
 
 // The sums of a condition: the answer, and a report for each whose summand is not declared Long.

@@ -11,6 +11,8 @@ use Rattle.names.specs.Read.{ending, readNumber, valueOr}
 use Rattle.names.specs.declared.Read.{Read}
 use Rattle.names.specs.declared.Read.the-variants as Read
 use Rattle.names.specs.Laws.Readers.{accept, passes, refused-by, refuses}
+use Rattle.types.specs.Types.{plain}
+use Rattle.types.specs.Meaning.{profileIn}
 use Rattle.schema.specs.Schema.{schemaRecord}
 use Rattle.schema.specs.Find.{findAction}
 use Rattle.schema.specs.Places.{schemaIn, isAction, actionIn, foundIn, foundStands, FindsAction, ActionsOf}
@@ -100,7 +102,7 @@ module _ (s c n : List ℕ) (read : Records s c n) (found : Found) (stands : fou
   facts-known env e g = record { ready = record { schema = read .schema; condition = read .condition; named = e; actions = rw (k .shared) g }; action = rw (k .action) stands }
 
   pub facts-answered : (which : Operand) (b : List ℕ) (a : Answer) (t : List ℕ) → outcomeOf a t ≡ answered which (recordIn c) (factsIn s c n f) b
-      → outcomeOf a t ≡ answered which (recordIn c) (factsOf (schemaIn s) (recordIn c) (targetsIn n .scope) (foundIn (actionIn s) found)) b
+      → outcomeOf a t ≡ answered which (recordIn c) (factsOf (profileIn (common .profile)) (schemaIn s) (recordIn c) (targetsIn n .scope) (foundIn (actionIn s) found)) b
   facts-answered which b a t i = rw (facts-mean s c n found common f k) at i
 
 pub ruleset by-action = (needs, length-take-le, facts-known, facts-answered)
@@ -109,7 +111,7 @@ module _ (s c n : List ℕ) (at : ℕ) (w : List ℕ) (is-w : w ≡ targetIn n a
   pub action-stands : foundStands (isAction s) x ≡ true
   action-stands = finds .stands
 
-  pub target-answered : (which : Operand) (b : List ℕ) (a : Answer) (t : List ℕ) → outcomeOf a t ≡ answered which (recordIn c) (factsOf (schemaIn s) (recordIn c) (targetsIn n .scope) (foundIn (actionIn s) x)) b
+  pub target-answered : (which : Operand) (b : List ℕ) (a : Answer) (t : List ℕ) → outcomeOf a t ≡ answered which (recordIn c) (factsOf plain (schemaIn s) (recordIn c) (targetsIn n .scope) (foundIn (actionIn s) x)) b
       → outcomeOf a t ≡ underTarget (schemaIn s) (recordIn c) (targetsIn n) which b (targetIn n at)
   unfolding underTarget
   target-answered which b a t i =

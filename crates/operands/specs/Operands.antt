@@ -7,7 +7,7 @@ use lib.ListN.{length, drop}
 use lib.Dec.{leb}
 use Rattle.names.specs.Lists.{maybe}
 use Rattle.names.specs.Fields.{either, whole}
-use Rattle.types.specs.Types.{Ty, render}
+use Rattle.types.specs.Types.{Ty, plain, render}
 use Rattle.schema.specs.Schema.{Schema, schemaRecord}
 use Rattle.schema.specs.Find.{findAction}
 use Rattle.targets.specs.Targets.{Target, Targets, targetRecord}
@@ -66,9 +66,9 @@ unfoldable pub answered : Operand → Condition → Facts → List ℕ → Outco
 answered which c f buffer =
     maybe (leaving noComparison buffer) (λ t. shown (termType (some f) t) buffer) (operandIn which c)
 
--- under a target: its action is looked up, and need not admit an environment
+-- under a target: its action is looked up, and need not admit an environment. No type depends on the profile
 unfoldable pub underTarget : Schema → Condition → Targets → Operand → List ℕ → Target → Outcome
-underTarget s c ts which buffer t = answered which c (factsOf s c (ts .scope) (findAction s (t .namespace) (t .id))) buffer
+underTarget s c ts which buffer t = answered which c (factsOf plain s c (ts .scope) (findAction s (t .namespace) (t .id))) buffer
 
 -- under the target at a position: 12 where the list has no such position
 unfoldable pub atPosition : Schema → Condition → Targets → ℕ → Operand → List ℕ → Outcome

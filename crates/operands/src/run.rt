@@ -8,8 +8,11 @@ use nodes::ComparisonAt;
 use schema::Namespace;
 use terms::Common;
 use terms::Facts;
+use types::Profile;
 ghost use mathlib.Core.Path.{_≡_};
 ghost use mathlib.Core.Bool.{true};
+ghost use Rattle.types.specs.Types.{plain};
+ghost use Rattle.types.specs.Meaning.{profileIn};
 ghost use Rattle.schema.specs.Places.{schemaIn, isAction, actionIn, foundIn, foundStands, ActionsOf};
 ghost use Rattle.targets.specs.Places.{targetsIn, isTarget, targetIn};
 ghost use Rattle.condition.specs.Places.{recordIn};
@@ -68,7 +71,7 @@ fn with_common<'a>(
     requires { ⌜ Environment (now condition) (binders (recordIn (now condition))) (now env) ⌝ }
     requires { ⌜ ActionsOf (now schema) (common .actions) ⌝ }
     requires { ⌜ foundStands (isAction (now schema)) own ≡ true ⌝ }
-    ensures { λ r. ⌜ outcomeOf r (now (out .exit)) ≡ answered which (recordIn (now (condition .entry))) (factsOf (schemaIn (now (schema .entry))) (recordIn (now (condition .entry))) (targetsIn (now (targets .entry)) .scope) (foundIn (actionIn (now (schema .entry))) own)) (now (out .entry)) ⌝ }
+    ensures { λ r. ⌜ outcomeOf r (now (out .exit)) ≡ answered which (recordIn (now (condition .entry))) (factsOf (profileIn (common .profile)) (schemaIn (now (schema .entry))) (recordIn (now (condition .entry))) (targetsIn (now (targets .entry)) .scope) (foundIn (actionIn (now (schema .entry))) own)) (now (out .entry)) ⌝ }
 {
     let facts = terms::facts_of(targets, own, common);
     under_facts(schema, condition, targets, env, facts, which, out)
@@ -87,12 +90,13 @@ fn over_places<'a>(
     requires { ⌜ Records (now schema) (now condition) (now targets) ⌝ }
     requires { ⌜ Index (now condition) (now places) ⌝ }
     requires { ⌜ foundStands (isAction (now schema)) own ≡ true ⌝ }
-    ensures { λ r. ⌜ outcomeOf r (now (out .exit)) ≡ answered which (recordIn (now (condition .entry))) (factsOf (schemaIn (now (schema .entry))) (recordIn (now (condition .entry))) (targetsIn (now (targets .entry)) .scope) (foundIn (actionIn (now (schema .entry))) own)) (now (out .entry)) ⌝ }
+    ensures { λ r. ⌜ outcomeOf r (now (out .exit)) ≡ answered which (recordIn (now (condition .entry))) (factsOf plain (schemaIn (now (schema .entry))) (recordIn (now (condition .entry))) (targetsIn (now (targets .entry)) .scope) (foundIn (actionIn (now (schema .entry))) own)) (now (out .entry)) ⌝ }
 {
     let mut table = [0u16; 10921];
     let k = walk::environment(condition, places, &mut table);
     let common = Common {
         actions: schema::actions(schema),
+        profile: Profile::Plain,
     };
     with_common(
         schema,
@@ -117,7 +121,7 @@ fn under_action<'a>(
 ) -> Answer
     requires { ⌜ Records (now schema) (now condition) (now targets) ⌝ }
     requires { ⌜ foundStands (isAction (now schema)) own ≡ true ⌝ }
-    ensures { λ r. ⌜ outcomeOf r (now (out .exit)) ≡ answered which (recordIn (now (condition .entry))) (factsOf (schemaIn (now (schema .entry))) (recordIn (now (condition .entry))) (targetsIn (now (targets .entry)) .scope) (foundIn (actionIn (now (schema .entry))) own)) (now (out .entry)) ⌝ }
+    ensures { λ r. ⌜ outcomeOf r (now (out .exit)) ≡ answered which (recordIn (now (condition .entry))) (factsOf plain (schemaIn (now (schema .entry))) (recordIn (now (condition .entry))) (targetsIn (now (targets .entry)) .scope) (foundIn (actionIn (now (schema .entry))) own)) (now (out .entry)) ⌝ }
 {
     let mut table = [0u16; 3641];
     let k = walk::index_record(condition, &mut table);

@@ -9,6 +9,7 @@ use borrow.Author.Needs.{needs}
 use borrow.Author.Tests.{ne-eqb}
 use lib.Dec.{ltb, eqb, lit<}
 use lib.ListN.{length}
+use Rattle.types.specs.Types.{Profile}
 use Rattle.names.specs.Lists.{gather}
 use Rattle.names.specs.Read.{wordAt}
 use Rattle.condition.specs.Condition as tree
@@ -180,18 +181,18 @@ compared-here c at r span p h ordered o = record {
   value = h .value ∙ ap (λ (l : Span). comparison l (h .op) (termIn c (p .left)) (termIn c (p .right))) (span-is span);
 }
 
-pub operands-typed : (f : Facts) (s c : List ℕ) (left right : ℕ) (ordered : Bool) (l r : Typed) → TypeOf s c (termType (some f) (termIn c left)) l → TypeOf s c (termType (some f) (termIn c right)) r
-    → {x : Said} → Tells s c (both (typedOf s c l) (typedOf s c r) (operandsBy ordered)) x → Tells s c (both (termType (some f) (termIn c left)) (termType (some f) (termIn c right)) (operandsBy ordered)) x
-operands-typed f s c left right ordered l r v w g = rw (← v .value, ← w .value) g
+pub operands-typed : (f : Facts) (s c : List ℕ) (left right : ℕ) (p : Profile) (ordered : Bool) (l r : Typed) → TypeOf s c (termType (some f) (termIn c left)) l → TypeOf s c (termType (some f) (termIn c right)) r
+    → {x : Said} → Tells s c (both (typedOf s c l) (typedOf s c r) (operandsBy p ordered)) x → Tells s c (both (termType (some f) (termIn c left)) (termType (some f) (termIn c right)) (operandsBy p ordered)) x
+operands-typed f s c left right p ordered l r v w g = rw (← v .value, ← w .value) g
 
 -- arithmetic first, then the types
 pub comparison-told : (f : Facts) (s c : List ℕ) (at : ℕ) (p : Compared) → ComparedHere c at p → {x : Said}
-    → Tells s c (both (termType (some f) (termIn c (p .left))) (termType (some f) (termIn c (p .right))) (operandsBy (p .ordering))) x
+    → Tells s c (both (termType (some f) (termIn c (p .left))) (termType (some f) (termIn c (p .right))) (operandsBy (f .profile) (p .ordering))) x
     → {old mid new between table : List ℕ} {st st₁ st′ : State} → Pushed old st (arithmeticBreaches f (termIn c (p .left)) (spanIn (p .span)) ++ arithmeticBreaches f (termIn c (p .right)) (spanIn (p .span))) mid st₁ between
     → Pushed mid st₁ (saidBreaches s c x (spanIn (p .span))) new st′ table → Pushed old st (nodeBreaches f (conditionIn c at)) new st′ table
 unfolding nodeBreaches
 comparison-told f s c at p h g e r =
-    rw (h .value, ← h .ordered) (recorded-then e (told s c (both (termType (some f) (termIn c (p .left))) (termType (some f) (termIn c (p .right))) (operandsBy (p .ordering))) (spanIn (p .span)) g r))
+    rw (h .value, ← h .ordered) (recorded-then e (told s c (both (termType (some f) (termIn c (p .left))) (termType (some f) (termIn c (p .right))) (operandsBy (f .profile) (p .ordering))) (spanIn (p .span)) g r))
 
 pub ruleset comparing = (needs, compared-here)
 

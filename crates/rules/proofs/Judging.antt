@@ -8,7 +8,7 @@ use borrow.Author.Needs.{needs}
 use lib.Dec.{lit<}
 use Rattle.names.specs.Read.{wordAt}
 use Rattle.types.specs.Types as types
-use Rattle.types.specs.Types.{Ty, scalar, isNumeric, areOrdered, accepts, compatible, sameType}
+use Rattle.types.specs.Types.{Ty, Profile, scalar, isNumeric, areOrdered, accepts, compatible, sameType}
 use Rattle.types.specs.Laws.Texts.{Small}
 use Rattle.types.specs.Meaning.{richOf}
 use Rattle.types.specs.declared.Rich.{Rich}
@@ -62,18 +62,18 @@ module _ (s c : List ℕ) where
   unfolding numericBreaches
   numbers-passed x y b is h = passed s c _ _ b is h
 
-  pub like-passed : (x y : Ty) (b : Bool) → b ≡ compatible x y → b ≡ true → Finds s c (likeBreaches x y) Clean
+  pub like-passed : (p : Profile) (x y : Ty) (b : Bool) → b ≡ compatible p x y → b ≡ true → Finds s c (likeBreaches p x y) Clean
   unfolding likeBreaches
-  like-passed x y b is h = passed s c _ _ b is h
+  like-passed p x y b is h = passed s c _ _ b is h
 
   module _ (l r : Rich) (small-l : Small (richOf s c l)) (small-r : Small (richOf s c r)) (b : Bool) where
     pub numbers-broken : b ≡ areOrdered (richOf s c l) (richOf s c r) → b ≡ false → Finds s c (numericBreaches (richOf s c l) (richOf s c r)) (NotNumeric l r)
     unfolding numericBreaches quoted
     numbers-broken is h = broken s c _ _ b is h (NotNumeric l r) (record { first = small-l; second = small-r; third = tt; fourth = tt; below = lit< tt }) (λ at. refl)
 
-    pub like-broken : b ≡ compatible (richOf s c l) (richOf s c r) → b ≡ false → Finds s c (likeBreaches (richOf s c l) (richOf s c r)) (Unlike l r)
+    pub like-broken : (p : Profile) → b ≡ compatible p (richOf s c l) (richOf s c r) → b ≡ false → Finds s c (likeBreaches p (richOf s c l) (richOf s c r)) (Unlike l r)
     unfolding likeBreaches quoted
-    like-broken is h = broken s c _ _ b is h (Unlike l r) (record { first = small-l; second = small-r; third = tt; fourth = tt; below = lit< tt }) (λ at. refl)
+    like-broken p is h = broken s c _ _ b is h (Unlike l r) (record { first = small-l; second = small-r; third = tt; fourth = tt; below = lit< tt }) (λ at. refl)
 
   module _ (left right : Typed) where
     pub left-untyped : (g : Ty → Ty → Rule) → left ≡ Nothing → Finds s c (both (typedOf s c left) (typedOf s c right) g) Clean
@@ -83,11 +83,11 @@ module _ (s c : List ℕ) where
     right-untyped g l e h = rw (e, h) (nothing-found (λ at. refl))
 
     module _ (l r : Rich) (e : left ≡ As l) (g : right ≡ As r) where
-      module _ (ordering : Bool) (f : Finding) where
-        pub numbers-wanted : ordering ≡ true → Finds s c (numericBreaches (richOf s c l) (richOf s c r)) f → Finds s c (both (typedOf s c left) (typedOf s c right) (operandsBy ordering)) f
+      module _ (p : Profile) (ordering : Bool) (f : Finding) where
+        pub numbers-wanted : ordering ≡ true → Finds s c (numericBreaches (richOf s c l) (richOf s c r)) f → Finds s c (both (typedOf s c left) (typedOf s c right) (operandsBy p ordering)) f
         numbers-wanted h k = rw (e, g, h) k
 
-        pub likes-wanted : ordering ≡ false → Finds s c (likeBreaches (richOf s c l) (richOf s c r)) f → Finds s c (both (typedOf s c left) (typedOf s c right) (operandsBy ordering)) f
+        pub likes-wanted : ordering ≡ false → Finds s c (likeBreaches p (richOf s c l) (richOf s c r)) f → Finds s c (both (typedOf s c left) (typedOf s c right) (operandsBy p ordering)) f
         likes-wanted h k = rw (e, g, h) k
 
       module _ (name action : ℕ) (b : Bool) (is : b ≡ accepts (richOf s c l) (richOf s c r)) where

@@ -6,6 +6,7 @@ use mathlib.Core.List.{List, _++_}
 use mathlib.Core.Option.{Option, some}
 use Rattle.names.specs.Read.{wordAt}
 use Rattle.types.specs.Types.{Ty}
+use Rattle.types.specs.Meaning.{profileIn}
 use Rattle.schema.specs.Places.{schemaIn, isAction, actionIn, foundIn, foundStands}
 use Rattle.resolution.specs.Resolution.{contextType}
 use Rattle.condition.specs.Condition.{Operator, comparison, predicate}
@@ -52,7 +53,7 @@ module _ (s c n : List ℕ) (f : Facts) where
   arithmeticsAt p = arithmeticAt (p .left) (spanIn (p .span)) ++ arithmeticAt (p .right) (spanIn (p .span))
 
   abbrev pub operandsAt : Compared → Rule
-  operandsAt p = both (typeAt (p .left)) (typeAt (p .right)) (operandsBy (p .ordering))
+  operandsAt p = both (typeAt (p .left)) (typeAt (p .right)) (operandsBy (profileIn (f .common .profile)) (p .ordering))
 
   -- a predicate: an argument whose name stands at a place, and all of them
   abbrev pub argumentAt : Applied → ℕ → ArgumentAt → Rule

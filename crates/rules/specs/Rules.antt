@@ -6,7 +6,7 @@ use mathlib.Core.Option.{Option, none, some}
 use Rattle.names.specs.Names.{same, simpleName, joined}
 use Rattle.names.specs.Text.{text}
 use Rattle.types.specs.Types as types
-use Rattle.types.specs.Types.{Ty, scalar, isNumeric, areOrdered, accepts, compatible}
+use Rattle.types.specs.Types.{Ty, Profile, scalar, isNumeric, areOrdered, accepts, compatible}
 use Rattle.schema.specs.Schema.{Schema, Action}
 use Rattle.schema.specs.Find.{findAction}
 use Rattle.resolution.specs.Resolution.{contextType, predicateAction}
@@ -52,12 +52,12 @@ argumentBreach param name expected actual = breachIf (not (accepts expected actu
 unfoldable pub numericBreaches : Ty → Ty → Rule
 numericBreaches l r = breachIf (not (areOrdered l r)) (notNumeric l r)
 
-unfoldable pub likeBreaches : Ty → Ty → Rule
-likeBreaches l r = breachIf (not (compatible l r)) (unlikeTypes l r)
+unfoldable pub likeBreaches : Profile → Ty → Ty → Rule
+likeBreaches p l r = breachIf (not (compatible p l r)) (unlikeTypes l r)
 
-abbrev pub operandsBy : Bool → Ty → Ty → Rule
-operandsBy true = numericBreaches
-operandsBy false = likeBreaches
+abbrev pub operandsBy : Profile → Bool → Ty → Ty → Rule
+operandsBy p true = numericBreaches
+operandsBy p false = likeBreaches p
 
 module _ (f : Facts) where
   -- `check_arg_type`: a predicate's arguments, each judged where its field resolves in the predicate's own action
@@ -106,7 +106,7 @@ module _ (f : Facts) where
       argumentBreaches name (predicateAction (f .schema) ns name) args own
   nodeBreaches (comparison at op l r) =
       arithmeticBreaches l at ++ arithmeticBreaches r at
-      ++ both (termType (some f) l) (termType (some f) r) (operandsBy (ordering op)) at
+      ++ both (termType (some f) l) (termType (some f) r) (operandsBy (f .profile) (ordering op)) at
   nodeBreaches (exists at b c) = []
   nodeBreaches (tp at slot) = timepointBreaches slot at
   nodeBreaches (opaque at) = []

@@ -1,11 +1,12 @@
 // The judgements: the types of terms in, a finding out. Each finds what the definition of its name says.
 use crate::Finding;
 use resolution::Typed;
+use types::Profile;
 use types::Rich;
 ghost use mathlib.Core.Path.{_≡_};
 ghost use Rattle.names.specs.Read.{wordAt};
 ghost use Rattle.types.specs.Laws.Texts.{Small};
-ghost use Rattle.types.specs.Meaning.{richOf};
+ghost use Rattle.types.specs.Meaning.{profileIn, richOf};
 ghost use Rattle.resolution.specs.Places.{typedOf, smallType};
 ghost use Rattle.rules.specs.Rules.{notLongHere, numericBreaches, likeBreaches, operandsBy, argumentBreach, timepointBreach};
 ghost use Rattle.rules.specs.Findings.{FindsOf, FindsBoth, FindsTwo};
@@ -36,13 +37,13 @@ fn not_numeric<'a>(schema: &'a [u8], condition: &'a [u8], l: Rich, r: Rich) -> F
     Finding::NotNumeric(l, r)
 }
 
-// Two operands of an operator that wants like types.
-fn unlike<'a>(schema: &'a [u8], condition: &'a [u8], l: Rich, r: Rich) -> Finding
+// Two operands of an operator that wants like types, by the profile.
+fn unlike<'a>(schema: &'a [u8], condition: &'a [u8], profile: Profile, l: Rich, r: Rich) -> Finding
     requires { ⌜ Small (richOf (now schema) (now condition) l) ⌝ }
     requires { ⌜ Small (richOf (now schema) (now condition) r) ⌝ }
-    ensures { λ f. ⌜ FindsTwo (now (schema .entry)) (now (condition .entry)) likeBreaches l r f ⌝ }
+    ensures { λ f. ⌜ FindsTwo (now (schema .entry)) (now (condition .entry)) (likeBreaches (profileIn profile)) l r f ⌝ }
 {
-    if types::compatible(schema, condition, l, r) {
+    if types::compatible(schema, condition, profile, l, r) {
         return Finding::Clean;
     }
     Finding::Unlike(l, r)
@@ -52,13 +53,14 @@ fn unlike<'a>(schema: &'a [u8], condition: &'a [u8], l: Rich, r: Rich) -> Findin
 pub fn operands<'a>(
     schema: &'a [u8],
     condition: &'a [u8],
+    profile: Profile,
     ordering: bool,
     left: Typed,
     right: Typed,
 ) -> Finding
     requires { ⌜ smallType (typedOf (now schema) (now condition) left) ⌝ }
     requires { ⌜ smallType (typedOf (now schema) (now condition) right) ⌝ }
-    ensures { λ r. ⌜ FindsBoth (now (schema .entry)) (now (condition .entry)) (operandsBy ordering) left right r ⌝ }
+    ensures { λ r. ⌜ FindsBoth (now (schema .entry)) (now (condition .entry)) (operandsBy (profileIn profile) ordering) left right r ⌝ }
 {
     let Typed::As(l) = left else {
         return Finding::Clean;
@@ -69,7 +71,7 @@ pub fn operands<'a>(
     if ordering {
         return not_numeric(schema, condition, l, r);
     }
-    unlike(schema, condition, l, r)
+    unlike(schema, condition, profile, l, r)
 }
 
 // An argument beside its field, where both have a type; its name stands at `name`, that of its action at `action`.

@@ -105,7 +105,9 @@ fn operand_types<'a>(
 {
     let left = terms::term_type(schema, condition, targets, env, facts, parts.left);
     let right = terms::term_type(schema, condition, targets, env, facts, parts.right);
-    operands(schema, condition, parts.ordering, left, right)
+    let common = facts.common;
+    let profile = common.profile;
+    operands(schema, condition, profile, parts.ordering, left, right)
 }
 
 // A comparison: arithmetic first, then the operands' types.

@@ -8,7 +8,7 @@ use Rattle.names.specs.Names.{same, simpleName, lastOf}
 use Rattle.condition.specs.Walk.{binders, lastNamed}
 use Rattle.names.specs.Text.{text}
 use Rattle.types.specs.Types as types
-use Rattle.types.specs.Types.{Ty, scalar, anyArray, mixedArray, sameType}
+use Rattle.types.specs.Types.{Ty, Profile, scalar, anyArray, mixedArray, sameType}
 use Rattle.schema.specs.Schema.{Schema, Action, Declared}
 use Rattle.targets.specs.Targets.{Narrowing, Scope}
 use Rattle.schema.specs.Find.{fieldsOf, findAttribute, richType}
@@ -30,17 +30,18 @@ unfoldable pub annotationType : Annotation → Ty
 annotationType timepoint = scalar types.timepoint
 annotationType (path segments) = wordType (lastOf segments)
 
--- what a condition is checked under: the schema, the rule's scope, the target's action if it is declared, and the binders that declare names, of which
--- the last of a name counts. What a caller chooses for a whole check, as a profile, will be a field more; in the code it joins `Common`.
+-- what a condition is checked under: the profile that the caller chose, the schema, the rule's scope, the target's action if it is declared, and the
+-- binders that declare names, of which the last of a name counts. No type depends on the profile
 pub record Facts : Type 0 where
+  pub profile : Profile
   pub schema : Schema
   pub scope : Scope
   pub action : Option Action
   pub binders : List Binder
 
 -- those of a target whose action is this one, or undeclared: in the flat environment all binders of the condition declare their names everywhere
-abbrev pub factsOf : Schema → Condition → Scope → Option Action → Facts
-factsOf s c scope a = record { schema = s; scope = scope; action = a; binders = binders c }
+abbrev pub factsOf : Profile → Schema → Condition → Scope → Option Action → Facts
+factsOf p s c scope a = record { profile = p; schema = s; scope = scope; action = a; binders = binders c }
 
 -- the type of an attribute of a record
 unfoldable pub fieldType : List ℕ → Declared → Option Ty

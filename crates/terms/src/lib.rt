@@ -13,11 +13,13 @@ pub use target::facts_of;
 use targets::Narrowed;
 pub use term::context_field_type;
 pub use term::term_type;
+use types::Profile;
 use types::Rich;
 
-// What is found once for all targets: where the schema's actions stand. What a caller chooses for the whole check, as a profile, joins here.
+// What all targets of a check have in common: where the schema's actions stand, which is found once, and the profile that the caller chose.
 pub struct Common {
     pub actions: Row,
+    pub profile: Profile,
 }
 
 // What a condition is checked under, beside the bytes: where the target's action stands, if it is declared, what the scope says of each side, and what all targets

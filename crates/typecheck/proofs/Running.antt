@@ -3,9 +3,10 @@ use mathlib.Core.Path.{_≡_, refl, sym, ap, _∙_}
 use mathlib.Core.Bool.{Bool, true, false, true≢false}
 use mathlib.Core.List.{List, [], _∷_}
 use mathlib.Core.Option.{Option, none, some}
-use Prim.Native.Nat.{ℕ, _+_, _-_, _≤_, _<_}
+use Prim.Native.Nat.{ℕ, _+_, _-_, _%_, _≤_, _<_}
 use native.Mathlib.Omega.{arith}
 use borrow.Author.Needs.{needs}
+use borrow.Author.Tests.{ne-eqb}
 use lib.ListN.{length, drop, drop-of-length-le}
 use lib.Seq.{length-take-le}
 use Rattle.names.specs.Lists.{maybe, gather}
@@ -15,6 +16,10 @@ use Rattle.names.specs.declared.Read.{Read}
 use Rattle.names.specs.declared.Read.the-variants as Read
 use Rattle.names.specs.Laws.Readers.{accept, passes, refused-by, refuses}
 use Rattle.names.specs.Laws.Rows.{listed-first, listed-over}
+use Rattle.types.specs.Types as types
+use Rattle.types.specs.Meaning.{profileIn}
+use Rattle.types.specs.declared.Profile.{Profile}
+use Rattle.types.specs.declared.Profile.the-variants as Profile
 use Rattle.schema.specs.Schema.{Schema, Action, schemaRecord}
 use Rattle.schema.specs.Find.{findAction}
 use Rattle.schema.specs.Places.{isSchema, schemaIn, isAction, actionIn, foundIn, foundStands, FindsAction, ActionsOf}
@@ -44,7 +49,7 @@ use Rattle.terms.specs.Terms.{factsOf}
 use Rattle.terms.specs.Facts.{factsIn, Ready, Known, FactsOf}
 use Rattle.terms.specs.Laws.Facts.{facts-mean}
 use Rattle.rules.specs.Rules.{nodeBreaches}
-use Rattle.typecheck.specs.Check.{breachesUnder, checked, check}
+use Rattle.typecheck.specs.Check.{profileOf, breachesUnder, checked, checkWith, check}
 use Rattle.typecheck.specs.Run.{Accepted, ReadAs, underBreaches, UnderKnown, UnderHere}
 use Rattle.typecheck.specs.declared.Records.{Records}
 use Rattle.typecheck.specs.declared.Records.the-variants as Records
@@ -97,14 +102,14 @@ module _ (s n : List ℕ) (found : Found) (p : ℕ) (e : found ≡ Found.At p) w
 
 pub ruleset whether-checked = (needs, action-stands, admitted)
 
-module _ (s : Schema) (c : Condition) (scope : Scope) (t : Target) where
+module _ (p : types.Profile) (s : Schema) (c : Condition) (scope : Scope) (t : Target) where
   under-checked : (o : Option Action) → o ≡ findAction s (t .namespace) (t .id) → maybe true (admitsAnyEnv s scope) o ≡ true
-      → gather (nodeBreaches (factsOf s c scope o)) (reached c) ≡ breachesUnder s c scope t
+      → gather (nodeBreaches (factsOf p s c scope o)) (reached c) ≡ breachesUnder p s c scope t
   unfolding breachesUnder
   under-checked none e h = rw (← e)
   under-checked (some a) e h = rw (← e, h)
 
-  under-skips : (o : Option Action) → o ≡ findAction s (t .namespace) (t .id) → maybe true (admitsAnyEnv s scope) o ≡ false → [] ≡ breachesUnder s c scope t
+  under-skips : (o : Option Action) → o ≡ findAction s (t .namespace) (t .id) → maybe true (admitsAnyEnv s scope) o ≡ false → [] ≡ breachesUnder p s c scope t
   unfolding breachesUnder
   under-skips none e h = absurd (true≢false h)
   under-skips (some a) e h = rw (← e, h)
@@ -117,13 +122,13 @@ module _ (s n : List ℕ) (at : ℕ) (w : List ℕ) (is-w : w ≡ targetIn n at 
   pub target-checked : b ≡ true → (f : Facts) → FactsOf n x common f → UnderHere s n common at (Checked f)
   target-checked h f k = record {
     known = λ c env r. record { ready = rw (k .shared) r; action = rw (k .action) (finds .stands) };
-    value = λ c. rw (facts-mean s c n x common f k) (under-checked (schemaIn s) (recordIn c) (targetsIn n .scope) (targetIn n at) (foundIn (actionIn s) x) looked-up (sym is-b ∙ h));
+    value = λ c. rw (facts-mean s c n x common f k) (under-checked (profileIn (common .profile)) (schemaIn s) (recordIn c) (targetsIn n .scope) (targetIn n at) (foundIn (actionIn s) x) looked-up (sym is-b ∙ h));
   }
 
   pub target-skipped : b ≡ false → UnderHere s n common at Skipped
   target-skipped h = record {
     known = λ c env r. tt;
-    value = λ c. under-skips (schemaIn s) (recordIn c) (targetsIn n .scope) (targetIn n at) (foundIn (actionIn s) x) looked-up (sym is-b ∙ h);
+    value = λ c. under-skips (profileIn (common .profile)) (schemaIn s) (recordIn c) (targetsIn n .scope) (targetIn n at) (foundIn (actionIn s) x) looked-up (sym is-b ∙ h);
   }
 
 pub ruleset one-target = (needs, target-checked, target-skipped)
@@ -155,27 +160,27 @@ module _ (s c n : List ℕ) (common : Common) (at : ℕ) (x : Under) (h : UnderH
   pub target-known : (env : List ℕ) → Ready s c env common → UnderKnown s c env x
   target-known env r = h .known c env r
 
-  pub target-turn : (rest : ℕ) {all : Sink} {now next table table′ : List ℕ} {st r : State} → TargetsLeft (breachesUnder (schemaIn s) (recordIn c) (targetsIn n .scope)) n all (sink now st) table rest at → 0 < rest → Pushed now st (underBreaches s c n x) next r table′
-      → (m : ℕ) → Read.Next m ≡ ending (target n at) → TargetsLeft (breachesUnder (schemaIn s) (recordIn c) (targetsIn n .scope)) n all (sink next r) table′ (rest - 1) m
-  target-turn rest l p e m g = targets-turn (breachesUnder (schemaIn s) (recordIn c) (targetsIn n .scope)) n rest at l p (rw (h .value c) at e) m g
+  pub target-turn : (rest : ℕ) {all : Sink} {now next table table′ : List ℕ} {st r : State} → TargetsLeft (breachesUnder (profileIn (common .profile)) (schemaIn s) (recordIn c) (targetsIn n .scope)) n all (sink now st) table rest at → 0 < rest → Pushed now st (underBreaches s c n x) next r table′
+      → (m : ℕ) → Read.Next m ≡ ending (target n at) → TargetsLeft (breachesUnder (profileIn (common .profile)) (schemaIn s) (recordIn c) (targetsIn n .scope)) n all (sink next r) table′ (rest - 1) m
+  target-turn rest l p e m g = targets-turn (breachesUnder (profileIn (common .profile)) (schemaIn s) (recordIn c) (targetsIn n .scope)) n rest at l p (rw (h .value c) at e) m g
 
 pub ruleset each-target = (needs, targets-begin, targets-over, targets-stand, target-known, target-turn)
 
 -- ---- the records
 
-pub all-checked : (s : Schema) (c : Condition) (ts : Targets) (b : List ℕ) {t table : List ℕ} {st : State} → Pushed b sinks.none (gather (breachesUnder s c (ts .scope)) (ts .list)) t st table → {r : Answer} → Answers st r → outcomeOf r t ≡ checked s c ts b
+pub all-checked : (p : types.Profile) (s : Schema) (c : Condition) (ts : Targets) (b : List ℕ) {t table : List ℕ} {st : State} → Pushed b sinks.none (gather (breachesUnder p s c (ts .scope)) (ts .list)) t st table → {r : Answer} → Answers st r → outcomeOf r t ≡ checked p s c ts b
 unfolding checked
-all-checked s c ts b e a = pushed b (gather (breachesUnder s c (ts .scope)) (ts .list)) e a
+all-checked p s c ts b e a = pushed b (gather (breachesUnder p s c (ts .scope)) (ts .list)) e a
 
-pub all-ready : (s c n env : List ℕ) (row : Row) → Accepted s c n → Environment c (binders (recordIn c)) env → ActionsOf s row → Ready s c env (record { actions = row })
-all-ready s c n env row a e g = record { schema = a .schema; condition = a .condition; named = e; actions = g }
+pub all-ready : (s c n env : List ℕ) (row : Row) (p : Profile) → Accepted s c n → Environment c (binders (recordIn c)) env → ActionsOf s row → Ready s c env (record { actions = row; profile = p })
+all-ready s c n env row p a e g = record { schema = a .schema; condition = a .condition; named = e; actions = g }
 
 pub ruleset indexed = (needs, length-take-le, lent-start, all-ready, all-checked)
 
 module _ (s c n : List ℕ) (x : Read) (is-x : x ≡ ending (whole schemaRecord s)) where
   pub schema-refused : (r : ℕ) → x ≡ Read.Refused r → (k : ℕ) → k ≡ readNumber x → ReadAs s c n (Records.Refused k 1)
-  unfolding check
-  schema-refused r e k f b = rw (refused-by (whole schemaRecord s) x r is-x e, ← refuses e f)
+  unfolding checkWith
+  schema-refused r e k f rules b = rw (refused-by (whole schemaRecord s) x r is-x e, ← refuses e f)
 
   module _ (p : ℕ) (e : x ≡ Read.Next p) where
     schema-read : isSchema s ≡ true
@@ -183,8 +188,8 @@ module _ (s c n : List ℕ) (x : Read) (is-x : x ≡ ending (whole schemaRecord 
 
     module _ (y : Read) (is-y : y ≡ ending (whole conditionRecord c)) where
       pub condition-refused : (r : ℕ) → y ≡ Read.Refused r → (k : ℕ) → k ≡ readNumber y → ReadAs s c n (Records.Refused k 2)
-      unfolding check
-      condition-refused r d k f b =
+      unfolding checkWith
+      condition-refused r d k f rules b =
           let g = accept (whole schemaRecord s) schema-read in
           rw (g .read, refused-by (whole conditionRecord c) y r is-y d, ← refuses d f)
 
@@ -194,8 +199,8 @@ module _ (s c n : List ℕ) (x : Read) (is-x : x ≡ ending (whole schemaRecord 
 
         module _ (z : Read) (is-z : z ≡ ending (whole targetRecord n)) where
           pub targets-refused : (r : ℕ) → z ≡ Read.Refused r → (k : ℕ) → k ≡ readNumber z → ReadAs s c n (Records.Refused k 3)
-          unfolding check
-          targets-refused r d k f b =
+          unfolding checkWith
+          targets-refused r d k f rules b =
               let g = accept (whole schemaRecord s) schema-read in
               let h = accept (whole conditionRecord c) condition-read in
               rw (g .read, h .read, refused-by (whole targetRecord n) z r is-z d, ← refuses d f)
@@ -205,29 +210,50 @@ module _ (s c n : List ℕ) (x : Read) (is-x : x ≡ ending (whole schemaRecord 
 
 pub ruleset reading = (needs, schema-refused, condition-refused, targets-refused, records-read)
 
--- what was read is checked, or the refusal is answered
-module _ (s c n b : List ℕ) (x : Records) (is : ReadAs s c n x) where
-  pub refused-records : (k w : ℕ) → x ≡ Records.Refused k w → (a : Answer) → Refuses k w a → outcomeOf a b ≡ check s c n b
-  refused-records k w e a r = r .is b ∙ (rw e at is) b
+-- the profile that the rules choose
+module _ (rules : ℕ) where
+  pub chosen-strict : rules % 2 ≡ 1 → profileIn Profile.Strict ≡ profileOf rules
+  unfolding profileOf
+  chosen-strict h = rw h
 
+  pub chosen-plain : (rules % 2 ≡ 1 → ⊥) → profileIn Profile.Plain ≡ profileOf rules
+  unfolding profileOf
+  chosen-plain h = rw (ne-eqb (rules % 2) 1 h)
+
+pub ruleset choosing = (needs, chosen-strict, chosen-plain)
+
+-- what was read is checked, or the refusal is answered: with rules, and with none
+module _ (s c n b : List ℕ) (x : Records) (is : ReadAs s c n x) where
   pub accepted-records : x ≡ Records.Read → Accepted s c n
   accepted-records e = rw e at is
 
-  pub records-checked : x ≡ Records.Read → (a : Answer) (t : List ℕ) → outcomeOf a t ≡ checked (schemaIn s) (recordIn c) (targetsIn n) b → outcomeOf a t ≡ check s c n b
-  unfolding check valueOr recordIn
-  records-checked e a t i =
-      let r = accepted-records e in
-      let u = accept (whole schemaRecord s) (r .schema) in
-      let v = accept (whole conditionRecord c) (r .condition) in
-      let w = accept (whole targetRecord n) (r .targets) in
-      i ∙ rw (u .read, v .read, w .read)
+  module _ (rules : ℕ) where
+    pub refused-records : (k w : ℕ) → x ≡ Records.Refused k w → (a : Answer) → Refuses k w a → outcomeOf a b ≡ checkWith rules s c n b
+    refused-records k w e a r = r .is b ∙ (rw e at is) rules b
+
+    pub records-checked : x ≡ Records.Read → (p : Profile) → profileIn p ≡ profileOf rules → (a : Answer) (t : List ℕ) → outcomeOf a t ≡ checked (profileIn p) (schemaIn s) (recordIn c) (targetsIn n) b → outcomeOf a t ≡ checkWith rules s c n b
+    unfolding checkWith valueOr recordIn
+    records-checked e p h a t i =
+        let r = accepted-records e in
+        let u = accept (whole schemaRecord s) (r .schema) in
+        let v = accept (whole conditionRecord c) (r .condition) in
+        let w = accept (whole targetRecord n) (r .targets) in
+        i ∙ rw (h, u .read, v .read, w .read)
+
+  pub refused-plain : (k w : ℕ) → x ≡ Records.Refused k w → (a : Answer) → Refuses k w a → outcomeOf a b ≡ check s c n b
+  unfolding check
+  refused-plain k w e a r = refused-records 0 k w e a r
+
+  pub plain-checked : x ≡ Records.Read → (a : Answer) (t : List ℕ) → outcomeOf a t ≡ checked types.plain (schemaIn s) (recordIn c) (targetsIn n) b → outcomeOf a t ≡ check s c n b
+  unfolding check profileOf
+  plain-checked e a t i = records-checked 0 e Profile.Plain refl a t i
 
 -- the workspace
 pub spared-refused : (a : Answer) (table : List ℕ) → Spared a table table
 spared-refused a table = record { same = λ h. refl }
 
-pub spared-checked : (s : Schema) (c : Condition) (ts : Targets) (b : List ℕ) (a : Answer) (t : List ℕ) → outcomeOf a t ≡ checked s c ts b → (old new : List ℕ) → Spared a old new
+pub spared-checked : (p : types.Profile) (s : Schema) (c : Condition) (ts : Targets) (b : List ℕ) (a : Answer) (t : List ℕ) → outcomeOf a t ≡ checked p s c ts b → (old new : List ℕ) → Spared a old new
 unfolding outcomeOf checked reported
-spared-checked s c ts b a t e old new = record { same = λ h. absurd (h (ap (λ (o : Outcome). o .answer .recordNumber) e)) }
+spared-checked p s c ts b a t e old new = record { same = λ h. absurd (h (ap (λ (o : Outcome). o .answer .recordNumber) e)) }
 
-pub ruleset answering = (needs, zeros-empty, refused-records, accepted-records, records-checked, spared-refused, spared-checked)
+pub ruleset answering = (needs, zeros-empty, accepted-records, refused-records, records-checked, refused-plain, plain-checked, spared-refused, spared-checked)

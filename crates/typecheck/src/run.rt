@@ -9,9 +9,12 @@ use reports::refused;
 use schema::Namespace;
 use terms::Common;
 use terms::Facts;
+use types::Profile;
 ghost use mathlib.Core.Path.{_≡_};
 ghost use mathlib.Core.Bool.{true};
 ghost use Rattle.names.specs.Lists.{maybe};
+ghost use Rattle.types.specs.Types.{plain};
+ghost use Rattle.types.specs.Meaning.{profileIn};
 ghost use Rattle.schema.specs.Places.{isSchema, schemaIn, isAction, actionIn, foundIn, foundStands, ActionsOf};
 ghost use Rattle.targets.specs.Places.{areTargets, targetsIn, isTarget};
 ghost use Rattle.condition.specs.Places.{recordIn};
@@ -21,7 +24,7 @@ ghost use Rattle.reports.specs.Sink.{sink};
 ghost use Rattle.reports.specs.Slots.{Lent, Pushed, Empty};
 ghost use Rattle.reports.specs.Answers.{outcomeOf, Spared};
 ghost use Rattle.terms.specs.Facts.{Ready, Known};
-ghost use Rattle.typecheck.specs.Check.{checked, check};
+ghost use Rattle.typecheck.specs.Check.{profileOf, checked, checkWith, check};
 ghost use Rattle.typecheck.specs.Run.{Accepted, ReadAs, underBreaches, UnderKnown, UnderHere, allBreaches};
 
 // The reached nodes under the facts of a target.
@@ -134,7 +137,7 @@ fn all_targets<'a>(
     requires { ⌜ Ready (now schema) (now condition) (now env) common ⌝ }
     requires { ⌜ areTargets (now targets) ≡ true ⌝ }
     requires { ⌜ Index (now condition) (now places) ⌝ }
-    ensures { λ after. ⌜ Pushed (now (buf .entry)) state (allBreaches (now (schema .entry)) (now (condition .entry)) (now (targets .entry))) (now (buf .exit)) after (now (table .exit)) ⌝ }
+    ensures { λ after. ⌜ Pushed (now (buf .entry)) state (allBreaches (profileIn (common .profile)) (now (schema .entry)) (now (condition .entry)) (now (targets .entry))) (now (buf .exit)) after (now (table .exit)) ⌝ }
 {
     let mut now = state;
     let mut rest = targets::count(targets);
@@ -166,16 +169,18 @@ fn over_places<'a>(
     condition: &'a [u8],
     targets: &[u8],
     places: &[u16],
+    profile: Profile,
 ) -> Answer
     requires { ⌜ Accepted (now schema) (now condition) (now targets) ⌝ }
     requires { ⌜ Index (now condition) (now places) ⌝ }
     requires { ⌜ Empty (now table) ⌝ }
-    ensures { λ r. ⌜ outcomeOf r (now (buf .exit)) ≡ checked (schemaIn (now (schema .entry))) (recordIn (now (condition .entry))) (targetsIn (now (targets .entry))) (now (buf .entry)) ⌝ }
+    ensures { λ r. ⌜ outcomeOf r (now (buf .exit)) ≡ checked (profileIn profile) (schemaIn (now (schema .entry))) (recordIn (now (condition .entry))) (targetsIn (now (targets .entry))) (now (buf .entry)) ⌝ }
 {
     let mut binders = [0u16; 10921];
     let n = walk::environment(condition, places, &mut binders);
     let common = Common {
         actions: schema::actions(schema),
+        profile,
     };
     let none = State {
         used: 0,
@@ -203,14 +208,23 @@ fn checked<'a>(
     schema: &'a [u8],
     condition: &'a [u8],
     targets: &[u8],
+    profile: Profile,
 ) -> Answer
     requires { ⌜ Accepted (now schema) (now condition) (now targets) ⌝ }
     requires { ⌜ Empty (now table) ⌝ }
-    ensures { λ r. ⌜ outcomeOf r (now (buf .exit)) ≡ checked (schemaIn (now (schema .entry))) (recordIn (now (condition .entry))) (targetsIn (now (targets .entry))) (now (buf .entry)) ⌝ }
+    ensures { λ r. ⌜ outcomeOf r (now (buf .exit)) ≡ checked (profileIn profile) (schemaIn (now (schema .entry))) (recordIn (now (condition .entry))) (targetsIn (now (targets .entry))) (now (buf .entry)) ⌝ }
 {
     let mut places = [0u16; 3641];
     let n = walk::index_record(condition, &mut places);
-    over_places(buf, table, schema, condition, targets, &places[..n])
+    over_places(
+        buf,
+        table,
+        schema,
+        condition,
+        targets,
+        &places[..n],
+        profile,
+    )
 }
 
 // The records, read in their order: the first refusal stands.
@@ -232,7 +246,17 @@ fn read_records(schema: &[u8], condition: &[u8], targets: &[u8]) -> Records
     Records::Read
 }
 
-// The check of a schema, a condition and a target record, into a lent buffer. The table is its own, for as many reports as a rule's writer looks at.
+// The profile that a caller's rules choose: bit 0 is strict, and no other bit has an effect.
+fn profile_of(rules: u8) -> Profile
+    ensures { λ r. ⌜ profileIn r ≡ profileOf rules ⌝ }
+{
+    if rules % 2 == 1 {
+        return Profile::Strict;
+    }
+    Profile::Plain
+}
+
+// The check of a schema, a condition and a target record, into a lent buffer, with no rules. The table is its own, for as many reports as a rule's writer looks at.
 pub fn check<'a>(schema: &'a [u8], condition: &'a [u8], targets: &[u8], buf: &mut [u8]) -> Answer
     ensures { λ r. ⌜ outcomeOf r (now (buf .exit)) ≡ check (now (schema .entry)) (now (condition .entry)) (now (targets .entry)) (now (buf .entry)) ⌝ }
 {
@@ -241,18 +265,19 @@ pub fn check<'a>(schema: &'a [u8], condition: &'a [u8], targets: &[u8], buf: &mu
         return refused(number, which);
     }
     let mut table = [0u32; 2048];
-    checked(buf, &mut table, schema, condition, targets)
+    checked(buf, &mut table, schema, condition, targets, Profile::Plain)
 }
 
-// The same with a table that is lent, of any size and contents: it is of no use to the caller afterwards, and as it was where a record is refused.
+// The same with rules, and with a table that is lent, of any size and contents: it is of no use to the caller afterwards, and as it was where a record is refused.
 pub fn check_with<'a>(
+    rules: u8,
     schema: &'a [u8],
     condition: &'a [u8],
     targets: &[u8],
     buf: &mut [u8],
     table: &mut [u32],
 ) -> Answer
-    ensures { λ r. ⌜ outcomeOf r (now (buf .exit)) ≡ check (now (schema .entry)) (now (condition .entry)) (now (targets .entry)) (now (buf .entry)) ⌝ }
+    ensures { λ r. ⌜ outcomeOf r (now (buf .exit)) ≡ checkWith rules (now (schema .entry)) (now (condition .entry)) (now (targets .entry)) (now (buf .entry)) ⌝ }
     ensures { λ r. ⌜ Spared r (now (table .entry)) (now (table .exit)) ⌝ }
 {
     let records = read_records(schema, condition, targets);
@@ -260,5 +285,6 @@ pub fn check_with<'a>(
         return refused(number, which);
     }
     reports::clear(table);
-    checked(buf, table, schema, condition, targets)
+    let profile = profile_of(rules);
+    checked(buf, table, schema, condition, targets, profile)
 }

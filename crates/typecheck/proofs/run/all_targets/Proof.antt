@@ -4,6 +4,7 @@ use native.Mathlib.Omega.{arith}
 use borrow.Author.Needs.{needs}
 use lib.ListN.{length}
 use Rattle.names.specs.Lists.{gather}
+use Rattle.types.specs.Meaning.{profileIn}
 use Rattle.schema.specs.Places.{schemaIn}
 use Rattle.targets.specs.Places.{targetsIn}
 use Rattle.condition.specs.Places.{recordIn}
@@ -16,7 +17,7 @@ use Rattle.typecheck.proofs.run.all_targets.Tie as tie
 abbrev Inv-loop : tie.InvT-loop
 Inv-loop buf₀ table₀ schema condition targets places env common now₀ rest₀ at₀ buf table now rest at =
     (length buf ≡ length buf₀) × (length table ≡ length table₀)
-    × TargetsLeft (breachesUnder (schemaIn schema) (recordIn condition) (targetsIn targets .scope)) targets (pushAll (sink buf₀ now₀) (gather (breachesUnder (schemaIn schema) (recordIn condition) (targetsIn targets .scope)) (targetsIn targets .list))) (sink buf now) table rest at
+    × TargetsLeft (breachesUnder (profileIn (common .profile)) (schemaIn schema) (recordIn condition) (targetsIn targets .scope)) targets (pushAll (sink buf₀ now₀) (gather (breachesUnder (profileIn (common .profile)) (schemaIn schema) (recordIn condition) (targetsIn targets .scope)) (targetsIn targets .list))) (sink buf now) table rest at
 
 abbrev μ-loop : tie.MeasureT-loop
 μ-loop buf₀ table₀ schema condition targets places env common now₀ rest₀ at₀ buf table now rest at = rest

@@ -14,6 +14,7 @@ check-with-spec =
     (λ c. search answering)
     (λ c κs. search answering)
     (λ c κs. search answering)
+    (λ c κs. search answering)
     (λ c. search answering)
     (λ c. search answering)
     (λ c. (search answering, search answering)))
