@@ -10,6 +10,7 @@ use mathlib.Core.Option.{Option, none, some}
 use lib.ListN.{length, drop}
 use Rattle.names.specs.Lists.{maybe, gather}
 use Rattle.names.specs.Laws.Lists.{gather-append}
+use Rattle.types.specs.Types.{Profile}
 use Rattle.schema.specs.Schema.{Schema, Action}
 use Rattle.schema.specs.Find.{findAction}
 use Rattle.condition.specs.Condition.{Condition}
@@ -24,7 +25,7 @@ use Rattle.reports.specs.Laws.Sets.{in-left, in-right, in-append, length-same}
 use Rattle.reports.specs.Pairs.{_∈_, NoDup, Same, Pair, pairOf, pairs, space}
 use Rattle.terms.specs.Terms.{factsOf}
 use Rattle.rules.specs.Rules.{nodeBreaches}
-use Rattle.typecheck.specs.Check.{breachesUnder, checked, check}
+use Rattle.typecheck.specs.Check.{profileOf, breachesUnder, checked, checkWith}
 use Rattle.claims.specs.Written.{written}
 use Rattle.claims.specs.Breaches.{Accepted, isChecked, BreachUnder, BreachOf, PairOf, Different, SpaceForAll, Run, reportedPairs, Shared, Exact, under, Alone, Taken, RunOf, Counts, Joined, Alike, Claim}
 use Rattle.claims.proofs.Written.{no-other, front-accepted, behind-accepted}
@@ -68,20 +69,20 @@ in-pairs (x ∷ bs) b (inr h) = inr (in-pairs bs b h)
 
 -- ---- the breaches of the rules, as a list
 
-module _ (s : Schema) (c : Condition) (scope : Scope) (t : Target) (b : Breach) where
+module _ (p : Profile) (s : Schema) (c : Condition) (scope : Scope) (t : Target) (b : Breach) where
   underAction : (action : Option Action) → Type 0
-  underAction action = Source (nodeBreaches (factsOf s c scope action)) (reached c) b
+  underAction action = Source (nodeBreaches (factsOf p s c scope action)) (reached c) b
 
   -- by what the schema says of the target
   judged : (o : Option Action) → List Breach
-  judged o = maybe (gather (nodeBreaches (factsOf s c scope none)) (reached c)) (λ a. cond (admitsAnyEnv s scope a) (gather (nodeBreaches (factsOf s c scope (some a))) (reached c)) []) o
+  judged o = maybe (gather (nodeBreaches (factsOf p s c scope none)) (reached c)) (λ a. cond (admitsAnyEnv s scope a) (gather (nodeBreaches (factsOf p s c scope (some a))) (reached c)) []) o
 
   from-rules : (o : Option Action) → b ∈ judged o → (maybe true (admitsAnyEnv s scope) o ≡ true) × underAction o
   unfolding judged underAction
   from-rules none h = (refl, source _ (reached c) b h)
   from-rules (some a) h = go (admitsAnyEnv s scope a) h
     where
-      go : (q : Bool) → b ∈ cond q (gather (nodeBreaches (factsOf s c scope (some a))) (reached c)) [] → (q ≡ true) × Source (nodeBreaches (factsOf s c scope (some a))) (reached c) b
+      go : (q : Bool) → b ∈ cond q (gather (nodeBreaches (factsOf p s c scope (some a))) (reached c)) [] → (q ≡ true) × Source (nodeBreaches (factsOf p s c scope (some a))) (reached c) b
       go true h = (refl, source _ (reached c) b h)
       go false h = absurd h
 
@@ -91,78 +92,78 @@ module _ (s : Schema) (c : Condition) (scope : Scope) (t : Target) (b : Breach) 
   by-rules (some a) e r = rw e (gathered _ (reached c) b (r .own) (r .listed) (r .gives))
 
 -- all breaches of a run, in its order
-abbrev pub breaches : Schema → Condition → Targets → List Breach
-breaches s c ts = gather (breachesUnder s c (ts .scope)) (ts .list)
+abbrev pub breaches : ℕ → Schema → Condition → Targets → List Breach
+breaches rules s c ts = gather (breachesUnder (profileOf rules) s c (ts .scope)) (ts .list)
 
-module _ (s : Schema) (c : Condition) (ts : Targets) where
-  is-breach : (b : Breach) → b ∈ breaches s c ts → BreachOf s c ts b
+module _ (rules : ℕ) (s : Schema) (c : Condition) (ts : Targets) where
+  is-breach : (b : Breach) → b ∈ breaches rules s c ts → BreachOf rules s c ts b
   unfolding breachesUnder isChecked judged underAction
   is-breach b h =
-      let r = source (breachesUnder s c (ts .scope)) (ts .list) b h in
+      let r = source (breachesUnder (profileOf rules) s c (ts .scope)) (ts .list) b h in
       let t = r .own in
-      let i = from-rules s c (ts .scope) t b (findAction s (t .namespace) (t .id)) (r .gives) in
+      let i = from-rules (profileOf rules) s c (ts .scope) t b (findAction s (t .namespace) (t .id)) (r .gives) in
       record { target = t; listed = r .listed; checked = i .0; breach = record { node = i .1 .own; isReached = i .1 .listed; breaks = i .1 .gives } }
 
-  breach-in : (b : Breach) → BreachOf s c ts b → b ∈ breaches s c ts
+  breach-in : (b : Breach) → BreachOf rules s c ts b → b ∈ breaches rules s c ts
   unfolding breachesUnder isChecked judged underAction
   breach-in b r =
       let t = r .target in
-      gathered (breachesUnder s c (ts .scope)) (ts .list) b t (r .listed)
-      (by-rules s c (ts .scope) t b (findAction s (t .namespace) (t .id)) (r .checked) (record { own = r .breach .node; listed = r .breach .isReached; gives = r .breach .breaks }))
+      gathered (breachesUnder (profileOf rules) s c (ts .scope)) (ts .list) b t (r .listed)
+      (by-rules (profileOf rules) s c (ts .scope) t b (findAction s (t .namespace) (t .id)) (r .checked) (record { own = r .breach .node; listed = r .breach .isReached; gives = r .breach .breaks }))
 
-  pair-of : (k : Pair) → (k ∈ pairs (breaches s c ts)) ↔ PairOf s c ts k
+  pair-of : (k : Pair) → (k ∈ pairs (breaches rules s c ts)) ↔ PairOf rules s c ts k
   pair-of k = (
-    (λ h. let r = of-list (breaches s c ts) k h in record { breach = r .breach; pair = r .pair; isBreach = is-breach (r .breach) (r .listed) }),
-    (λ r. subst (λ (j : Pair). j ∈ pairs (breaches s c ts)) (sym (r .pair)) (in-pairs (breaches s c ts) (r .breach) (breach-in (r .breach) (r .isBreach)))),
+    (λ h. let r = of-list (breaches rules s c ts) k h in record { breach = r .breach; pair = r .pair; isBreach = is-breach (r .breach) (r .listed) }),
+    (λ r. subst (λ (j : Pair). j ∈ pairs (breaches rules s c ts)) (sym (r .pair)) (in-pairs (breaches rules s c ts) (r .breach) (breach-in (r .breach) (r .isBreach)))),
   )
 
   -- the pairs that a run reports are the different ones
-  different : Different s c ts (pairs (once [] (breaches s c ts)))
+  different : Different rules s c ts (pairs (once [] (breaches rules s c ts)))
   different =
       record {
-        each = laws.no-repeats (breaches s c ts);
-        all = λ k. ((λ h. pair-of k .0 (laws.members (breaches s c ts) k .0 h)), (λ h. laws.members (breaches s c ts) k .1 (pair-of k .1 h)));
+        each = laws.no-repeats (breaches rules s c ts);
+        all = λ k. ((λ h. pair-of k .0 (laws.members (breaches rules s c ts) k .0 h)), (λ h. laws.members (breaches rules s c ts) k .1 (pair-of k .1 h)));
       }
 
 -- ---- demand 3
 
-no-breach : (s : Schema) (c : Condition) (ts : Targets) → (breaches s c ts ≡ []) ↔ ((b : Breach) → BreachOf s c ts b → ⊥)
-no-breach s c ts = ((λ e b r. subst (λ (l : List Breach). b ∈ l) e (breach-in s c ts b r)), (λ f. go (breaches s c ts) (λ b h. f b (is-breach s c ts b h))))
+no-breach : (rules : ℕ) (s : Schema) (c : Condition) (ts : Targets) → (breaches rules s c ts ≡ []) ↔ ((b : Breach) → BreachOf rules s c ts b → ⊥)
+no-breach rules s c ts = ((λ e b r. subst (λ (l : List Breach). b ∈ l) e (breach-in rules s c ts b r)), (λ f. go (breaches rules s c ts) (λ b h. f b (is-breach rules s c ts b h))))
   where
     go : (l : List Breach) → ((b : Breach) → b ∈ l → ⊥) → l ≡ []
     go [] f = refl
     go (b ∷ l) f = absurd (f b (inl refl))
 
-module _ (schemaBytes conditionBytes : List ℕ) (s : Schema) (c : Condition) where
+module _ (rules : ℕ) (schemaBytes conditionBytes : List ℕ) (s : Schema) (c : Condition) where
   -- what a run over accepted records leaves is given by its breaches
-  module _ (targetBytes : List ℕ) (ts : Targets) (is : Accepted schemaBytes conditionBytes targetBytes s c ts) (r : Run schemaBytes conditionBytes targetBytes) where
+  module _ (targetBytes : List ℕ) (ts : Targets) (is : Accepted schemaBytes conditionBytes targetBytes s c ts) (r : Run rules schemaBytes conditionBytes targetBytes) where
     abbrev left : Outcome
     left = outcomeOf (r .answer) (r .after)
 
-    runs : left ≡ reported (once [] (breaches s c ts)) (r .before)
-    unfolding check checked
+    runs : left ≡ reported (once [] (breaches rules s c ts)) (r .before)
+    unfolding checkWith checked
     runs = r .contract ∙ rw (is .schema, is .condition, is .targets)
 
-  enough : (ts : Targets) (buffer : List ℕ) → SpaceForAll s c ts buffer → space (pairs (once [] (breaches s c ts))) ≤ length buffer
-  enough ts buffer room = room .room _ (different s c ts)
+  enough : (ts : Targets) (buffer : List ℕ) → SpaceForAll rules s c ts buffer → space (pairs (once [] (breaches rules s c ts))) ≤ length buffer
+  enough ts buffer room = room .room _ (different rules s c ts)
 
-  pub alone : Alone schemaBytes conditionBytes s c
+  pub alone : Alone rules schemaBytes conditionBytes s c
   unfolding outcomeOf
   alone targetBytes ts is r room =
       let o = left targetBytes ts is r in
-      let bs = breaches s c ts in
+      let bs = breaches rules s c ts in
       let run = runs targetBytes ts is r in
       let fits = enough ts (r .before) room in
       let zero = laws.run-none bs (r .before) o run fits in
-      let empty = no-breach s c ts in
+      let empty = no-breach rules s c ts in
       record {
         number = laws.run-zero bs (r .before) o run fits;
         pairs =
             record {
               each = laws.run-once bs (r .before) o run fits;
-              all = λ k. ((λ h. pair-of s c ts k .0 (laws.run-members bs (r .before) o run fits k .0 h)), (λ h. laws.run-members bs (r .before) o run fits k .1 (pair-of s c ts k .1 h)));
+              all = λ k. ((λ h. pair-of rules s c ts k .0 (laws.run-members bs (r .before) o run fits k .0 h)), (λ h. laws.run-members bs (r .before) o run fits k .1 (pair-of rules s c ts k .1 h)));
             };
-        count = λ ps d. laws.run-count bs (r .before) o run fits ps (d .each) (λ k. ((λ h. pair-of s c ts k .1 (d .all k .0 h)), (λ h. d .all k .1 (pair-of s c ts k .0 h))));
+        count = λ ps d. laws.run-count bs (r .before) o run fits ps (d .each) (λ k. ((λ h. pair-of rules s c ts k .1 (d .all k .0 h)), (λ h. d .all k .1 (pair-of rules s c ts k .0 h))));
         none = ((λ e. empty .0 (zero .0 e)), (λ f. zero .1 (empty .1 f)));
         rest = laws.run-rest bs (r .before) o run fits;
       }
@@ -178,13 +179,13 @@ module _ (schemaBytes conditionBytes : List ℕ) (s : Schema) (c : Condition) wh
     abbrev AB : Targets
     AB = under scope (front ++ behind)
 
-    counts : Taken schemaBytes conditionBytes s c A → Taken schemaBytes conditionBytes s c B → Taken schemaBytes conditionBytes s c AB
-        → (a : RunOf schemaBytes conditionBytes s c A) (b : RunOf schemaBytes conditionBytes s c B) (ab : RunOf schemaBytes conditionBytes s c AB)
-        → SpaceForAll s c A (a .before) → SpaceForAll s c B (b .before) → SpaceForAll s c AB (ab .before) → Counts schemaBytes conditionBytes s c A B AB a b ab
+    counts : Taken rules schemaBytes conditionBytes s c A → Taken rules schemaBytes conditionBytes s c B → Taken rules schemaBytes conditionBytes s c AB
+        → (a : RunOf rules schemaBytes conditionBytes s c A) (b : RunOf rules schemaBytes conditionBytes s c B) (ab : RunOf rules schemaBytes conditionBytes s c AB)
+        → SpaceForAll rules s c A (a .before) → SpaceForAll rules s c B (b .before) → SpaceForAll rules s c AB (ab .before) → Counts rules schemaBytes conditionBytes s c A B AB a b ab
     unfolding outcomeOf
     counts isA isB isAB a b ab roomA roomB roomAB =
-        let xs = breaches s c A in
-        let ys = breaches s c B in
+        let xs = breaches rules s c A in
+        let ys = breaches rules s c B in
         let oA = left (written A) A isA a in
         let oB = left (written B) B isB b in
         let oAB = left (written AB) AB isAB ab in
@@ -192,7 +193,7 @@ module _ (schemaBytes conditionBytes : List ℕ) (s : Schema) (c : Condition) wh
         let runB = runs (written B) B isB b in
         let fitA = enough A (a .before) roomA in
         let fitB = enough B (b .before) roomB in
-        let one : breaches s c AB ≡ xs ++ ys = gather-append (breachesUnder s c scope) front behind in
+        let one : breaches rules s c AB ≡ xs ++ ys = gather-append (breachesUnder (profileOf rules) s c scope) front behind in
         let runAB : oAB ≡ reported (once [] (xs ++ ys)) (ab .before) = runs (written AB) AB isAB ab ∙ ap (λ (l : List Breach). reported (once [] l) (ab .before)) one in
         let fitAB : space (pairs (once [] (xs ++ ys))) ≤ length (ab .before) = subst (λ (l : List Breach). space (pairs (once [] l)) ≤ length (ab .before)) one (enough AB (ab .before) roomAB) in
         let memA = laws.run-members xs (a .before) oA runA fitA in
@@ -209,28 +210,28 @@ module _ (schemaBytes conditionBytes : List ℕ) (s : Schema) (c : Condition) wh
               ∙ laws.runs-joined xs ys (a .before) (b .before) (ab .before) oA oB oAB runA runB runAB fitA fitB fitAB;
         }
 
-  pub joined : Joined schemaBytes conditionBytes s c
+  pub joined : Joined rules schemaBytes conditionBytes s c
   joined scope front behind is =
-      let a : Taken schemaBytes conditionBytes s c (under scope front) =
+      let a : Taken rules schemaBytes conditionBytes s c (under scope front) =
       record { schemaEnd = is .schemaEnd; schema = is .schema; conditionEnd = is .conditionEnd; condition = is .condition; targetsEnd = _; targets = front-accepted scope front behind _ (is .targets) } in
-      let b : Taken schemaBytes conditionBytes s c (under scope behind) =
+      let b : Taken rules schemaBytes conditionBytes s c (under scope behind) =
       record { schemaEnd = is .schemaEnd; schema = is .schema; conditionEnd = is .conditionEnd; condition = is .condition; targetsEnd = _; targets = behind-accepted scope front behind _ (is .targets) } in
       record { takenFront = a; takenBehind = b; counts = counts scope front behind a b is }
 
-  pub alike : Alike schemaBytes conditionBytes s c
+  pub alike : Alike rules schemaBytes conditionBytes s c
   alike scope front behind isA isB same a b roomA roomB =
       let A : Targets = under scope front in
       let B : Targets = under scope behind in
       let eA = alone (written A) A isA a roomA in
       let eB = alone (written B) B isB b roomB in
-      let to : (k : Pair) → PairOf s c A k → PairOf s c B k = λ k r. other front behind scope (λ t h. same t .0 h) k r in
-      let back : (k : Pair) → PairOf s c B k → PairOf s c A k = λ k r. other behind front scope (λ t h. same t .1 h) k r in (
+      let to : (k : Pair) → PairOf rules s c A k → PairOf rules s c B k = λ k r. other front behind scope (λ t h. same t .0 h) k r in
+      let back : (k : Pair) → PairOf rules s c B k → PairOf rules s c A k = λ k r. other behind front scope (λ t h. same t .1 h) k r in (
         (λ k. ((λ h. eB .pairs .all k .1 (to k (eA .pairs .all k .0 h))), (λ h. eA .pairs .all k .1 (back k (eB .pairs .all k .0 h))))),
         eA .count (reportedPairs b) (record { each = eB .pairs .each; all = λ k. ((λ h. back k (eB .pairs .all k .0 h)), (λ h. eB .pairs .all k .1 (to k h))) })
             ∙ sym (eB .count (reportedPairs b) (eB .pairs)),
       )
     where
-      other : (front behind : List Target) (scope : Scope) → ((t : Target) → t ∈ front → t ∈ behind) → (k : Pair) → PairOf s c (under scope front) k → PairOf s c (under scope behind) k
+      other : (front behind : List Target) (scope : Scope) → ((t : Target) → t ∈ front → t ∈ behind) → (k : Pair) → PairOf rules s c (under scope front) k → PairOf rules s c (under scope behind) k
       other front behind scope f k r =
           record {
             breach = r .breach;
@@ -238,5 +239,5 @@ module _ (schemaBytes conditionBytes : List ℕ) (s : Schema) (c : Condition) wh
             isBreach = record { target = r .isBreach .target; listed = f (r .isBreach .target) (r .isBreach .listed); checked = r .isBreach .checked; breach = r .isBreach .breach };
           }
 
-  pub demand3 : Claim schemaBytes conditionBytes s c
+  pub demand3 : Claim rules schemaBytes conditionBytes s c
   demand3 = record { alone = alone; joined = joined; alike = alike; noOther = λ bytes ts is. no-other bytes (is .targets) }

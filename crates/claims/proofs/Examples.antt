@@ -33,9 +33,9 @@ use Rattle.claims.specs.Examples.{Checked, factsIn, typeIn, reports, Ope
 -- every reached node is judged
 module _ (s : Schema) (c : Condition) (scope : Scope) (t : Target) where
   abbrev broken : Option Action → List Breach
-  broken a = gather (nodeBreaches (factsOf s c scope a)) (reached c)
+  broken a = gather (nodeBreaches (factsOf types.plain s c scope a)) (reached c)
 
-  judged : isChecked s scope t ≡ true → breachesUnder s c scope t ≡ broken (findAction s (t .namespace) (t .id))
+  judged : isChecked s scope t ≡ true → breachesUnder types.plain s c scope t ≡ broken (findAction s (t .namespace) (t .id))
   unfolding isChecked breachesUnder
   judged is = go (findAction s (t .namespace) (t .id)) is
     where
@@ -70,12 +70,12 @@ module _ (x : Checked) (op : Operator) (l r : Term) (tl tr : Ty) where
   abbrev c : Condition
   c = comparison (x .at) op l r
 
-  by-types : typeIn x c l ≡ some tl → typeIn x c r ≡ some tr → Plain (factsIn x c) (x .at) l → Plain (factsIn x c) (x .at) r → reports x c ≡ length (operandsBy (ordering op) tl tr (x .at))
+  by-types : typeIn x c l ≡ some tl → typeIn x c r ≡ some tr → Plain (factsIn x c) (x .at) l → Plain (factsIn x c) (x .at) r → reports x c ≡ length (operandsBy types.plain (ordering op) tl tr (x .at))
   unfolding reached gather nodeBreaches
   by-types el er pl pr =
       computed x c ∙ rw (pl .inner, pr .inner, pl .atoms, pr .atoms, el, er, append-nil)
 
-  no-long : typeIn x c l ≡ some tl → typeIn x c r ≡ some tr → isNumeric tl ≡ false → isNumeric tr ≡ false → reports x c ≡ length (operandsBy (ordering op) tl tr (x .at))
+  no-long : typeIn x c l ≡ some tl → typeIn x c r ≡ some tr → isNumeric tl ≡ false → isNumeric tr ≡ false → reports x c ≡ length (operandsBy types.plain (ordering op) tl tr (x .at))
   no-long el er nl nr = by-types el er (plain (factsIn x c) (x .at) l tl el nl) (plain (factsIn x c) (x .at) r tr er nr)
 
 -- ---- arrays in every number of layers
@@ -173,15 +173,15 @@ unfolding admitsAnyEnv sideAdmits anyOf
 no-principal s a r e = rw e
 
 module _ (x : NoPrincipals) where
-  any-skips : breachesUnder (x .schema) (x .whole) (narrowedTo (some any) x) (x .target) ≡ []
+  any-skips : breachesUnder types.plain (x .schema) (x .whole) (narrowedTo (some any) x) (x .target) ≡ []
   unfolding breachesUnder
   any-skips = rw (x .found, no-principal (x .schema) (x .action) (x .resource) (x .empty))
 
-  none-judged : (c : Condition) → breachesUnder (x .schema) c (narrowedTo none x) (x .target) ≡ gather (nodeBreaches (factsOf (x .schema) c (narrowedTo none x) (some (x .action)))) (reached c)
+  none-judged : (c : Condition) → breachesUnder types.plain (x .schema) c (narrowedTo none x) (x .target) ≡ gather (nodeBreaches (factsOf types.plain (x .schema) c (narrowedTo none x) (some (x .action)))) (reached c)
   unfolding breachesUnder admitsAnyEnv sideAdmits
   none-judged c = rw (x .found, x .admits)
 
-  none-reports : length (breachesUnder (x .schema) (comparison (x .at) condition.lt decimal decimal) (narrowedTo none x) (x .target)) ≡ 1
+  none-reports : length (breachesUnder types.plain (x .schema) (comparison (x .at) condition.lt decimal decimal) (narrowedTo none x) (x .target)) ≡ 1
   unfolding reached reachedIn gather nodeBreaches arithmeticBreaches termType numericBreaches fits
   none-reports = ap length (none-judged (comparison (x .at) condition.lt decimal decimal))
 

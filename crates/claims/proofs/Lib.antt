@@ -3,3 +3,5 @@ pub mod Demand3
 pub mod WholeRun
 pub mod Examples
 pub mod Reordering
+pub mod Strict
+pub mod StrictExamples

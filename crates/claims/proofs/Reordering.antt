@@ -11,8 +11,8 @@ use Rattle.names.specs.Lists.{maybe, gather}
 use Rattle.names.specs.Names.{same, lastOf}
 use Rattle.names.specs.Text.{text}
 use Rattle.types.specs.Types as types
-use Rattle.types.specs.Types.{Ty, scalar, fits, compatible, areOrdered, isNumeric}
-use Rattle.types.specs.Laws.Relations.{relied}
+use Rattle.types.specs.Types.{Ty, Profile, scalar, fits, compatible, areOrdered, isNumeric}
+use Rattle.types.specs.Laws.Profiles.{compatible-swapped}
 use Rattle.condition.specs.Condition as condition
 use Rattle.condition.specs.Condition.{Span, Condition, Term, Operator, comparison}
 use Rattle.condition.specs.Walk.{reached, reachedIn, reachedBody, operandAggregates, operandBinders, declaredBy, declares, binders, lastNamed}
@@ -37,16 +37,16 @@ module _ (at : Span) where
   judged ordered t u true = shows t u
   judged ordered t u false = silent
 
-  types-turned : (ordered : Bool) (t u : Ty) → Turned ordered at (operandsBy ordered t u at) (operandsBy ordered u t at)
+  types-turned : (p : Profile) (ordered : Bool) (t u : Ty) → Turned ordered at (operandsBy p ordered t u at) (operandsBy p ordered u t at)
   unfolding numericBreaches likeBreaches
-  types-turned true t u = rw (both-numeric (isNumeric u) (isNumeric t)) (judged true t u (not (areOrdered t u)))
-  types-turned false t u = rw (relied .compatible-swapped u t) (judged false t u (not (compatible t u)))
+  types-turned p true t u = rw (both-numeric (isNumeric u) (isNumeric t)) (judged true t u (not (areOrdered t u)))
+  types-turned p false t u = rw (compatible-swapped p u t) (judged false t u (not (compatible p t u)))
 
-  turned-by : (ordered : Bool) (o p : Option Ty) → Turned ordered at (both o p (operandsBy ordered) at) (both p o (operandsBy ordered) at)
-  turned-by ordered none none = silent
-  turned-by ordered none (some u) = silent
-  turned-by ordered (some t) none = silent
-  turned-by ordered (some t) (some u) = types-turned ordered t u
+  turned-by : (p : Profile) (ordered : Bool) (o q : Option Ty) → Turned ordered at (both o q (operandsBy p ordered) at) (both q o (operandsBy p ordered) at)
+  turned-by p ordered none none = silent
+  turned-by p ordered none (some u) = silent
+  turned-by p ordered (some t) none = silent
+  turned-by p ordered (some t) (some u) = types-turned p ordered t u
 
   as-many : {ordered : Bool} {own turned : List Breach} → Turned ordered at own turned → length own ≡ length turned
   as-many silent = refl
@@ -65,9 +65,9 @@ parts a b c d e = simp length-append (omega (arith, e))
 pub reordering : Reordering
 unfolding nodeBreaches
 reordering f at op back l r e =
-    let own : List Breach = both (termType (some f) l) (termType (some f) r) (operandsBy (ordering op)) at in
-    let turned : List Breach = both (termType (some f) r) (termType (some f) l) (operandsBy (ordering back)) at in
-    let words : Turned (ordering op) at own turned = rw (← e) (turned-by at (ordering op) (termType (some f) l) (termType (some f) r)) in
+    let own : List Breach = both (termType (some f) l) (termType (some f) r) (operandsBy (f .profile) (ordering op)) at in
+    let turned : List Breach = both (termType (some f) r) (termType (some f) l) (operandsBy (f .profile) (ordering back)) at in
+    let words : Turned (ordering op) at own turned = rw (← e) (turned-by at (f .profile) (ordering op) (termType (some f) l) (termType (some f) r)) in
     let count : length (nodeBreaches f (comparison at op l r)) ≡ length (nodeBreaches f (comparison at back r l)) =
     parts (arithmeticBreaches f l at) (arithmeticBreaches f r at) own turned (as-many at words) in
     record {

@@ -21,7 +21,7 @@ use Rattle.reports.specs.Decode.{reports}
 use Rattle.reports.specs.Pairs.{_∈_, NoDup, Same, Pair, pairOf, pairs, space}
 use Rattle.terms.specs.Terms.{factsOf}
 use Rattle.rules.specs.Rules.{nodeBreaches}
-use Rattle.typecheck.specs.Check.{check}
+use Rattle.typecheck.specs.Check.{profileOf, checkWith}
 use Rattle.claims.specs.Written.{written}
 
 -- three records that are accepted, and what they hold
@@ -37,43 +37,44 @@ pub record Accepted (schemaBytes conditionBytes targetBytes : List ℕ) (s : Sch
 unfoldable pub isChecked : Schema → Scope → Target → Bool
 isChecked s scope t = maybe true (admitsAnyEnv s scope) (findAction s (t .namespace) (t .id))
 
--- a breach: what the typing rules give at one reached node under one target, before repeats are dropped
-pub record BreachUnder (s : Schema) (c : Condition) (scope : Scope) (t : Target) (b : Breach) : Type 0 where
+-- a breach: what the typing rules give at one reached node under one target, before repeats are dropped, with the caller's rules
+pub record BreachUnder (rules : ℕ) (s : Schema) (c : Condition) (scope : Scope) (t : Target) (b : Breach) : Type 0 where
   pub node : Condition
   pub isReached : node ∈ reached c
-  pub breaks : b ∈ nodeBreaches (factsOf s c scope (findAction s (t .namespace) (t .id))) node
+  pub breaks : b ∈ nodeBreaches (factsOf (profileOf rules) s c scope (findAction s (t .namespace) (t .id))) node
 
 -- a breach under one of the targets that are checked
-pub record BreachOf (s : Schema) (c : Condition) (ts : Targets) (b : Breach) : Type 0 where
+pub record BreachOf (rules : ℕ) (s : Schema) (c : Condition) (ts : Targets) (b : Breach) : Type 0 where
   pub target : Target
   pub listed : target ∈ ts .list
   pub checked : isChecked s (ts .scope) target ≡ true
-  pub breach : BreachUnder s c (ts .scope) target b
+  pub breach : BreachUnder rules s c (ts .scope) target b
 
 -- a pair (message, start) of such a breach
-pub record PairOf (s : Schema) (c : Condition) (ts : Targets) (k : Pair) : Type 0 where
+pub record PairOf (rules : ℕ) (s : Schema) (c : Condition) (ts : Targets) (k : Pair) : Type 0 where
   pub breach : Breach
   pub pair : k ≡ pairOf breach
-  pub isBreach : BreachOf s c ts breach
+  pub isBreach : BreachOf rules s c ts breach
 
 -- some pairs are the different ones of the breaches, each listed once
-pub record Different (s : Schema) (c : Condition) (ts : Targets) (ps : List Pair) : Type 0 where
+pub record Different (rules : ℕ) (s : Schema) (c : Condition) (ts : Targets) (ps : List Pair) : Type 0 where
   pub each : NoDup ps
-  pub all : (k : Pair) → (k ∈ ps) ↔ PairOf s c ts k
+  pub all : (k : Pair) → (k ∈ ps) ↔ PairOf rules s c ts k
 
 -- space for all reports: 10 bytes and the message's own for each different pair
-pub record SpaceForAll (s : Schema) (c : Condition) (ts : Targets) (buffer : List ℕ) : Type 0 where
-  pub room : (ps : List Pair) → Different s c ts ps → space ps ≤ length buffer
+pub record SpaceForAll (rules : ℕ) (s : Schema) (c : Condition) (ts : Targets) (buffer : List ℕ) : Type 0 where
+  pub room : (ps : List Pair) → Different rules s c ts ps → space ps ≤ length buffer
 
--- a run over three records, as the contract of `dogwood_check` has it: the answer, and the buffer before and after
-pub record Run (schemaBytes conditionBytes targetBytes : List ℕ) : Type 0 where
+-- a run over three records with the caller's rules, as the contract of `dogwood_check_with` has it: the answer, and the buffer before and after. One of
+-- `dogwood_check` is a run with rules 0, since `check` is `checkWith 0`
+pub record Run (rules : ℕ) (schemaBytes conditionBytes targetBytes : List ℕ) : Type 0 where
   pub answer : Answer
   pub before : List ℕ
   pub after : List ℕ
-  pub contract : outcomeOf answer after ≡ check schemaBytes conditionBytes targetBytes before
+  pub contract : outcomeOf answer after ≡ checkWith rules schemaBytes conditionBytes targetBytes before
 
 -- the pairs that a run reported, read off its buffer
-abbrev pub reportedPairs : {schemaBytes conditionBytes targetBytes : List ℕ} → Run schemaBytes conditionBytes targetBytes → List Pair
+abbrev pub reportedPairs : {rules : ℕ} {schemaBytes conditionBytes targetBytes : List ℕ} → Run rules schemaBytes conditionBytes targetBytes → List Pair
 reportedPairs r = pairs (reports (r .answer .count) (r .after))
 
 -- the pairs that are in both of two lists, each listed once
@@ -85,16 +86,16 @@ pub record Shared (a b shared : List Pair) : Type 0 where
 abbrev pub under : Scope → List Target → Targets
 under scope list = record { scope = scope; list = list }
 
-module _ (schemaBytes conditionBytes : List ℕ) (s : Schema) (c : Condition) where
+module _ (rules : ℕ) (schemaBytes conditionBytes : List ℕ) (s : Schema) (c : Condition) where
   -- what is claimed of one run
-  pub record Exact (targetBytes : List ℕ) (ts : Targets) (r : Run schemaBytes conditionBytes targetBytes) : Type 0 where
+  pub record Exact (targetBytes : List ℕ) (ts : Targets) (r : Run rules schemaBytes conditionBytes targetBytes) : Type 0 where
     pub number : r .answer .number ≡ 0
     -- the reports are exactly the different pairs among the breaches under the targets that are checked, each once
-    pub pairs : Different s c ts (reportedPairs r)
+    pub pairs : Different rules s c ts (reportedPairs r)
     -- the count is their number
-    pub count : (ps : List Pair) → Different s c ts ps → r .answer .count ≡ length ps
+    pub count : (ps : List Pair) → Different rules s c ts ps → r .answer .count ≡ length ps
     -- 0 exactly where there is no such breach
-    pub none : (r .answer .count ≡ 0) ↔ ((b : Breach) → BreachOf s c ts b → ⊥)
+    pub none : (r .answer .count ≡ 0) ↔ ((b : Breach) → BreachOf rules s c ts b → ⊥)
     -- the bytes behind the reports are as they were
     pub rest : drop (space (reportedPairs r)) (r .after) ≡ drop (space (reportedPairs r)) (r .before)
 
@@ -102,7 +103,7 @@ module _ (schemaBytes conditionBytes : List ℕ) (s : Schema) (c : Condition) wh
   abbrev pub Alone : Type 0
   Alone =
       (targetBytes : List ℕ) (ts : Targets) → Accepted schemaBytes conditionBytes targetBytes s c ts
-      → (r : Run schemaBytes conditionBytes targetBytes) → SpaceForAll s c ts (r .before)
+      → (r : Run rules schemaBytes conditionBytes targetBytes) → SpaceForAll rules s c ts (r .before)
       → Exact targetBytes ts r
 
   -- a list's record is accepted, and its runs
@@ -110,7 +111,7 @@ module _ (schemaBytes conditionBytes : List ℕ) (s : Schema) (c : Condition) wh
   Taken ts = Accepted schemaBytes conditionBytes (written ts) s c ts
 
   abbrev pub RunOf : Targets → Type 0
-  RunOf ts = Run schemaBytes conditionBytes (written ts)
+  RunOf ts = Run rules schemaBytes conditionBytes (written ts)
 
   -- count(A then B) = count(A) + count(B) - the number of pairs reported both for A and for B
   pub record Counts (front behind all : Targets) (a : RunOf front) (b : RunOf behind) (ab : RunOf all) : Type 0 where
@@ -123,7 +124,7 @@ module _ (schemaBytes conditionBytes : List ℕ) (s : Schema) (c : Condition) wh
     pub takenFront : Taken front
     pub takenBehind : Taken behind
     pub counts : (a : RunOf front) (b : RunOf behind) (ab : RunOf all)
-        → SpaceForAll s c front (a .before) → SpaceForAll s c behind (b .before) → SpaceForAll s c all (ab .before)
+        → SpaceForAll rules s c front (a .before) → SpaceForAll rules s c behind (b .before) → SpaceForAll rules s c all (ab .before)
         → Counts front behind all a b ab
 
   abbrev pub Joined : Type 0
@@ -135,10 +136,10 @@ module _ (schemaBytes conditionBytes : List ℕ) (s : Schema) (c : Condition) wh
   Alike =
       (scope : Scope) (front behind : List Target) → Taken (under scope front) → Taken (under scope behind) → Same front behind
       → (a : RunOf (under scope front)) (b : RunOf (under scope behind))
-      → SpaceForAll s c (under scope front) (a .before) → SpaceForAll s c (under scope behind) (b .before)
+      → SpaceForAll rules s c (under scope front) (a .before) → SpaceForAll rules s c (under scope behind) (b .before)
       → Same (reportedPairs a) (reportedPairs b) × (a .answer .count ≡ b .answer .count)
 
-  -- demand 3, one claim over whole target lists: for every accepted schema, condition, narrowing and list with space for all reports, whatever the
+  -- demand 3, one claim over whole target lists, with any rules: for every accepted schema, condition, narrowing and list with space for all reports, whatever the
   -- buffers held before
   pub record Claim : Type 0 where
     pub alone : Alone

@@ -9,7 +9,7 @@ use lib.ListN.{length}
 use Rattle.names.specs.Lists.{gather}
 use Rattle.names.specs.Text.{text}
 use Rattle.types.specs.Types as types
-use Rattle.types.specs.Types.{Ty, scalar, anyArray, mixedArray}
+use Rattle.types.specs.Types.{Ty, plain, scalar, anyArray, mixedArray}
 use Rattle.types.specs.Laws.Types.{isArray}
 use Rattle.types.specs.Meaning.{layered}
 use Rattle.schema.specs.Schema.{Schema, EntityType, Action}
@@ -36,16 +36,16 @@ pub record Checked : Type 0 where
 abbrev pub actionOf : Checked → Option Action
 actionOf x = findAction (x .schema) (x .target .namespace) (x .target .id)
 
--- the facts of a condition under it, and a term's type in them
+-- the facts of a condition under it in the plain profile, and a term's type in them
 abbrev pub factsIn : Checked → Condition → Facts
-factsIn x c = factsOf (x .schema) c (x .scope) (actionOf x)
+factsIn x c = factsOf plain (x .schema) c (x .scope) (actionOf x)
 
 abbrev pub typeIn : Checked → Condition → Term → Option Ty
 typeIn x c t = termType (some (factsIn x c)) t
 
 -- how many breaches a condition has under it
 abbrev pub reports : Checked → Condition → ℕ
-reports x c = length (breachesUnder (x .schema) c (x .scope) (x .target))
+reports x c = length (breachesUnder plain (x .schema) c (x .scope) (x .target))
 
 -- `1`, `1.0`, `"s"`, `[t]`
 abbrev pub integer : Term
@@ -213,9 +213,9 @@ edges =
     ∷ ofAll WithoutId (λ x. comparing x lt id integer) 1
     ∷ ofAll WithoutId (λ x. comparing x lt partOfId integer) 0
     -- no principals: narrowing Any skips the target, whatever the condition breaks; none does not
-    ∷ ofAll NoPrincipals (λ x. breachesUnder (x .schema) (x .whole) (narrowedTo (some any) x) (x .target)) []
-    ∷ ofEach NoPrincipals (λ x. breachesUnder (x .schema) (x .whole) (narrowedTo none x) (x .target)) (λ x. gather (nodeBreaches (factsOf (x .schema) (x .whole) (narrowedTo none x) (some (x .action)))) (reached (x .whole)))
-    ∷ ofAll NoPrincipals (λ x. length (breachesUnder (x .schema) (comparison (x .at) lt decimal decimal) (narrowedTo none x) (x .target))) 1
+    ∷ ofAll NoPrincipals (λ x. breachesUnder plain (x .schema) (x .whole) (narrowedTo (some any) x) (x .target)) []
+    ∷ ofEach NoPrincipals (λ x. breachesUnder plain (x .schema) (x .whole) (narrowedTo none x) (x .target)) (λ x. gather (nodeBreaches (factsOf plain (x .schema) (x .whole) (narrowedTo none x) (some (x .action)))) (reached (x .whole)))
+    ∷ ofAll NoPrincipals (λ x. length (breachesUnder plain (x .schema) (comparison (x .at) lt decimal decimal) (narrowedTo none x) (x .target))) 1
     -- `* == 1` none; `* + 1 == 2` one
     ∷ ofAll Checked (λ x. reports x (comparison (x .at) eq wildcard integer)) 0
     ∷ ofAll Checked (λ x. reports x (comparison (x .at) eq (condition.arith wildcard integer) integer)) 1

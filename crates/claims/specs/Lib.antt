@@ -4,3 +4,5 @@ pub mod Rows
 pub mod Examples
 pub mod WholeRun
 pub mod Reordering
+pub mod Strict
+pub mod StrictExamples
