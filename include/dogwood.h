@@ -42,6 +42,12 @@ extern "C" {
  */
 #define DOGWOOD_WORKSPACE(bytes) ((bytes) / 38 + 2)
 
+/*
+ * What a caller of dogwood_check_with chooses, a bit of `rules` each. Strict: two entities whose tags (the simple names of
+ * their types) are known and different are not of the same type in an equality, inside arrays too; nothing else changes.
+ */
+#define DOGWOOD_STRICT 1
+
 /* Why there is no answer. The numbers 1 to 10 are met while a record is read, the first one from the left counts. */
 enum dogwood_cause {
     DOGWOOD_ACCEPTED = 0,              /* no refusal */
@@ -105,8 +111,12 @@ struct dogwood_answer dogwood_check(const uint8_t *schema, size_t schema_length,
                                     uint8_t *reports, size_t reports_length);
 
 /*
- * The same check with lent workspace, in which repeated reports are found: the same answer and the same bytes in the buffer
- * as dogwood_check gives, for every workspace. It may have any number of slots, none too, and hold anything.
+ * The same check with rules that the caller chooses, and with lent workspace, in which repeated reports are found: with
+ * rules 0 the same answer and the same bytes in the buffer as dogwood_check gives. `rules` is 0 or DOGWOOD_STRICT; a bit
+ * without a meaning has no effect. With space for all reports, each message and start that the plain check reports is
+ * reported by the strict one too; a report's end, and the order, may be others.
+ *
+ * The answer is the same for every workspace. It may have any number of slots, none too, and hold anything.
  *
  * Time is linear in the number of reports as long as there are fewer than three reports for every four slots behind the
  * first, for which DOGWOOD_WORKSPACE(reports_length) are always enough, and the buffer is shorter than 4,294,967,295 bytes.
@@ -118,7 +128,6 @@ struct dogwood_answer dogwood_check(const uint8_t *schema, size_t schema_length,
  * key. The key of dogwood_check's own slots is 0.
  * Number 1 to 10 leaves the workspace as it was. Otherwise its contents afterwards mean nothing. It need not be cleared
  * before a call; a call clears it, so that more slots than are needed cost time.
- * `rules` is for what callers will choose. No bit of it has a meaning yet, and a bit without one has no effect: pass 0.
  */
 struct dogwood_answer dogwood_check_with(uint8_t rules,
                                          const uint8_t *schema, size_t schema_length,

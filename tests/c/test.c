@@ -44,6 +44,14 @@ static void test(int holds, const char *claim, int line) {
 #define TWICE "DWC\0\1" "\1" ZERO_SPAN WRONG_COMPARISON WRONG_COMPARISON
 #define CLEAN_CONDITION "DWC\0\1" "\13" ZERO_SPAN
 
+/* `U == G`, `[U] == [G]` and `A::U == B::U` of entities, at 0 to 0. */
+#define ENTITY_U "\1\1U"
+#define ENTITY_G "\1\1G"
+#define EQUALITY "DWC\0\1" "\10" ZERO_SPAN "\4"
+#define OTHER_TAGS EQUALITY ENTITY_U ENTITY_G
+#define OTHER_TAGS_IN_ARRAYS EQUALITY "\12\1" ENTITY_U "\12\1" ENTITY_G
+#define SAME_TAG EQUALITY "\1\4" "A::U" "\1\4" "B::U"
+
 /* `exists (v: String). (sum v for . ..) == 1`, the sum at 3 to 258. */
 #define SUM "\13\1" "\0\0\0\3\0\0\1\2" "\0\1v" "\0" "\13" ZERO_SPAN
 #define WRONG_SUM "DWC\0\1" "\11" ZERO_SPAN "\0\1v\1\6String" "\10" ZERO_SPAN "\4" SUM "\2"
@@ -57,6 +65,7 @@ static void test(int holds, const char *claim, int line) {
 #define FAR_PATH "DWP\0\1" "\0" "\1\4name" "\1"
 
 #define MESSAGE "comparison requires numeric operands on both sides, got `boolean` and `int`"
+#define TAGS_MESSAGE "equality requires both sides to have the same type, got `U` and `G`"
 #define SUM_MESSAGE "cannot sum `v`: sum requires a `Long` summand, but `v` is `String`."
 
 /* ─── The lent buffer ─── */
@@ -248,8 +257,34 @@ static void test_check_with(void) {
     }
     for (rules = 0; rules < 256; rules++) {
         TEST(as_without(BYTES(TWO_COMPARISONS), SPACE, (uint8_t)rules, 0xA5A5A5A5, SLOTS));
+        if ((rules & DOGWOOD_STRICT) == 0) {
+            TEST(as_without(BYTES(OTHER_TAGS), SPACE, (uint8_t)rules, 0xA5A5A5A5, SLOTS));
+        }
     }
     TEST(answers(dogwood_check_with(0, BYTES(SCHEMA), BYTES(TWICE), BYTES(TARGETS), fresh(), SPACE, NULL, 0), 0, 0, 1));
+}
+
+/* The strict check of a condition under the rules' other bits. */
+static struct dogwood_answer strictly(const uint8_t *condition, size_t length, size_t space, uint8_t others) {
+    uint8_t rules = (uint8_t)(others | DOGWOOD_STRICT);
+    return dogwood_check_with(rules, BYTES(SCHEMA), condition, length, BYTES(TARGETS), fresh(), space, filled(0), SLOTS);
+}
+
+/* Known, different tags are reported by the strict check, whatever the other bits are, inside arrays too; like ones are not. */
+static void test_strict(void) {
+    const size_t one = DOGWOOD_REPORT_HEAD + strlen(TAGS_MESSAGE);
+    struct dogwood_report report;
+    struct dogwood_answer answer;
+    int others;
+
+    for (others = 0; others < 256; others++) {
+        answer = strictly(BYTES(OTHER_TAGS), SPACE, (uint8_t)others);
+        dogwood_next_report(buffer, &report);
+        TEST(answers(answer, 0, 0, 1) && reports(&report, 0, 0, TAGS_MESSAGE) && untouched_from(one));
+    }
+    TEST(refuses(strictly(BYTES(OTHER_TAGS), one - 1, 0), DOGWOOD_NO_SPACE, DOGWOOD_NO_RECORD));
+    TEST(answers(strictly(BYTES(OTHER_TAGS_IN_ARRAYS), SPACE, 0), 0, 0, 1));
+    TEST(answers(strictly(BYTES(SAME_TAG), SPACE, 0), 0, 0, 0) && untouched_from(0));
 }
 
 /* A refused record leaves the buffer and the workspace as they were. */
@@ -322,6 +357,7 @@ int main(void) {
     test_check();
     test_check_space();
     test_check_with();
+    test_strict();
     test_check_with_refusals();
     test_sums();
     test_lookup();

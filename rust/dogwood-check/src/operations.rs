@@ -84,7 +84,8 @@ pub fn check_into(schema: &[u8], condition: &[u8], targets: &[u8], reports: &mut
     check_with(Rules::plain(), schema, condition, targets, reports, &mut workspace)
 }
 
-/// The check of [`check_into`] with workspace lent too, in which repeated reports are found. Nothing is allocated.
+/// The check of [`check_into`] with [`Rules`] that the caller chooses, and with workspace lent too, in which repeated
+/// reports are found. Nothing is allocated.
 ///
 /// The answer and the buffer are the same for every workspace: it may have any number of slots and hold anything.
 /// [`workspace_for`] says how many slots make time linear in the reports; with fewer, further reports are compared with

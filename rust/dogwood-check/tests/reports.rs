@@ -96,6 +96,34 @@ fn any_key_gives_the_same() {
     }
 }
 
+/// The reports of an equality of two terms with these rules.
+fn of_equality(rules: Rules, left: Term, right: Term) -> Vec<Report> {
+    let condition = Condition::comparison(3..9, Operator::Eq, left, right).encode().unwrap();
+    let (mut buffer, mut workspace) = ([0; 1024], [0; 27]);
+    let answer = check_with(rules, SCHEMA, &condition, TARGETS, &mut buffer, &mut workspace);
+    assert_eq!(answer.refusal, None);
+    Reports::new(&buffer, answer.count).unwrap().map(|found| found.to_report()).collect()
+}
+
+/// Strict rules report known, different tags, inside arrays too, and nothing that plain rules do not report beside them.
+#[test]
+fn strict_rules() {
+    let said = |left: &str, right: &str| {
+        report(3, 9, &format!("equality requires both sides to have the same type, got `{left}` and `{right}`"))
+    };
+    let (clerk, register) = (|| Term::entity("A::Clerk"), || Term::entity("Register"));
+    assert_eq!(of_equality(Rules::plain(), clerk(), register()), []);
+    assert_eq!(of_equality(Rules::strict(), clerk(), register()), [said("Clerk", "Register")]);
+    let arrays = (Term::array([clerk()]), Term::array([register()]));
+    assert_eq!(of_equality(Rules::strict(), arrays.0, arrays.1), [said("array<Clerk>", "array<Register>")]);
+    assert_eq!(of_equality(Rules::strict(), clerk(), Term::entity("B::Clerk")), []);
+    assert_eq!(of_equality(Rules::strict(), Term::array([clerk()]), Term::array([])), []);
+    for rules in [Rules::plain(), Rules::strict()] {
+        assert_eq!(of_equality(rules, clerk(), Term::String), [said("Clerk", "string")]);
+    }
+    assert_eq!(Rules::default(), Rules::plain());
+}
+
 #[test]
 fn a_refusal_leaves_the_workspace() {
     let workspace = [7; 100];
