@@ -96,10 +96,19 @@ fn number(letter: u8, record: &[u8]) -> u8 {
     255
 }
 
+// The strict check, with few slots of workspace.
+fn strict<'a>(a: &'a [u8], b: &'a [u8], c: &'a [u8], buffer: &mut [u8]) -> Answer {
+    let mut workspace = [0u32; 8];
+    dogwood::dogwood_check_with(1, a, b, c, buffer, &mut workspace)
+}
+
 // The exported function of a letter, with a buffer of the size that its case asks for.
 fn exported<'a>(letter: u8, a: &'a [u8], b: &'a [u8], c: &'a [u8], buffer: &mut [u8]) -> Answer {
     if letter == b'k' {
         return dogwood::dogwood_check(a, b, c, buffer);
+    }
+    if letter == b'x' {
+        return strict(a, b, c, buffer);
     }
     if letter == b'm' {
         return dogwood::dogwood_sums(a, buffer);
@@ -292,6 +301,7 @@ fn replay(file: &[u8]) {
 fn main() {
     replay(b"readers.cases");
     replay(b"check.cases");
+    replay(b"strict.cases");
     replay(b"sums.cases");
     replay(b"lookup.cases");
     replay(b"terms.cases");

@@ -122,18 +122,22 @@ pub fn operand_types(schema: &[u8], condition: &[u8], targets: &[u8], position: 
     Some(types.map(|ty| ty.as_ref().map(RichType::render)))
 }
 
-/// Reports are written whole, in order, until the first that does not fit.
 fn write_reports(errors: &[LeafError], buffer: &mut [u8]) -> Answer {
-    let mut at = 0;
-    for (kept, error) in errors.iter().enumerate() {
-        let report = report_bytes(error);
+    write_all(errors.iter().map(report_bytes), buffer)
+}
+
+/// Reports are written whole, in order, until the first that does not fit.
+pub fn write_all(reports: impl Iterator<Item = Vec<u8>>, buffer: &mut [u8]) -> Answer {
+    let (mut at, mut kept) = (0, 0);
+    for report in reports {
         if report.len() > buffer.len() - at {
             return Answer::full(kept);
         }
         buffer[at..at + report.len()].copy_from_slice(&report);
         at += report.len();
+        kept += 1;
     }
-    Answer::done(errors.len())
+    Answer::done(kept)
 }
 
 /// Start and end, 32 bits each, the message's length, 16 bits, the message.

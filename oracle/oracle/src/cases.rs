@@ -2,6 +2,7 @@
 //! say both.
 
 use crate::answers::{self, Answer};
+use crate::examples::strict;
 use crate::hex;
 use crate::pieces::Piece;
 use crate::records;
@@ -20,9 +21,12 @@ pub enum Operation {
     Sums,
     Lookup,
     Terms,
+    /// The strict check, of the examples alone.
+    Strict,
 }
 
 impl Operation {
+    /// Those that the Rust judges.
     pub const ALL: [Operation; 8] = [
         Operation::ReadSchema,
         Operation::ReadCondition,
@@ -45,6 +49,7 @@ impl Operation {
             Operation::Sums => 'm',
             Operation::Lookup => 'l',
             Operation::Terms => 'e',
+            Operation::Strict => 'x',
         }
     }
 }
@@ -98,7 +103,8 @@ pub enum Outcome {
 }
 
 impl Case {
-    /// The oracle's outcome; none for a case about terms whose records are refused.
+    /// The oracle's outcome; none for a case about terms whose records are refused, nor for a strict check of records
+    /// that are no example's.
     pub fn outcome(&self) -> Option<Outcome> {
         let r = &self.records;
         Some(match self.operation {
@@ -110,6 +116,10 @@ impl Case {
             Operation::Sums => self.in_buffer(|buffer| answers::sums(&r[0], buffer)),
             Operation::Lookup => self.in_buffer(|buffer| answers::lookup(&r[0], &r[1], &r[2], buffer)),
             Operation::Terms => Outcome::Types(answers::operand_types(&r[0], &r[1], &r[2], self.size)?),
+            Operation::Strict => {
+                let mut buffer = vec![FILL; self.size];
+                Outcome::Answered(strict::check(r, &mut buffer)?, buffer)
+            }
         })
     }
 

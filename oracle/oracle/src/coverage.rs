@@ -49,7 +49,7 @@ impl Coverage {
     fn note_output(&mut self, operation: Operation, number: u8, count: usize, buffer: &[u8]) {
         match operation {
             Operation::Lookup if number == 0 => self.add(format!("lookup     {}", LOOKUP_CASES[buffer[0] as usize]), 1),
-            Operation::Check | Operation::Sums => self.note_reports(count, buffer),
+            Operation::Check | Operation::Strict | Operation::Sums => self.note_reports(count, buffer),
             _ => {}
         }
     }

@@ -2,3 +2,4 @@
 
 pub mod bytes;
 pub mod rules;
+pub mod strict;

@@ -73,7 +73,7 @@ fn draft_of(rng: &mut Rng, operation: Operation, scene: Scene) -> Draft {
         Operation::ReadCondition | Operation::Sums => vec![condition],
         Operation::ReadTargets => vec![targets],
         Operation::ReadPath => vec![path],
-        Operation::Check | Operation::Terms => vec![schema, condition, targets],
+        Operation::Check | Operation::Terms | Operation::Strict => vec![schema, condition, targets],
         Operation::Lookup => vec![schema, targets, path],
     };
     let size = match operation {

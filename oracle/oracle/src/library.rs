@@ -100,6 +100,10 @@ pub fn check(schema: &[u8], condition: &[u8], targets: &[u8], reports: &mut [u8]
     returned.map(Returned::answer)
 }
 
+/// The bit of `rules` that makes the check strict.
+#[allow(dead_code)]
+pub const STRICT: u8 = 1;
+
 /// The check with lent workspace: slots of any number that hold anything.
 #[allow(dead_code)]
 pub fn check_with(
@@ -137,6 +141,9 @@ pub fn outcome(case: &Case) -> Option<Outcome> {
         Operation::Check => case.in_buffer(|buffer| noted(&mut answer, check(&r[0], &r[1], &r[2], buffer))),
         Operation::Sums => case.in_buffer(|buffer| noted(&mut answer, sums(&r[0], buffer))),
         Operation::Lookup => case.in_buffer(|buffer| noted(&mut answer, lookup(&r[0], &r[1], &r[2], buffer))),
+        Operation::Strict => {
+            case.in_buffer(|buffer| noted(&mut answer, check_with(STRICT, [&r[0], &r[1], &r[2]], buffer, &mut [0; 8])))
+        }
         Operation::Terms => return None,
         reading => return read(reading, &r[0]).map(Outcome::Number),
     };

@@ -2,7 +2,7 @@
 
 use crate::cases::{self, Case, Operation, Outcome};
 use crate::coverage::Coverage;
-use crate::examples::{bytes, rules};
+use crate::examples::{bytes, rules, strict};
 use crate::generate::{self, boundaries, compared};
 use crate::pieces::Piece;
 use crate::rng::Rng;
@@ -30,6 +30,12 @@ pub fn all() -> Vec<List> {
             form: "k (schema, condition, targets). SIZE is the lent buffer's size; it is filled with A5 before the \
                    call, and OUTPUT is what its first bytes are after it, all others being A5.",
             cases: checks(),
+        },
+        List {
+            file: "strict.cases",
+            form: "x (schema, condition, targets), with the strict check's answers, which are not the Rust's: each \
+                   was worked out from the definition. SIZE and OUTPUT as for k in check.cases.",
+            cases: stricts(),
         },
         List { file: "sums.cases", form: "m (condition). SIZE and OUTPUT as for k in check.cases.", cases: sums() },
         List {
@@ -149,6 +155,10 @@ fn checks() -> Vec<Case> {
     cases.extend(compared::equal());
     cases.extend(random(SEED, Operation::Check, 520));
     once(cases)
+}
+
+fn stricts() -> Vec<Case> {
+    strict::all().iter().flat_map(|e| at_three_sizes(Operation::Strict, e.records(), &e.strict)).collect()
 }
 
 fn sums() -> Vec<Case> {

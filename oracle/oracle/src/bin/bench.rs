@@ -85,6 +85,9 @@ fn naming(text: &str) -> Vec<(String, &'static str, Times)> {
 
 fn rows_of(w: &Workload) -> Vec<(String, &'static str, Times)> {
     let mut rows = vec![(w.name.clone(), "check", check(w))];
+    if w.name == "everyday" {
+        rows.push((w.name.clone(), "check, strict", strictly(w)));
+    }
     if w.reads {
         let sized = |bytes: &[u8]| format!("{} ({} bytes)", w.name, bytes.len());
         let reading = [
@@ -127,7 +130,7 @@ fn check(w: &Workload) -> Times {
     });
     let with_reading = time(|| used(answers::check(black_box(s), c, t, &mut buffer)));
     let ours = match w.lends {
-        true => lent(w, &mut buffer),
+        true => lent(w, 0, &mut buffer),
         false => {
             library::check(s, c, t, &mut buffer).map(|_| time(|| used(library::check(black_box(s), c, t, &mut buffer))))
         }
@@ -135,14 +138,19 @@ fn check(w: &Workload) -> Times {
     Times { alone: Some(alone), with_reading, ours }
 }
 
-/// Our time with workspace lent beside the buffer, and a random key in it; none where the library has no such function.
-fn lent(w: &Workload, buffer: &mut [u8]) -> Option<f64> {
+/// Our strict check beside the Rust's plain one: it has no other.
+fn strictly(w: &Workload) -> Times {
+    Times { ours: lent(w, library::STRICT, &mut vec![0; w.space]), ..check(w) }
+}
+
+/// Our time with these rules and with workspace lent beside the buffer, and a random key in it; none where the library has no such function.
+fn lent(w: &Workload, rules: u8, buffer: &mut [u8]) -> Option<f64> {
     let (s, c, t) = (&w.schema[..], &w.condition[..], &w.targets[..]);
     let mut workspace = vec![0; workspace_for(w.space)];
     let key = RandomState::new().build_hasher().finish() as u32;
     let mut call = || {
         workspace[0] = key;
-        library::check_with(0, [black_box(s), c, t], buffer, &mut workspace)
+        library::check_with(rules, [black_box(s), c, t], buffer, &mut workspace)
     };
     call()?;
     Some(time(|| used(call())))

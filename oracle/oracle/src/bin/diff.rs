@@ -2,7 +2,8 @@
 //!
 //! Usage: `diff N [SEED [LETTERS]]`. Without a seed one is taken from the clock; it is printed, so that a run can be had
 //! again. LETTERS are those of the operations to be compared; without them all that the library has. Each check is also
-//! made with lent workspace of random size and contents and any rules byte, and held against the one without.
+//! made with lent workspace of random size and contents and rules of no effect, and held against the one without; and it
+//! is made strictly, with space for all reports, where every pair of the plain one has to be among the strict ones.
 
 #[path = "../library.rs"]
 mod library;
@@ -10,6 +11,7 @@ mod library;
 use oracle::cases::{Case, Draft, Operation, Outcome, FILL};
 use oracle::coverage::Coverage;
 use oracle::{generate, hex, lists, rng::Rng, shrink, workloads};
+use std::collections::BTreeSet;
 use std::time::{SystemTime, UNIX_EPOCH};
 
 /// Every operation is compared but that of terms, which the library does not export.
@@ -45,8 +47,9 @@ fn compare_stored(operations: &[Operation]) -> usize {
     let names = [workloads::many_principals("principals", 255, 1), workloads::many_actions("actions", 2)];
     let large = workloads::all().into_iter().chain(crowded).chain(names).flat_map(|w| w.cases());
     let all = lists::all().into_iter().flat_map(|list| list.cases).chain(large);
+    let has = |operation| operations.contains(&operation);
     let mut compared = 0;
-    for case in all.filter(|case| operations.contains(&case.operation)) {
+    for case in all.filter(|c| has(c.operation) || c.operation == Operation::Strict && has(Operation::Check)) {
         if differs(&case) {
             show(&case);
             std::process::exit(1);
@@ -80,7 +83,43 @@ fn compare_fresh(operations: &[Operation], count: usize, seed: u64) -> Coverage 
 }
 
 fn differs(case: &Case) -> bool {
-    library::outcome(case) != case.outcome() || lent_differs(case)
+    library::outcome(case) != case.outcome() || lent_differs(case) || strict_lacks(case)
+}
+
+/// Space for all reports of most cases.
+const AMPLE: usize = 1 << 20;
+
+/// Whether the strict check of a case lacks a pair (message, start) of the plain one, or has another beside them that is
+/// not about an equality. With space for all: where it does not do, nothing is said.
+fn strict_lacks(case: &Case) -> bool {
+    if case.operation != Operation::Check {
+        return false;
+    }
+    let [plain, strict] = [0, library::STRICT].map(|rules| pairs(case, rules));
+    match (plain, strict) {
+        (Some(plain), Some(strict)) => {
+            !plain.is_subset(&strict)
+                || strict.difference(&plain).any(|(message, _)| !message.starts_with(b"equality "))
+        }
+        _ => false,
+    }
+}
+
+/// The pairs that a check with these rules reports, where it answers 0.
+fn pairs(case: &Case, rules: u8) -> Option<BTreeSet<(Vec<u8>, u32)>> {
+    let r = &case.records;
+    let mut buffer = vec![FILL; AMPLE];
+    let mut workspace = vec![0; workloads::workspace_for(AMPLE)];
+    let answer = library::check_with(rules, [&r[0], &r[1], &r[2]], &mut buffer, &mut workspace)?;
+    let mut rest = &buffer[..];
+    let mut pairs = BTreeSet::new();
+    for _ in 0..answer.count {
+        let start = u32::from_be_bytes(rest[..4].try_into().expect("a start has four bytes"));
+        let length = usize::from(u16::from_be_bytes([rest[8], rest[9]]));
+        pairs.insert((rest[10..10 + length].to_vec(), start));
+        rest = &rest[10 + length..];
+    }
+    (answer.number == 0).then_some(pairs)
 }
 
 /// Whether the check answers otherwise with workspace than without, or writes to it where a record is refused.
@@ -94,7 +133,7 @@ fn lent_differs(case: &Case) -> bool {
     outcome != library::outcome(case) || refused && left != workspace
 }
 
-/// A rules byte and workspace: none, a slot, a few, many, enough for the buffer. The case alone decides, so that one that
+/// A rules byte without the strict bit and workspace: none, a slot, a few, many, enough for the buffer. The case alone decides, so that one that
 /// is made smaller is tried in the same way every time.
 fn lent_to(case: &Case) -> (u8, Vec<u32>) {
     let sum: u64 = case.records.iter().flatten().map(|byte| u64::from(*byte)).sum();
@@ -106,7 +145,7 @@ fn lent_to(case: &Case) -> (u8, Vec<u32>) {
         3 => rng.below(3_000),
         _ => workloads::workspace_for(case.size),
     };
-    let rules = rng.below(256) as u8;
+    let rules = rng.below(256) as u8 & !library::STRICT;
     // places in the buffer are what would do harm, were they believed
     let bound = rng.one(&[1, case.size + 2, 1 << 32]);
     (rules, (0..slots).map(|_| rng.below(bound) as u32).collect())

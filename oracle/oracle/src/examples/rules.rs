@@ -123,11 +123,11 @@ fn narrowed(principal: Piece, resource: Piece, all: &[(&str, &str)]) -> Piece {
     targets(principal, resource, all.iter().map(|(ns, id)| target(ns, id)).collect())
 }
 
-fn numeric(left: &str, right: &str) -> String {
+pub(super) fn numeric(left: &str, right: &str) -> String {
     format!("comparison requires numeric operands on both sides, got `{left}` and `{right}`")
 }
 
-fn equality(left: &str, right: &str) -> String {
+pub(super) fn equality(left: &str, right: &str) -> String {
     format!("equality requires both sides to have the same type, got `{left}` and `{right}`")
 }
 
@@ -169,7 +169,8 @@ fn held(shows: &'static str, root: Piece, targets: Piece, reports: Vec<(u32, u32
 }
 
 pub fn checked() -> Vec<Checked> {
-    [operands(), arrays(), scopes(), environment(), targets_and_repeats(), arguments(), surprises(), reordered()]
+    let plain = super::strict::all().into_iter().map(super::strict::Compared::plainly).collect();
+    [operands(), arrays(), scopes(), environment(), targets_and_repeats(), arguments(), surprises(), reordered(), plain]
         .concat_all()
 }
 
