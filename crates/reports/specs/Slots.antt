@@ -35,7 +35,8 @@ multiplier key = (key * 2 + 2654435761) % 4294967296
 abbrev pub middle : ℕ → ℕ → ℕ
 middle a b = a * b / 65536 % 4294967296
 
--- a number made of a message's bytes, four at a time, and of those that are left: the table asks nothing of it but that it is a function
+-- A number made of a message's bytes: the table asks nothing of it but that it is a function. Of each eight bytes the first four are mixed into one number
+-- and the others into another, so that neither waits for the other; then both are mixed into one, in this order, and the bytes that are left after them.
 abbrev pub mixed : ℕ → ℕ → ℕ → ℕ
 mixed by h n = middle ((h + n) % 4294967296) by
 
@@ -43,12 +44,15 @@ unfoldable pub mixedBytes : ℕ → ℕ → List ℕ → ℕ
 mixedBytes by h [] = h
 mixedBytes by h (b ∷ bs) = mixedBytes by (mixed by h b) bs
 
-unfoldable pub mixedWords : ℕ → ℕ → ℕ → List ℕ → ℕ
-mixedWords by zero h s = mixedBytes by h s
-mixedWords by (suc n) h s = mixedWords by n (mixed by h (number 0 (take 4 s))) (drop 4 s)
+abbrev pub joined : ℕ → ℕ → ℕ → ℕ
+joined by one two = mixed by (mixed by 0 one) two
+
+unfoldable pub mixedWords : ℕ → ℕ → ℕ → ℕ → List ℕ → ℕ
+mixedWords by zero one two s = mixedBytes by (joined by one two) s
+mixedWords by (suc n) one two s = mixedWords by n (mixed by one (number 0 (take 4 s))) (mixed by two (number 0 (take 4 (drop 4 s)))) (drop 8 s)
 
 unfoldable pub hashedMessage : ℕ → List ℕ → ℕ
-hashedMessage by message = mixedWords by (length message / 4) 0 message
+hashedMessage by message = mixedWords by (length message / 8) 0 0 message
 
 -- the number of a pair, squared at the end, so that the distance of two starts says nothing of that of their slots
 abbrev pub squared : ℕ → ℕ

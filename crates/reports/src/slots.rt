@@ -7,9 +7,10 @@ use names::u32_at;
 use names::wide;
 ghost use mathlib.Core.Path.{_≡_};
 ghost use Prim.Native.Nat.{_+_, _*_, _<_, _≤_};
-ghost use lib.ListN.{length, getD, set, drop};
+ghost use lib.ListN.{length, getD, set, take, drop};
+ghost use Rattle.names.specs.Fields.{number};
 ghost use Rattle.reports.specs.Sink.{sink, Sound, held};
-ghost use Rattle.reports.specs.Slots.{keyOf, slotsOf, multiplier, middle, mixed, mixedBytes, hashedMessage, hashed, slotAt, Tabled, Finds, isOpen, Empty};
+ghost use Rattle.reports.specs.Slots.{keyOf, slotsOf, multiplier, middle, mixed, mixedBytes, joined, hashedMessage, hashed, slotAt, Tabled, Finds, isOpen, Empty};
 
 fn from_u32(n: u32) -> usize
     ensures { λ r. ⌜ r ≡ n ⌝ }
@@ -59,21 +60,43 @@ fn mix_bytes(by: usize, h: usize, message: &[u8], from: usize) -> usize
     mixed
 }
 
+// The two numbers of a message's words in one.
+fn join(by: usize, one: usize, two: usize) -> usize
+    requires { ⌜ (by < 4294967296) × (one < 4294967296) × (two < 4294967296) ⌝ }
+    ensures { λ r. ⌜ r ≡ joined by one two ⌝ }
+    ensures { λ r. ⌜ r < 4294967296 ⌝ }
+{
+    let first = mix(by, 0, one);
+    mix(by, first, two)
+}
+
+// One number more in a hash, the four bytes at a place.
+fn mix_word(by: usize, h: usize, message: &[u8], at: usize) -> usize
+    requires { ⌜ (by < 4294967296) × (h < 4294967296) ⌝ }
+    requires { ⌜ at + 4 ≤ length (now message) ⌝ }
+    ensures { λ r. ⌜ r ≡ mixed by h (number 0 (take 4 (drop at (now (message .entry))))) ⌝ }
+    ensures { λ r. ⌜ r < 4294967296 ⌝ }
+{
+    mix(by, h, from_u32(u32_at(message, at)))
+}
+
 // The number of a message.
 fn hash_message(by: usize, message: &[u8]) -> usize
     requires { ⌜ by < 4294967296 ⌝ }
     ensures { λ r. ⌜ r ≡ hashedMessage by (now (message .entry)) ⌝ }
     ensures { λ r. ⌜ r < 4294967296 ⌝ }
 {
-    let mut mixed = 0;
+    let mut one = 0;
+    let mut two = 0;
     let mut at = 0;
-    let mut left = message.len() / 4;
+    let mut left = message.len() / 8;
     while 0 < left {
-        mixed = mix(by, mixed, from_u32(u32_at(message, at)));
-        at += 4;
+        one = mix_word(by, one, message, at);
+        two = mix_word(by, two, message, at + 4);
+        at += 8;
         left -= 1;
     }
-    mix_bytes(by, mixed, message, at)
+    mix_bytes(by, join(by, one, two), message, at)
 }
 
 // The number of a start and a message. Without the square the starts' slots would stand about as far from each other under one message as under another.
