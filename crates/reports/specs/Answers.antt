@@ -21,10 +21,6 @@ pub record Answers (st : State) (r : Answer) : Type 0 where
 pub record Refuses (number which : ℕ) (r : Answer) : Type 0 where
   pub is : (s : List ℕ) → outcomeOf r s ≡ refusal number which s
 
--- what is lent as workspace alone is as it was where a record is refused
-pub record Spared (r : Answer) (old new : List ℕ) : Type 0 where
-  pub same : (r .record ≡ 0 → ⊥) → new ≡ old
-
 -- what an entry point says: breaches put in from no report, and the answer made of the state
 module _ (old : List ℕ) {new : List ℕ} {st : State} {r : Answer} (bs : List Breach) where
   pub pushed : {table : List ℕ} → Pushed old none bs new st table → Answers st r → outcomeOf r new ≡ reported (once [] bs) old

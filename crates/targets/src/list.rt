@@ -4,6 +4,7 @@ use names::Found;
 ghost use mathlib.Core.Path.{_≡_};
 ghost use mathlib.Core.Bool.{true};
 ghost use lib.ListN.{length};
+ghost use Prim.Native.Nat.{_<_};
 ghost use Rattle.names.specs.Read.{ending, Listed};
 ghost use Rattle.names.specs.declared.Read.the-variants.{Next};
 ghost use Rattle.targets.specs.Targets.{target};
@@ -23,6 +24,7 @@ fn list_at(s: &[u8]) -> usize
 pub fn count(s: &[u8]) -> usize
     requires { ⌜ areTargets (now s) ≡ true ⌝ }
     ensures { λ r. ⌜ r ≡ length (targetsIn (now (s .entry)) .list) ⌝ }
+    ensures { λ r. ⌜ r < 256 ⌝ }
 {
     let at = list_at(s);
     names::wide(s[at])

@@ -1,15 +1,18 @@
 -- The run: each reached node under a target, each target, and the records that are read before them. Assumes nothing.
-use mathlib.Core.Path.{_≡_, refl, sym, ap, _∙_}
-use mathlib.Core.Bool.{Bool, true, false, true≢false}
-use mathlib.Core.List.{List, [], _∷_}
+use mathlib.Core.Path.{_≡_, refl, sym, ap, ap₂, _∙_}
+use mathlib.Core.Bool.{Bool, true, false, cond}
+use mathlib.Core.List.{List, [], _∷_, _++_, map, append-nil}
 use mathlib.Core.Option.{Option, none, some}
-use Prim.Native.Nat.{ℕ, _+_, _-_, _%_, _≤_, _<_}
+use Prim.Native.Nat.{ℕ, suc, _+_, _-_, _*_, _%_, _≤_, _<_}
+use native.Mathlib.Nat.{add-assoc}
 use native.Mathlib.Omega.{arith}
 use borrow.Author.Needs.{needs}
 use borrow.Author.Tests.{ne-eqb}
-use lib.ListN.{length, drop, drop-of-length-le}
+use lib.Dec.{eqb}
+use lib.ListN.{length, length-map, drop, drop-of-length-le}
 use lib.Seq.{length-take-le}
 use Rattle.names.specs.Lists.{maybe, gather}
+use Rattle.names.specs.Laws.Lists.{gather-append}
 use Rattle.names.specs.Fields.{whole}
 use Rattle.names.specs.Read.{ending, readNumber, valueOr, Listed}
 use Rattle.names.specs.declared.Read.{Read}
@@ -30,63 +33,152 @@ use Rattle.targets.specs.Targets.{Scope, Target, Targets, target, targetRecord}
 use Rattle.targets.specs.Places.{areTargets, targetsIn, isTarget, targetIn}
 use Rattle.condition.specs.Condition.{Condition, conditionRecord}
 use Rattle.condition.specs.Places.{isRecord, recordIn, conditionIn}
+use Rattle.condition.specs.Laws.Records.{record-small}
+use Rattle.condition.specs.Laws.Sizes.{record-nodes}
 use Rattle.condition.specs.Walk.{reached, binders}
 use Rattle.walk.specs.Index.{nodesOf, Index, Reached}
 use Rattle.walk.specs.Environment.{Environment}
 use Rattle.resolution.specs.Resolution.{admitsAnyEnv}
-use Rattle.reports.specs.Reports.{Breach, Outcome, reported}
+use Rattle.reports.specs.Reports.{Breach, Outcome, once, reported}
+use Rattle.reports.specs.Kept.{fold, fold-append}
 use Rattle.reports.specs.declared.State.{State}
 use Rattle.reports.specs.declared.Answer.{Answer}
 use Rattle.reports.specs.Sink as sinks
-use Rattle.reports.specs.Sink.{Sink, sink, push, pushAll}
+use Rattle.reports.specs.Sink.{Sink, sink, push, pushAll, start}
 use Rattle.reports.specs.Slots.{Lent, Pushed}
-use Rattle.reports.specs.Laws.Sinks.{Reporting, reporting-begins, reporting-next, reporting-over, recorded-none}
+use Rattle.reports.specs.Laws.Sinks.{recorded-none, push-full, pushAll-reported}
 use Rattle.reports.specs.Laws.Slots.{zeros-empty, lent-start}
-use Rattle.reports.specs.Answers.{outcomeOf, Answers, Refuses, Spared, pushed}
+use Rattle.reports.specs.Answers.{outcomeOf, Answers, Refuses, pushed}
 use Rattle.terms.specs.declared.Common.{Common}
 use Rattle.terms.specs.declared.Facts.{Facts}
 use Rattle.terms.specs.Terms.{factsOf}
 use Rattle.terms.specs.Facts.{factsIn, Ready, Known, FactsOf}
 use Rattle.terms.specs.Laws.Facts.{facts-mean}
 use Rattle.rules.specs.Rules.{nodeBreaches}
-use Rattle.typecheck.specs.Check.{profileOf, breachesUnder, checked, checkWith, check}
-use Rattle.typecheck.specs.Run.{Accepted, ReadAs, underBreaches, UnderKnown, UnderHere}
+use Rattle.typecheck.specs.Check.{profileOf, breachesUnder, isChecked, visitsUnder, begun, CheckOutcome, checked, checkWith, check}
+use Rattle.typecheck.specs.Answers.{checkOutcomeOf, WithVisits, Spared}
+use Rattle.typecheck.specs.Run.{Accepted, ReadAs, underVisits, UnderKnown, UnderHere, foundBy, begunFrom, Visited}
+use Rattle.typecheck.specs.declared.CheckAnswer.{CheckAnswer}
+use Rattle.typecheck.specs.declared.Progress.{Progress}
 use Rattle.typecheck.specs.declared.Records.{Records}
 use Rattle.typecheck.specs.declared.Records.the-variants as Records
 use Rattle.typecheck.specs.declared.Under.{Under}
 use Rattle.typecheck.specs.declared.Under.the-variants.{Skipped, Checked}
 
+-- ---- visits
+
+-- a buffer that is full stays as it is, and no visit is begun any more
+full-stays : (s : Sink) → s .state .full ≡ true → (bs : List Breach) → pushAll s bs ≡ s
+unfolding fold
+full-stays s h [] = refl
+full-stays s h (b ∷ bs) = rw (← push-full (s .bytes) (s .state) b h) (full-stays s h bs)
+
+full-begins : (s : Sink) → s .state .full ≡ true → (visits : List (List Breach)) → begunFrom s visits ≡ 0
+unfolding begunFrom
+full-begins s h [] = refl
+full-begins s h (v ∷ vs) = rw h
+
+found-append : (s : Sink) (xs ys : List (List Breach)) → pushAll s (foundBy (xs ++ ys)) ≡ pushAll (pushAll s (foundBy xs)) (foundBy ys)
+found-append s xs ys = ap (pushAll s) (gather-append (λ v. v) xs ys) ∙ fold-append push s (foundBy xs) (foundBy ys)
+
+open-begins : (s : Sink) → s .state .full ≡ false → (v : List Breach) (vs : List (List Breach)) → begunFrom s (v ∷ vs) ≡ suc (begunFrom (pushAll s v) vs)
+unfolding begunFrom
+open-begins s h v vs = ap (λ (b : Bool). cond b 0 (suc (begunFrom (pushAll s v) vs))) h
+
+none-begins : (s : Sink) → begunFrom s [] ≡ 0
+unfolding begunFrom
+none-begins s = refl
+
+begun-append : (s : Sink) (xs ys : List (List Breach)) → begunFrom s (xs ++ ys) ≡ begunFrom s xs + begunFrom (pushAll s (foundBy xs)) ys
+unfolding gather fold
+begun-append s [] ys = omega (arith, none-begins s)
+begun-append s (x ∷ xs) ys = go (s .state .full) refl (begun-append (pushAll s x) xs ys)
+  where
+    go : (full : Bool) → s .state .full ≡ full → begunFrom (pushAll s x) (xs ++ ys) ≡ begunFrom (pushAll s x) xs + begunFrom (pushAll (pushAll s x) (foundBy xs)) ys
+        → begunFrom s (x ∷ (xs ++ ys)) ≡ begunFrom s (x ∷ xs) + begunFrom (pushAll s (x ++ foundBy xs)) ys
+    go true e rest =
+        omega (arith, full-begins s e (x ∷ (xs ++ ys)), full-begins s e (x ∷ xs), ap (λ (t : Sink). begunFrom t ys) (full-stays s e (x ++ foundBy xs)), full-begins s e ys)
+    go false e rest =
+        omega (arith, open-begins s e x (xs ++ ys), open-begins s e x xs, ap (λ (t : Sink). begunFrom t ys) (fold-append push s x (foundBy xs)), rest)
+
+begun-few : (s : Sink) (visits : List (List Breach)) → begunFrom s visits ≤ length visits
+unfolding begunFrom
+begun-few s [] = omega arith
+begun-few s (v ∷ vs) = go (s .state .full) (begunFrom (pushAll s v) vs) (begun-few (pushAll s v) vs)
+  where
+    go : (full : Bool) (n : ℕ) → n ≤ length vs → cond full 0 (suc n) ≤ length (v ∷ vs)
+    go true n h = omega arith
+    go false n h = omega arith
+
+-- a loop that makes visits: those that are left, made, make the whole, and those begun since make up the count
+pub record Visiting (all : Sink) (total : ℕ) (now : Sink) (table : List ℕ) (count : ℕ) (left : List (List Breach)) : Type 0 where
+  pub still : Lent now table
+  pub same : pushAll now (foundBy left) ≡ all
+  pub counted : count + begunFrom now left ≡ total
+
+visiting-begins : (a : Sink) (table : List ℕ) (visits : List (List Breach)) → Lent a table → Visiting (pushAll a (foundBy visits)) (begunFrom a visits) a table 0 visits
+visiting-begins a table visits p = record { still = p; same = refl; counted = omega arith }
+
+module _ {all : Sink} {total : ℕ} {now table : List ℕ} {st : State} {count : ℕ} {next table′ : List ℕ} where
+  visiting-next : (xs ys : List (List Breach)) → Visiting all total (sink now st) table count (xs ++ ys) → {r : Progress} → Visited now st xs next r table′ → Visiting all total (sink next (r .state)) table′ (count + r .visits) ys
+  visiting-next xs ys l {r} v = record {
+    still = v .pushed .still;
+    same = ap (λ (s : Sink). pushAll s (foundBy ys)) (v .pushed .is) ∙ sym (found-append (sink now st) xs ys) ∙ l .same;
+    counted = add-assoc count (r .visits) _ ∙ ap₂ (λ (a b : ℕ). count + (a + b)) (v .counted) (ap (λ (s : Sink). begunFrom s ys) (v .pushed .is)) ∙ ap (λ (n : ℕ). count + n) (sym (begun-append (sink now st) xs ys)) ∙ l .counted;
+  }
+
+  visiting-one : (v : List Breach) (ys : List (List Breach)) → Visiting all total (sink now st) table count (v ∷ ys) → st .full ≡ false → {r : State} → Pushed now st v next r table′ → Visiting all total (sink next r) table′ (count + 1) ys
+  unfolding begunFrom gather
+  visiting-one v ys l h {r} p = visiting-next (v ∷ []) ys l {r = record { state = r; visits = 1 }} (record { pushed = rw append-nil p; counted = rw h })
+
+-- it is over where none is left, or where the buffer is full
+module _ {old : List ℕ} {st₀ : State} {visits : List (List Breach)} {now table : List ℕ} {st : State} {count : ℕ} where
+  visiting-over : Visiting (pushAll (sink old st₀) (foundBy visits)) (begunFrom (sink old st₀) visits) (sink now st) table count [] → Visited old st₀ visits now (record { state = st; visits = count }) table
+  unfolding begunFrom gather fold
+  visiting-over l = record { pushed = record { still = l .still; is = l .same }; counted = omega (arith, l .counted) }
+
+  visiting-full : (left : List (List Breach)) → Visiting (pushAll (sink old st₀) (foundBy visits)) (begunFrom (sink old st₀) visits) (sink now st) table count left → st .full ≡ true → Visited old st₀ visits now (record { state = st; visits = count }) table
+  visiting-full left l h = record {
+    pushed = record { still = l .still; is = sym (full-stays (sink now st) h (foundBy left)) ∙ l .same };
+    counted = omega (arith, full-begins (sink now st) h left, l .counted);
+  }
+
 -- ---- the reached nodes
 
--- the invariant of the loop over the nodes: those that are left, put in, make the whole
-abbrev pub NodesLeft : (Condition → List Breach) → List ℕ → Sink → Sink → List ℕ → ℕ → Type 0
-NodesLeft f c whole now table i = Reporting push (λ (s : Sink). Lent s table) f whole now (drop i (nodesOf c))
+-- the invariant of the loop over the nodes, each of which is one visit: the nodes that are left, visited, make the whole
+abbrev pub NodesLeft : (Condition → List Breach) → List ℕ → Sink → ℕ → Sink → List ℕ → ℕ → Type 0
+NodesLeft f c all total now table i = Visiting all total now table i (map f (drop i (nodesOf c)))
 
 module _ (f : Condition → List Breach) (c : List ℕ) where
-  pub nodes-begin : (a : Sink) (table : List ℕ) → Lent a table → NodesLeft f c (pushAll a (gather f (nodesOf c))) a table 0
-  nodes-begin a table p = reporting-begins push f a (nodesOf c) p
+  pub nodes-begin : (a : Sink) (table : List ℕ) → Lent a table → NodesLeft f c (pushAll a (foundBy (map f (nodesOf c)))) (begunFrom a (map f (nodesOf c))) a table 0
+  nodes-begin a table p = visiting-begins a table (map f (nodesOf c)) p
 
   module _ (i : ℕ) where
-    pub nodes-turn : {whole : Sink} {now next table table′ : List ℕ} {st r : State} → NodesLeft f c whole (sink now st) table i → (at : ℕ) → Reached c i at → Pushed now st (f (conditionIn c at)) next r table′ → NodesLeft f c whole (sink next r) table′ (i + 1)
-    nodes-turn l at h e = reporting-next push f (rw (h .rest) at l) e
+    pub nodes-turn : {all : Sink} {total : ℕ} {now next table table′ : List ℕ} {st r : State} → NodesLeft f c all total (sink now st) table i → st .full ≡ false → (at : ℕ) → Reached c i at → Pushed now st (f (conditionIn c at)) next r table′ → NodesLeft f c all total (sink next r) table′ (i + 1)
+    nodes-turn l o at h e = visiting-one (f (conditionIn c at)) (map f (drop (i + 1) (nodesOf c))) (rw (h .rest) at l) o e
 
-    pub nodes-over : {old now table : List ℕ} {st₀ st : State} {bs : List Breach} → NodesLeft f c (pushAll (sink old st₀) bs) (sink now st) table i → (places : List ℕ) → Index c places → length places ≤ i → Pushed old st₀ bs now st table
-    nodes-over l places x h =
-        let over : drop i (nodesOf c) ≡ [] = drop-of-length-le (nodesOf c) {i = i} (omega (arith, x .size)) in
-        reporting-over push f (rw over at l)
+    module _ {old now table : List ℕ} {st₀ st : State} {visits : List (List Breach)} (l : NodesLeft f c (pushAll (sink old st₀) (foundBy visits)) (begunFrom (sink old st₀) visits) (sink now st) table i) where
+      pub nodes-over : (places : List ℕ) → Index c places → length places ≤ i → Visited old st₀ visits now (record { state = st; visits = i }) table
+      nodes-over places x h =
+          let over : drop i (nodesOf c) ≡ [] = drop-of-length-le (nodesOf c) {i = i} (omega (arith, x .size)) in
+          visiting-over (rw over at l)
 
-pub ruleset each-node = (needs, nodes-begin, nodes-turn, nodes-over)
+      pub nodes-full : st .full ≡ true → Visited old st₀ visits now (record { state = st; visits = i }) table
+      nodes-full h = visiting-full (map f (drop i (nodesOf c))) l h
+
+pub ruleset each-node = (needs, nodes-begin, nodes-turn, nodes-over, nodes-full)
 
 -- where the target is checked
 module _ (s c n : List ℕ) (x : Under) where
-  pub target-passed : x ≡ Skipped → (old : List ℕ) (st : State) (table : List ℕ) → Lent (sink old st) table → Pushed old st (underBreaches s c n x) old st table
-  target-passed e old st table p = rw e (recorded-none old st p)
+  pub target-passed : x ≡ Skipped → (old : List ℕ) (st : State) (table : List ℕ) → Lent (sink old st) table → Visited old st (underVisits s c n x) old (record { state = st; visits = 0 }) table
+  unfolding gather begunFrom
+  target-passed e old st table p = rw e (record { pushed = recorded-none old st p; counted = refl })
 
   module _ (f : Facts) (e : x ≡ Checked f) where
     pub facts-known : (env : List ℕ) → UnderKnown s c env x → Known s c env f
     facts-known env h = rw e at h
 
-    pub target-told : {old now table : List ℕ} {st₀ st : State} → Pushed old st₀ (underBreaches s c n (Checked f)) now st table → Pushed old st₀ (underBreaches s c n x) now st table
+    pub target-told : {old now table : List ℕ} {st₀ : State} {r : Progress} → Visited old st₀ (underVisits s c n (Checked f)) now r table → Visited old st₀ (underVisits s c n x) now r table
     target-told p = rw e p
 
 pub ruleset where-checked = (needs, target-passed, facts-known, target-told)
@@ -102,17 +194,14 @@ module _ (s n : List ℕ) (found : Found) (p : ℕ) (e : found ≡ Found.At p) w
 
 pub ruleset whether-checked = (needs, action-stands, admitted)
 
-module _ (p : types.Profile) (s : Schema) (c : Condition) (scope : Scope) (t : Target) where
-  under-checked : (o : Option Action) → o ≡ findAction s (t .namespace) (t .id) → maybe true (admitsAnyEnv s scope) o ≡ true
-      → gather (nodeBreaches (factsOf p s c scope o)) (reached c) ≡ breachesUnder p s c scope t
-  unfolding breachesUnder
-  under-checked none e h = rw (← e)
-  under-checked (some a) e h = rw (← e, h)
+module _ (p : types.Profile) (s : Schema) (c : Condition) (scope : Scope) (t : Target) (o : Option Action) (e : o ≡ findAction s (t .namespace) (t .id)) where
+  under-checked : maybe true (admitsAnyEnv s scope) o ≡ true → map (nodeBreaches (factsOf p s c scope o)) (reached c) ≡ visitsUnder p s c scope t
+  unfolding visitsUnder isChecked
+  under-checked h = rw (← e, h)
 
-  under-skips : (o : Option Action) → o ≡ findAction s (t .namespace) (t .id) → maybe true (admitsAnyEnv s scope) o ≡ false → [] ≡ breachesUnder p s c scope t
-  unfolding breachesUnder
-  under-skips none e h = absurd (true≢false h)
-  under-skips (some a) e h = rw (← e, h)
+  under-skips : maybe true (admitsAnyEnv s scope) o ≡ false → [] ≡ visitsUnder p s c scope t
+  unfolding visitsUnder isChecked
+  under-skips h = rw (← e, h)
 
 module _ (s n : List ℕ) (at : ℕ) (w : List ℕ) (is-w : w ≡ targetIn n at .namespace) (v : List ℕ) (is-v : v ≡ targetIn n at .id) (x : Found) (finds : FindsAction s (findAction (schemaIn s) w v) x)
     (b : Bool) (is-b : b ≡ maybe true (admitsAnyEnv (schemaIn s) (targetsIn n .scope)) (foundIn (actionIn s) x)) (common : Common) where
@@ -135,42 +224,112 @@ pub ruleset one-target = (needs, target-checked, target-skipped)
 
 -- ---- each target
 
-pub record TargetsLeft (f : Target → List Breach) (n : List ℕ) (all now : Sink) (table : List ℕ) (rest at : ℕ) : Type 0 where
+-- the largest number of visits: those of 255 targets, each with the 3,641 that a condition record can have
+pub record TargetsLeft (f : Target → List (List Breach)) (n : List ℕ) (all : Sink) (total : ℕ) (now : Sink) (table : List ℕ) (count rest at : ℕ) : Type 0 where
   pub left : List Target
   pub there : Listed target n left rest at
-  pub reporting : Reporting push (λ (s : Sink). Lent s table) f all now left
+  pub visiting : Visiting all total now table count (gather f left)
+  pub few : count + 3641 * rest ≤ 928455
 
-module _ (f : Target → List Breach) (n : List ℕ) where
-  pub targets-begin : (a : Sink) (table : List ℕ) (list : List Target) (rest at : ℕ) → rest ≡ length list → Listed target n list (length list) at → Lent a table → TargetsLeft f n (pushAll a (gather f list)) a table rest at
-  targets-begin a table list rest at e l p = record { left = list; there = rw e l; reporting = reporting-begins push f a list p }
+module _ (f : Target → List (List Breach)) (n : List ℕ) where
+  pub targets-begin : (a : Sink) (table : List ℕ) (list : List Target) (rest at : ℕ) → rest ≡ length list → rest < 256 → Listed target n list (length list) at → Lent a table → TargetsLeft f n (pushAll a (foundBy (gather f list))) (begunFrom a (gather f list)) a table 0 rest at
+  targets-begin a table list rest at e m l p = record { left = list; there = rw e l; visiting = visiting-begins a table (gather f list) p; few = omega arith }
 
-  module _ (rest at : ℕ) where
-    pub targets-over : {old now table : List ℕ} {st₀ st : State} {bs : List Breach} → TargetsLeft f n (pushAll (sink old st₀) bs) (sink now st) table rest at → rest ≤ 0 → Pushed old st₀ bs now st table
-    targets-over l h = reporting-over push f (rw (listed-over target n (l .left) rest at h (l .there)) at (l .reporting))
+  module _ (count rest at : ℕ) where
+    module _ {old now table : List ℕ} {st₀ st : State} {visits : List (List Breach)} (l : TargetsLeft f n (pushAll (sink old st₀) (foundBy visits)) (begunFrom (sink old st₀) visits) (sink now st) table count rest at) where
+      pub targets-over : rest ≤ 0 → Visited old st₀ visits now (record { state = st; visits = count }) table
+      unfolding gather
+      targets-over h = visiting-over (rw (listed-over target n (l .left) rest at h (l .there)) at (l .visiting))
 
-    pub targets-stand : {all now : Sink} {table : List ℕ} → TargetsLeft f n all now table rest at → 0 < rest → isTarget n at ≡ true
-    targets-stand l h = listed-first target n (record { namespace = []; id = [] }) (l .left) rest at h (l .there) .stands
+      pub targets-full : st .full ≡ true → Visited old st₀ visits now (record { state = st; visits = count }) table
+      targets-full h = visiting-full (gather f (l .left)) (l .visiting) h
 
-    targets-turn : {all : Sink} {now next table table′ : List ℕ} {st r : State} → TargetsLeft f n all (sink now st) table rest at → 0 < rest → Pushed now st (f (targetIn n at)) next r table′ → (m : ℕ) → Read.Next m ≡ ending (target n at) → TargetsLeft f n all (sink next r) table′ (rest - 1) m
-    targets-turn l h e m g =
-        let d = listed-first target n (record { namespace = []; id = [] }) (l .left) rest at h (l .there) in
-        record { left = d .others; there = d .on m g; reporting = reporting-next push f (rw (d .value) at (l .reporting)) e }
+    module _ {all : Sink} {total : ℕ} {now table : List ℕ} {st : State} (l : TargetsLeft f n all total (sink now st) table count rest at) (h : 0 < rest) where
+      pub targets-stand : isTarget n at ≡ true
+      targets-stand = listed-first target n (record { namespace = []; id = [] }) (l .left) rest at h (l .there) .stands
+
+      targets-turn : {next table′ : List ℕ} {r : Progress} → Visited now st (f (targetIn n at)) next r table′ → r .visits ≤ 3641 → (m : ℕ) → Read.Next m ≡ ending (target n at) → TargetsLeft f n all total (sink next (r .state)) table′ (count + r .visits) (rest - 1) m
+      unfolding gather
+      targets-turn e few m g =
+          let d = listed-first target n (record { namespace = []; id = [] }) (l .left) rest at h (l .there) in
+          record {
+            left = d .others;
+            there = d .on m g;
+            visiting = visiting-next (f (targetIn n at)) (gather f (d .others)) (rw (d .value) at (l .visiting)) e;
+            few = omega (arith, l .few);
+          }
+
+-- under one target no more visits are begun than the condition has reached nodes
+under-few : (s c n : List ℕ) (x : Under) → isRecord c ≡ true → length c ≤ 32768 → length (underVisits s c n x) ≤ 3641
+under-few s c n Skipped acc l = omega arith
+under-few s c n (Checked f) acc l = omega (arith, length-map (nodesOf c) (nodeBreaches (factsIn s c n f)), record-nodes c acc)
 
 module _ (s c n : List ℕ) (common : Common) (at : ℕ) (x : Under) (h : UnderHere s n common at x) where
   pub target-known : (env : List ℕ) → Ready s c env common → UnderKnown s c env x
   target-known env r = h .known c env r
 
-  pub target-turn : (rest : ℕ) {all : Sink} {now next table table′ : List ℕ} {st r : State} → TargetsLeft (breachesUnder (profileIn (common .profile)) (schemaIn s) (recordIn c) (targetsIn n .scope)) n all (sink now st) table rest at → 0 < rest → Pushed now st (underBreaches s c n x) next r table′
-      → (m : ℕ) → Read.Next m ≡ ending (target n at) → TargetsLeft (breachesUnder (profileIn (common .profile)) (schemaIn s) (recordIn c) (targetsIn n .scope)) n all (sink next r) table′ (rest - 1) m
-  target-turn rest l p e m g = targets-turn (breachesUnder (profileIn (common .profile)) (schemaIn s) (recordIn c) (targetsIn n .scope)) n rest at l p (rw (h .value c) at e) m g
+  visits-few : {env : List ℕ} → Ready s c env common → {now next table : List ℕ} {st : State} {r : Progress} → Visited now st (underVisits s c n x) next r table → r .visits ≤ 3641
+  visits-few a {now} {st = st} v = omega (arith, v .counted, begun-few (sink now st) (underVisits s c n x), under-few s c n x (a .condition) (record-small c (a .condition)))
 
-pub ruleset each-target = (needs, targets-begin, targets-over, targets-stand, target-known, target-turn)
+  -- the visits of this target are added to those before it: the sum is a number of the machine, and the rest goes on
+  module _ {env : List ℕ} (a : Ready s c env common) (count rest : ℕ) {all : Sink} {total : ℕ} {now next table table′ : List ℕ} {st : State} {r : Progress}
+      (l : TargetsLeft (visitsUnder (profileIn (common .profile)) (schemaIn s) (recordIn c) (targetsIn n .scope)) n all total (sink now st) table count rest at) (p : 0 < rest) (e : Visited now st (underVisits s c n x) next r table′) where
+    pub target-sum : count + r .visits < 18446744073709551616
+    target-sum = omega (arith, l .few, visits-few a e)
+
+    pub target-turn : (m : ℕ) → Read.Next m ≡ ending (target n at) → TargetsLeft (visitsUnder (profileIn (common .profile)) (schemaIn s) (recordIn c) (targetsIn n .scope)) n all total (sink next (r .state)) table′ (count + r .visits) (rest - 1) m
+    target-turn m g = targets-turn (visitsUnder (profileIn (common .profile)) (schemaIn s) (recordIn c) (targetsIn n .scope)) n count rest at l p (rw (h .value c) at e) (visits-few a e) m g
+
+pub ruleset each-target = (needs, targets-begin, targets-over, targets-full, targets-stand, target-known, target-sum, target-turn)
 
 -- ---- the records
 
-pub all-checked : (p : types.Profile) (s : Schema) (c : Condition) (ts : Targets) (b : List ℕ) {t table : List ℕ} {st : State} → Pushed b sinks.none (gather (breachesUnder p s c (ts .scope)) (ts .list)) t st table → {r : Answer} → Answers st r → outcomeOf r t ≡ checked p s c ts b
-unfolding checked
-all-checked p s c ts b e a = pushed b (gather (breachesUnder p s c (ts .scope)) (ts .list)) e a
+-- the visits find what the targets' breaches are
+found-under : (p : types.Profile) (s : Schema) (c : Condition) (scope : Scope) (t : Target) → foundBy (visitsUnder p s c scope t) ≡ breachesUnder p s c scope t
+unfolding visitsUnder isChecked breachesUnder gather
+found-under p s c scope t = go (findAction s (t .namespace) (t .id))
+  where
+    each : (f : Condition → List Breach) (cs : List Condition) → foundBy (map f cs) ≡ gather f cs
+    each f [] = refl
+    each f (x ∷ xs) = rw (each f xs)
+
+    admits : (b : Bool) (f : Condition → List Breach) → foundBy (cond b (map f (reached c)) []) ≡ cond b (gather f (reached c)) []
+    admits true f = each f (reached c)
+    admits false f = refl
+
+    go : (o : Option Action) → foundBy (cond (maybe true (admitsAnyEnv s scope) o) (map (nodeBreaches (factsOf p s c scope o)) (reached c)) [])
+        ≡ maybe (gather (nodeBreaches (factsOf p s c scope none)) (reached c)) (λ a. cond (admitsAnyEnv s scope a) (gather (nodeBreaches (factsOf p s c scope (some a))) (reached c)) []) o
+    go none = each (nodeBreaches (factsOf p s c scope none)) (reached c)
+    go (some a) = admits (admitsAnyEnv s scope a) (nodeBreaches (factsOf p s c scope (some a)))
+
+found-all : (p : types.Profile) (s : Schema) (c : Condition) (scope : Scope) (list : List Target) → foundBy (gather (visitsUnder p s c scope) list) ≡ gather (breachesUnder p s c scope) list
+unfolding gather
+found-all p s c scope [] = refl
+found-all p s c scope (t ∷ list) = gather-append (λ v. v) (visitsUnder p s c scope t) (gather (visitsUnder p s c scope) list) ∙ ap₂ (λ (a b : List Breach). a ++ b) (found-under p s c scope t) (found-all p s c scope list)
+
+-- a run from no report begins the visits of the definition
+begun-run : (old : List ℕ) (before : List Breach) (visits : List (List Breach)) → begunFrom (pushAll (start old) before) visits ≡ begun old before visits
+unfolding begunFrom begun
+begun-run old before [] = refl
+begun-run old before (v ∷ vs) =
+    let e : reported (once [] before) old .answer .number ≡ cond (pushAll (start old) before .state .full) 11 0 = sym (ap (λ (o : Outcome). o .answer .number) (pushAll-reported old before)) in
+    let next : begunFrom (pushAll (pushAll (start old) before) v) vs ≡ begun old (before ++ v) vs = ap (λ (s : Sink). begunFrom s vs) (sym (fold-append push (start old) before v)) ∙ begun-run old (before ++ v) vs in
+    go (pushAll (start old) before .state .full) _ e (begunFrom (pushAll (pushAll (start old) before) v) vs) (begun old (before ++ v) vs) next
+  where
+    go : (full : Bool) (number : ℕ) → number ≡ cond full 11 0 → (a b : ℕ) → a ≡ b → cond full 0 (suc a) ≡ cond (eqb number 0) (suc b) 0
+    go true number e a b q = rw e
+    go false number e a b q = rw (e, q)
+
+pub all-checked : (p : types.Profile) (s : Schema) (c : Condition) (ts : Targets) (b : List ℕ) {t table : List ℕ} {end : Progress} → Visited b sinks.none (gather (visitsUnder p s c (ts .scope)) (ts .list)) t end table
+    → {a : Answer} → Answers (end .state) a → {r : CheckAnswer} → WithVisits a (end .visits) r → checkOutcomeOf r t ≡ checked p s c ts b
+unfolding checked fold
+all-checked p s c ts b {t} e a w =
+    let visits = gather (visitsUnder p s c (ts .scope)) (ts .list) in
+    w .is t
+    ∙ λ i. record {
+      outcome = (pushed b (foundBy visits) (e .pushed) a ∙ ap (λ (bs : List Breach). reported (once [] bs) b) (found-all p s c (ts .scope) (ts .list))) i;
+      visits = (e .counted ∙ begun-run b [] visits) i;
+    }
 
 pub all-ready : (s c n env : List ℕ) (row : Row) (p : Profile) → Accepted s c n → Environment c (binders (recordIn c)) env → ActionsOf s row → Ready s c env (record { actions = row; profile = p })
 all-ready s c n env row p a e g = record { schema = a .schema; condition = a .condition; named = e; actions = g }
@@ -228,10 +387,10 @@ module _ (s c n b : List ℕ) (x : Records) (is : ReadAs s c n x) where
   accepted-records e = rw e at is
 
   module _ (rules : ℕ) where
-    pub refused-records : (k w : ℕ) → x ≡ Records.Refused k w → (a : Answer) → Refuses k w a → outcomeOf a b ≡ checkWith rules s c n b
-    refused-records k w e a r = r .is b ∙ (rw e at is) rules b
+    pub refused-records : (k w : ℕ) → x ≡ Records.Refused k w → {a : Answer} → Refuses k w a → {r : CheckAnswer} → WithVisits a 0 r → checkOutcomeOf r b ≡ checkWith rules s c n b
+    refused-records k w e f v = v .is b ∙ ap (λ (o : Outcome). record { outcome = o; visits = 0 }) (f .is b) ∙ (rw e at is) rules b
 
-    pub records-checked : x ≡ Records.Read → (p : Profile) → profileIn p ≡ profileOf rules → (a : Answer) (t : List ℕ) → outcomeOf a t ≡ checked (profileIn p) (schemaIn s) (recordIn c) (targetsIn n) b → outcomeOf a t ≡ checkWith rules s c n b
+    pub records-checked : x ≡ Records.Read → (p : Profile) → profileIn p ≡ profileOf rules → (a : CheckAnswer) (t : List ℕ) → checkOutcomeOf a t ≡ checked (profileIn p) (schemaIn s) (recordIn c) (targetsIn n) b → checkOutcomeOf a t ≡ checkWith rules s c n b
     unfolding checkWith valueOr recordIn
     records-checked e p h a t i =
         let r = accepted-records e in
@@ -240,20 +399,25 @@ module _ (s c n b : List ℕ) (x : Records) (is : ReadAs s c n x) where
         let w = accept (whole targetRecord n) (r .targets) in
         i ∙ rw (h, u .read, v .read, w .read)
 
-  pub refused-plain : (k w : ℕ) → x ≡ Records.Refused k w → (a : Answer) → Refuses k w a → outcomeOf a b ≡ check s c n b
+  pub refused-plain : (k w : ℕ) → x ≡ Records.Refused k w → {a : Answer} → Refuses k w a → {r : CheckAnswer} → WithVisits a 0 r → checkOutcomeOf r b ≡ check s c n b
   unfolding check
-  refused-plain k w e a r = refused-records 0 k w e a r
+  refused-plain k w e f v = refused-records 0 k w e f v
 
-  pub plain-checked : x ≡ Records.Read → (a : Answer) (t : List ℕ) → outcomeOf a t ≡ checked types.plain (schemaIn s) (recordIn c) (targetsIn n) b → outcomeOf a t ≡ check s c n b
+  pub plain-checked : x ≡ Records.Read → (a : CheckAnswer) (t : List ℕ) → checkOutcomeOf a t ≡ checked types.plain (schemaIn s) (recordIn c) (targetsIn n) b → checkOutcomeOf a t ≡ check s c n b
   unfolding check profileOf
   plain-checked e a t i = records-checked 0 e Profile.Plain refl a t i
 
+-- the answer with its visits
+pub told-visits : (a : Answer) (n : ℕ) → WithVisits a n (record { number = a .number; «record» = a .record; count = a .count; visits = n })
+unfolding checkOutcomeOf outcomeOf
+told-visits a n = record { is = λ s. refl }
+
 -- the workspace
-pub spared-refused : (a : Answer) (table : List ℕ) → Spared a table table
+pub spared-refused : (a : CheckAnswer) (table : List ℕ) → Spared a table table
 spared-refused a table = record { same = λ h. refl }
 
-pub spared-checked : (p : types.Profile) (s : Schema) (c : Condition) (ts : Targets) (b : List ℕ) (a : Answer) (t : List ℕ) → outcomeOf a t ≡ checked p s c ts b → (old new : List ℕ) → Spared a old new
-unfolding outcomeOf checked reported
-spared-checked p s c ts b a t e old new = record { same = λ h. absurd (h (ap (λ (o : Outcome). o .answer .recordNumber) e)) }
+pub spared-checked : (p : types.Profile) (s : Schema) (c : Condition) (ts : Targets) (b : List ℕ) (a : CheckAnswer) (t : List ℕ) → checkOutcomeOf a t ≡ checked p s c ts b → (old new : List ℕ) → Spared a old new
+unfolding checkOutcomeOf checked reported
+spared-checked p s c ts b a t e old new = record { same = λ h. absurd (h (ap (λ (o : CheckOutcome). o .outcome .answer .recordNumber) e)) }
 
-pub ruleset answering = (needs, zeros-empty, accepted-records, refused-records, records-checked, refused-plain, plain-checked, spared-refused, spared-checked)
+pub ruleset answering = (needs, told-visits, zeros-empty, accepted-records, refused-records, records-checked, refused-plain, plain-checked, spared-refused, spared-checked)

@@ -1,7 +1,7 @@
--- The check: the reports of what a condition breaks at each node that the walk reaches, under each target, and the answer.
-use Prim.Native.Nat.{ℕ, _%_}
-use mathlib.Core.Bool.{cond}
-use mathlib.Core.List.{List, []}
+-- The check: the reports of what a condition breaks at each node that the walk reaches, under each target, how many such visits are begun, and the answer.
+use Prim.Native.Nat.{ℕ, suc, _%_}
+use mathlib.Core.Bool.{Bool, true, cond}
+use mathlib.Core.List.{List, [], _∷_, _++_, map}
 use mathlib.Core.Option.{none, some}
 use lib.Dec.{eqb}
 use Rattle.names.specs.Lists.{maybe, gather}
@@ -31,19 +31,47 @@ breachesUnder p s c scope t =
     (λ a. cond (admitsAnyEnv s scope a) (gather (nodeBreaches (factsOf p s c scope (some a))) (reached c)) [])
     (findAction s (t .namespace) (t .id))
 
+-- a target that is checked, and not skipped: the schema has no action for its namespace and id, or the action admits an environment under the narrowing
+unfoldable pub isChecked : Schema → Scope → Target → Bool
+isChecked s scope t = maybe true (admitsAnyEnv s scope) (findAction s (t .namespace) (t .id))
+
+-- the visits under one target, each as the breaches that it finds: one for each reached node, and none where the target is skipped
+unfoldable pub visitsUnder : Profile → Schema → Condition → Scope → Target → List (List Breach)
+visitsUnder p s c scope t =
+    cond (isChecked s scope t) (map (nodeBreaches (factsOf p s c scope (findAction s (t .namespace) (t .id)))) (reached c)) []
+
+-- how many of these visits are begun, `before` being what earlier ones found: each one before which every report fits in the buffer. So the last one
+-- is that whose report did not fit, if there is such a one
+unfoldable pub begun : List ℕ → List Breach → List (List Breach) → ℕ
+begun buffer before [] = 0
+begun buffer before (found ∷ rest) = cond (eqb (reported (once [] before) buffer .answer .number) 0) (suc (begun buffer (before ++ found) rest)) 0
+
+-- what a check answers and leaves in the buffer, and how many visits it has begun
+pub record CheckOutcome : Type 0 where
+  pub outcome : Outcome
+  pub visits : ℕ
+
 -- the check of three records that were read
-unfoldable pub checked : Profile → Schema → Condition → Targets → List ℕ → Outcome
-checked p s c ts buffer = reported (once [] (gather (breachesUnder p s c (ts .scope)) (ts .list))) buffer
+unfoldable pub checked : Profile → Schema → Condition → Targets → List ℕ → CheckOutcome
+checked p s c ts buffer =
+    record {
+      outcome = reported (once [] (gather (breachesUnder p s c (ts .scope)) (ts .list))) buffer;
+      visits = begun buffer [] (gather (visitsUnder p s c (ts .scope)) (ts .list));
+    }
+
+-- where a record is refused no visit is begun
+abbrev pub unvisited : ℕ → ℕ → List ℕ → CheckOutcome
+unvisited number rec buffer = record { outcome = refusal number rec buffer; visits = 0 }
 
 -- the check with the caller's rules: the records are read in their order, and the first refusal stands
-unfoldable pub checkWith : ℕ → List ℕ → List ℕ → List ℕ → List ℕ → Outcome
+unfoldable pub checkWith : ℕ → List ℕ → List ℕ → List ℕ → List ℕ → CheckOutcome
 checkWith rules schemaBytes conditionBytes targetBytes buffer =
-    either (λ r. refusal r 1 buffer)
-    (λ s. either (λ r. refusal r 2 buffer)
-    (λ c. either (λ r. refusal r 3 buffer) (λ ts. checked (profileOf rules) s c ts buffer) (whole targets.targetRecord targetBytes))
+    either (λ r. unvisited r 1 buffer)
+    (λ s. either (λ r. unvisited r 2 buffer)
+    (λ c. either (λ r. unvisited r 3 buffer) (λ ts. checked (profileOf rules) s c ts buffer) (whole targets.targetRecord targetBytes))
     (whole condition.conditionRecord conditionBytes))
     (whole schema.schemaRecord schemaBytes)
 
 -- the check that the Rust measures: no rules
-unfoldable pub check : List ℕ → List ℕ → List ℕ → List ℕ → Outcome
+unfoldable pub check : List ℕ → List ℕ → List ℕ → List ℕ → CheckOutcome
 check = checkWith 0

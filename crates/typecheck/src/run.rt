@@ -1,4 +1,6 @@
 // The run: the records read in their order, the condition indexed once, then each target and each reached node under it.
+use crate::CheckAnswer;
+use crate::Progress;
 use crate::Records;
 use crate::Under;
 use names::Found;
@@ -21,13 +23,13 @@ ghost use Rattle.condition.specs.Places.{recordIn};
 ghost use Rattle.walk.specs.Index.{Index};
 ghost use Rattle.resolution.specs.Resolution.{admitsAnyEnv};
 ghost use Rattle.reports.specs.Sink.{sink};
-ghost use Rattle.reports.specs.Slots.{Lent, Pushed, Empty};
-ghost use Rattle.reports.specs.Answers.{outcomeOf, Spared};
+ghost use Rattle.reports.specs.Slots.{Lent, Empty};
 ghost use Rattle.terms.specs.Facts.{Ready, Known};
 ghost use Rattle.typecheck.specs.Check.{profileOf, checked, checkWith, check};
-ghost use Rattle.typecheck.specs.Run.{Accepted, ReadAs, underBreaches, UnderKnown, UnderHere, allBreaches};
+ghost use Rattle.typecheck.specs.Answers.{checkOutcomeOf, WithVisits, Spared};
+ghost use Rattle.typecheck.specs.Run.{Accepted, ReadAs, underVisits, UnderKnown, UnderHere, allVisits, Visited};
 
-// The reached nodes under the facts of a target.
+// The reached nodes under the facts of a target, up to the one whose report does not fit.
 fn nodes<'a>(
     buf: &mut [u8],
     table: &mut [u32],
@@ -38,20 +40,29 @@ fn nodes<'a>(
     places: &[u16],
     env: &[u16],
     facts: Facts,
-) -> State
+) -> Progress
     requires { ⌜ Lent (sink (now buf) state) (now table) ⌝ }
     requires { ⌜ Index (now condition) (now places) ⌝ }
     requires { ⌜ Known (now schema) (now condition) (now env) facts ⌝ }
-    ensures { λ after. ⌜ Pushed (now (buf .entry)) state (underBreaches (now (schema .entry)) (now (condition .entry)) (now (targets .entry)) (Under.Checked facts)) (now (buf .exit)) after (now (table .exit)) ⌝ }
+    ensures { λ r. ⌜ Visited (now (buf .entry)) state (underVisits (now (schema .entry)) (now (condition .entry)) (now (targets .entry)) (Under.Checked facts)) (now (buf .exit)) r (now (table .exit)) ⌝ }
 {
     let mut now = state;
     let mut i = 0;
     while i < places.len() {
+        if now.full {
+            return Progress {
+                state: now,
+                visits: i,
+            };
+        }
         let at = walk::reached_at(condition, places, i);
         i += 1;
         now = rules::node(buf, table, now, schema, condition, targets, env, facts, at);
     }
-    now
+    Progress {
+        state: now,
+        visits: i,
+    }
 }
 
 // The reached nodes under a target, where it is checked.
@@ -65,14 +76,14 @@ fn under<'a>(
     places: &[u16],
     env: &[u16],
     target: Under,
-) -> State
+) -> Progress
     requires { ⌜ Lent (sink (now buf) state) (now table) ⌝ }
     requires { ⌜ Index (now condition) (now places) ⌝ }
     requires { ⌜ UnderKnown (now schema) (now condition) (now env) target ⌝ }
-    ensures { λ after. ⌜ Pushed (now (buf .entry)) state (underBreaches (now (schema .entry)) (now (condition .entry)) (now (targets .entry)) target) (now (buf .exit)) after (now (table .exit)) ⌝ }
+    ensures { λ r. ⌜ Visited (now (buf .entry)) state (underVisits (now (schema .entry)) (now (condition .entry)) (now (targets .entry)) target) (now (buf .exit)) r (now (table .exit)) ⌝ }
 {
     let Under::Checked(facts) = target else {
-        return state;
+        return Progress { state, visits: 0 };
     };
     nodes(
         buf,
@@ -121,7 +132,7 @@ fn under_target(schema: &[u8], targets: &[u8], common: Common, at: usize) -> Und
     Under::Skipped
 }
 
-// Each target of the record.
+// Each target of the record, up to the one under which a report does not fit.
 fn all_targets<'a>(
     buf: &mut [u8],
     table: &mut [u32],
@@ -132,19 +143,23 @@ fn all_targets<'a>(
     places: &[u16],
     env: &[u16],
     common: Common,
-) -> State
+) -> Progress
     requires { ⌜ Lent (sink (now buf) state) (now table) ⌝ }
     requires { ⌜ Ready (now schema) (now condition) (now env) common ⌝ }
     requires { ⌜ areTargets (now targets) ≡ true ⌝ }
     requires { ⌜ Index (now condition) (now places) ⌝ }
-    ensures { λ after. ⌜ Pushed (now (buf .entry)) state (allBreaches (profileIn (common .profile)) (now (schema .entry)) (now (condition .entry)) (now (targets .entry))) (now (buf .exit)) after (now (table .exit)) ⌝ }
+    ensures { λ r. ⌜ Visited (now (buf .entry)) state (allVisits (profileIn (common .profile)) (now (schema .entry)) (now (condition .entry)) (now (targets .entry))) (now (buf .exit)) r (now (table .exit)) ⌝ }
 {
     let mut now = state;
+    let mut visits = 0;
     let mut rest = targets::count(targets);
     let mut at = targets::first_target(targets);
     while 0 < rest {
+        if now.full {
+            return Progress { state: now, visits };
+        }
         let target = under_target(schema, targets, common, at);
-        now = under(
+        let done = under(
             buf,
             table,
             now,
@@ -157,8 +172,22 @@ fn all_targets<'a>(
         );
         at = targets::next_target(targets, at);
         rest -= 1;
+        visits += done.visits;
+        now = done.state;
     }
-    now
+    Progress { state: now, visits }
+}
+
+// The answer of a run, with so many visits.
+fn with_visits(answer: Answer, visits: usize) -> CheckAnswer
+    ensures { λ r. ⌜ WithVisits answer visits r ⌝ }
+{
+    CheckAnswer {
+        number: answer.number,
+        record: answer.record,
+        count: answer.count,
+        visits,
+    }
 }
 
 // The check over the reached nodes: the binders are put into a table by name, and the row of the schema's actions is found, once.
@@ -170,11 +199,11 @@ fn over_places<'a>(
     targets: &[u8],
     places: &[u16],
     profile: Profile,
-) -> Answer
+) -> CheckAnswer
     requires { ⌜ Accepted (now schema) (now condition) (now targets) ⌝ }
     requires { ⌜ Index (now condition) (now places) ⌝ }
     requires { ⌜ Empty (now table) ⌝ }
-    ensures { λ r. ⌜ outcomeOf r (now (buf .exit)) ≡ checked (profileIn profile) (schemaIn (now (schema .entry))) (recordIn (now (condition .entry))) (targetsIn (now (targets .entry))) (now (buf .entry)) ⌝ }
+    ensures { λ r. ⌜ checkOutcomeOf r (now (buf .exit)) ≡ checked (profileIn profile) (schemaIn (now (schema .entry))) (recordIn (now (condition .entry))) (targetsIn (now (targets .entry))) (now (buf .entry)) ⌝ }
 {
     let mut binders = [0u16; 10921];
     let n = walk::environment(condition, places, &mut binders);
@@ -187,7 +216,7 @@ fn over_places<'a>(
         count: 0,
         full: false,
     };
-    let state = all_targets(
+    let end = all_targets(
         buf,
         table,
         none,
@@ -198,7 +227,7 @@ fn over_places<'a>(
         &binders[..n],
         common,
     );
-    reports::answer_of(state)
+    with_visits(reports::answer_of(end.state), end.visits)
 }
 
 // The check of three records that were read, with a table of free slots: the condition is indexed once.
@@ -209,10 +238,10 @@ fn checked<'a>(
     condition: &'a [u8],
     targets: &[u8],
     profile: Profile,
-) -> Answer
+) -> CheckAnswer
     requires { ⌜ Accepted (now schema) (now condition) (now targets) ⌝ }
     requires { ⌜ Empty (now table) ⌝ }
-    ensures { λ r. ⌜ outcomeOf r (now (buf .exit)) ≡ checked (profileIn profile) (schemaIn (now (schema .entry))) (recordIn (now (condition .entry))) (targetsIn (now (targets .entry))) (now (buf .entry)) ⌝ }
+    ensures { λ r. ⌜ checkOutcomeOf r (now (buf .exit)) ≡ checked (profileIn profile) (schemaIn (now (schema .entry))) (recordIn (now (condition .entry))) (targetsIn (now (targets .entry))) (now (buf .entry)) ⌝ }
 {
     let mut places = [0u16; 3641];
     let n = walk::index_record(condition, &mut places);
@@ -257,12 +286,17 @@ fn profile_of(rules: u8) -> Profile
 }
 
 // The check of a schema, a condition and a target record, into a lent buffer, with no rules. The table is its own, for as many reports as a rule's writer looks at.
-pub fn check<'a>(schema: &'a [u8], condition: &'a [u8], targets: &[u8], buf: &mut [u8]) -> Answer
-    ensures { λ r. ⌜ outcomeOf r (now (buf .exit)) ≡ check (now (schema .entry)) (now (condition .entry)) (now (targets .entry)) (now (buf .entry)) ⌝ }
+pub fn check<'a>(
+    schema: &'a [u8],
+    condition: &'a [u8],
+    targets: &[u8],
+    buf: &mut [u8],
+) -> CheckAnswer
+    ensures { λ r. ⌜ checkOutcomeOf r (now (buf .exit)) ≡ check (now (schema .entry)) (now (condition .entry)) (now (targets .entry)) (now (buf .entry)) ⌝ }
 {
     let records = read_records(schema, condition, targets);
     if let Records::Refused(number, which) = records {
-        return refused(number, which);
+        return with_visits(refused(number, which), 0);
     }
     let mut table = [0u32; 2048];
     checked(buf, &mut table, schema, condition, targets, Profile::Plain)
@@ -276,13 +310,13 @@ pub fn check_with<'a>(
     targets: &[u8],
     buf: &mut [u8],
     table: &mut [u32],
-) -> Answer
-    ensures { λ r. ⌜ outcomeOf r (now (buf .exit)) ≡ checkWith rules (now (schema .entry)) (now (condition .entry)) (now (targets .entry)) (now (buf .entry)) ⌝ }
+) -> CheckAnswer
+    ensures { λ r. ⌜ checkOutcomeOf r (now (buf .exit)) ≡ checkWith rules (now (schema .entry)) (now (condition .entry)) (now (targets .entry)) (now (buf .entry)) ⌝ }
     ensures { λ r. ⌜ Spared r (now (table .entry)) (now (table .exit)) ⌝ }
 {
     let records = read_records(schema, condition, targets);
     if let Records::Refused(number, which) = records {
-        return refused(number, which);
+        return with_visits(refused(number, which), 0);
     }
     reports::clear(table);
     let profile = profile_of(rules);

@@ -10,6 +10,7 @@ check-spec =
     (λ c κs. search answering)
     (λ c. search answering)
     (λ c κs. search answering)
+    (λ c κs. search answering)
     (λ c. search answering)
     (λ c. search answering)
     (λ c. search answering)

@@ -14,6 +14,7 @@ over-places-spec =
     (λ c. search indexed)
     (λ c κs. (search indexed, (search indexed, (search indexed, search indexed))))
     (λ c κs. search indexed)
+    (λ c κs. search indexed)
     (λ c. search indexed)
     (λ c. search indexed)
     (λ c. search indexed))
