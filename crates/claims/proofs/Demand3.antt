@@ -18,16 +18,16 @@ use Rattle.condition.specs.Walk.{reached}
 use Rattle.targets.specs.Targets.{Target, Targets, Scope}
 use Rattle.resolution.specs.Resolution.{admitsAnyEnv}
 use Rattle.reports.specs.Reports.{Breach, Outcome, once, reported}
-use Rattle.reports.specs.Answers.{outcomeOf}
 use Rattle.reports.specs.Laws.Reports as laws
 use Rattle.reports.specs.Laws.Once.{both, both-in, both-nodup}
 use Rattle.reports.specs.Laws.Sets.{in-left, in-right, in-append, length-same}
 use Rattle.reports.specs.Pairs.{_∈_, NoDup, Same, Pair, pairOf, pairs, space}
 use Rattle.terms.specs.Terms.{factsOf}
 use Rattle.rules.specs.Rules.{nodeBreaches}
-use Rattle.typecheck.specs.Check.{profileOf, breachesUnder, checked, checkWith}
+use Rattle.typecheck.specs.Check.{profileOf, breachesUnder, isChecked, CheckOutcome, checked, checkWith}
+use Rattle.typecheck.specs.Answers.{checkOutcomeOf}
 use Rattle.claims.specs.Written.{written}
-use Rattle.claims.specs.Breaches.{Accepted, isChecked, BreachUnder, BreachOf, PairOf, Different, SpaceForAll, Run, reportedPairs, Shared, Exact, under, Alone, Taken, RunOf, Counts, Joined, Alike, Claim}
+use Rattle.claims.specs.Breaches.{Accepted, BreachUnder, BreachOf, PairOf, Different, SpaceForAll, Run, reportedPairs, Shared, Exact, under, Alone, Taken, RunOf, Counts, Joined, Alike, Claim}
 use Rattle.claims.proofs.Written.{no-other, front-accepted, behind-accepted}
 
 -- ---- what is gathered from a list, and the pairs of a list
@@ -138,17 +138,17 @@ module _ (rules : ℕ) (schemaBytes conditionBytes : List ℕ) (s : Schema) (c :
   -- what a run over accepted records leaves is given by its breaches
   module _ (targetBytes : List ℕ) (ts : Targets) (is : Accepted schemaBytes conditionBytes targetBytes s c ts) (r : Run rules schemaBytes conditionBytes targetBytes) where
     abbrev left : Outcome
-    left = outcomeOf (r .answer) (r .after)
+    left = checkOutcomeOf (r .answer) (r .after) .outcome
 
     runs : left ≡ reported (once [] (breaches rules s c ts)) (r .before)
     unfolding checkWith checked
-    runs = r .contract ∙ rw (is .schema, is .condition, is .targets)
+    runs = ap (λ (o : CheckOutcome). o .outcome) (r .contract) ∙ rw (is .schema, is .condition, is .targets)
 
   enough : (ts : Targets) (buffer : List ℕ) → SpaceForAll rules s c ts buffer → space (pairs (once [] (breaches rules s c ts))) ≤ length buffer
   enough ts buffer room = room .room _ (different rules s c ts)
 
   pub alone : Alone rules schemaBytes conditionBytes s c
-  unfolding outcomeOf
+  unfolding checkOutcomeOf
   alone targetBytes ts is r room =
       let o = left targetBytes ts is r in
       let bs = breaches rules s c ts in
@@ -182,7 +182,7 @@ module _ (rules : ℕ) (schemaBytes conditionBytes : List ℕ) (s : Schema) (c :
     counts : Taken rules schemaBytes conditionBytes s c A → Taken rules schemaBytes conditionBytes s c B → Taken rules schemaBytes conditionBytes s c AB
         → (a : RunOf rules schemaBytes conditionBytes s c A) (b : RunOf rules schemaBytes conditionBytes s c B) (ab : RunOf rules schemaBytes conditionBytes s c AB)
         → SpaceForAll rules s c A (a .before) → SpaceForAll rules s c B (b .before) → SpaceForAll rules s c AB (ab .before) → Counts rules schemaBytes conditionBytes s c A B AB a b ab
-    unfolding outcomeOf
+    unfolding checkOutcomeOf
     counts isA isB isAB a b ab roomA roomB roomAB =
         let xs = breaches rules s c A in
         let ys = breaches rules s c B in

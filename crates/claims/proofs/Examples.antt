@@ -22,9 +22,8 @@ use Rattle.condition.specs.Condition.{Span, Condition, Term, Annotation, Binder
 use Rattle.condition.specs.Walk.{reached, reachedIn, operandAggregates, operandBinders, declares, binders, namedHere, lastNamed}
 use Rattle.terms.specs.Terms.{Facts, factsOf, wordType, annotationType, inputType, varType, sideType, rootType, scopeFieldType, allLike, arrayOf, elementTypes, termType}
 use Rattle.rules.specs.Rules.{numericBreaches, likeBreaches, operandsBy, ordering, argumentBreach, argumentBreaches, leafBreaches, arithmeticBreaches, nodeBreaches}
-use Rattle.typecheck.specs.Check.{breachesUnder}
+use Rattle.typecheck.specs.Check.{breachesUnder, isChecked}
 use Rattle.reports.specs.Reports.{Breach}
-use Rattle.claims.specs.Breaches.{isChecked}
 use Rattle.claims.specs.Rows.{Hold, end, _and_}
 use Rattle.claims.specs.Examples.{Checked, factsIn, typeIn, reports, Operands, compared, Entities, empty, BesideEmpty, ArrayField, argued, binderOf, Bound, Rebound, AnyName, WithoutId, id, partOfId, comparing, NoPrincipals, narrowedTo, integer, decimal, string, only, declaring, twice, edges}
 

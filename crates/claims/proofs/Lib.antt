@@ -5,3 +5,4 @@ pub mod Examples
 pub mod Reordering
 pub mod Strict
 pub mod StrictExamples
+pub mod Visits

@@ -2,26 +2,24 @@
 -- `proofs/Demand3.antt` proves it.
 use Prim.Native.Nat.{ℕ, _+_, _≤_}
 use mathlib.Core.Path.{_≡_}
-use mathlib.Core.Bool.{Bool, true}
+use mathlib.Core.Bool.{true}
 use mathlib.Core.Logic.{_↔_}
 use mathlib.Core.List.{List, _++_}
 use lib.ListN.{length, drop}
-use Rattle.names.specs.Lists.{maybe}
 use Rattle.names.specs.Fields.{got, whole}
 use Rattle.schema.specs.Schema.{Schema, schemaRecord}
 use Rattle.schema.specs.Find.{findAction}
 use Rattle.condition.specs.Condition.{Condition, conditionRecord}
 use Rattle.condition.specs.Walk.{reached}
 use Rattle.targets.specs.Targets.{Target, Targets, Scope, targetRecord}
-use Rattle.resolution.specs.Resolution.{admitsAnyEnv}
 use Rattle.reports.specs.Reports.{Breach}
-use Rattle.reports.specs.Answers.{outcomeOf}
-use Rattle.reports.specs.declared.Answer.{Answer}
 use Rattle.reports.specs.Decode.{reports}
 use Rattle.reports.specs.Pairs.{_∈_, NoDup, Same, Pair, pairOf, pairs, space}
 use Rattle.terms.specs.Terms.{factsOf}
 use Rattle.rules.specs.Rules.{nodeBreaches}
-use Rattle.typecheck.specs.Check.{profileOf, checkWith}
+use Rattle.typecheck.specs.Check.{profileOf, isChecked, checkWith}
+use Rattle.typecheck.specs.Answers.{checkOutcomeOf}
+use Rattle.typecheck.specs.declared.CheckAnswer.{CheckAnswer}
 use Rattle.claims.specs.Written.{written}
 
 -- three records that are accepted, and what they hold
@@ -32,10 +30,6 @@ pub record Accepted (schemaBytes conditionBytes targetBytes : List ℕ) (s : Sch
   pub condition : whole conditionRecord conditionBytes ≡ got c conditionEnd
   pub targetsEnd : ℕ
   pub targets : whole targetRecord targetBytes ≡ got ts targetsEnd
-
--- a target that is checked: the schema has no action for its namespace and id, or the action admits an environment under the narrowing
-unfoldable pub isChecked : Schema → Scope → Target → Bool
-isChecked s scope t = maybe true (admitsAnyEnv s scope) (findAction s (t .namespace) (t .id))
 
 -- a breach: what the typing rules give at one reached node under one target, before repeats are dropped, with the caller's rules
 pub record BreachUnder (rules : ℕ) (s : Schema) (c : Condition) (scope : Scope) (t : Target) (b : Breach) : Type 0 where
@@ -68,10 +62,10 @@ pub record SpaceForAll (rules : ℕ) (s : Schema) (c : Condition) (ts : Targets)
 -- a run over three records with the caller's rules, as the contract of `dogwood_check_with` has it: the answer, and the buffer before and after. One of
 -- `dogwood_check` is a run with rules 0, since `check` is `checkWith 0`
 pub record Run (rules : ℕ) (schemaBytes conditionBytes targetBytes : List ℕ) : Type 0 where
-  pub answer : Answer
+  pub answer : CheckAnswer
   pub before : List ℕ
   pub after : List ℕ
-  pub contract : outcomeOf answer after ≡ checkWith rules schemaBytes conditionBytes targetBytes before
+  pub contract : checkOutcomeOf answer after ≡ checkWith rules schemaBytes conditionBytes targetBytes before
 
 -- the pairs that a run reported, read off its buffer
 abbrev pub reportedPairs : {rules : ℕ} {schemaBytes conditionBytes targetBytes : List ℕ} → Run rules schemaBytes conditionBytes targetBytes → List Pair

@@ -21,8 +21,7 @@ use Rattle.condition.specs.Condition.{Span, Condition, Term, Binder, Operator, 
 use Rattle.condition.specs.Walk.{reached, binders, lastNamed}
 use Rattle.terms.specs.Terms.{Facts, factsOf, termType}
 use Rattle.rules.specs.Rules.{nodeBreaches}
-use Rattle.typecheck.specs.Check.{breachesUnder}
-use Rattle.claims.specs.Breaches.{isChecked}
+use Rattle.typecheck.specs.Check.{breachesUnder, isChecked}
 use Rattle.claims.specs.Rows.{Row, ofAll, ofEach}
 
 -- a target that is checked, and any place of a condition

@@ -18,8 +18,8 @@ use Rattle.terms.specs.Terms.{factsOf, termType}
 use Rattle.rules.specs.Rules.{ordering}
 use Rattle.rules.specs.Messages.{unlikeTypes}
 use Rattle.reports.specs.Pairs.{_∈_, Pair, pairOf}
-use Rattle.typecheck.specs.Check.{profileOf, checkWith, check}
-use Rattle.claims.specs.Breaches.{Accepted, isChecked, SpaceForAll, Run, reportedPairs}
+use Rattle.typecheck.specs.Check.{profileOf, isChecked, checkWith, check}
+use Rattle.claims.specs.Breaches.{Accepted, SpaceForAll, Run, reportedPairs}
 
 -- the pair of an equality whose operands are entities with unlike tags, under as many layers each, at a reached node under a target that is checked
 pub record Added (s : Schema) (c : Condition) (ts : Targets) (k : Pair) : Type 0 where

@@ -1,10 +1,9 @@
--- Document 01's whole run: its three records, a buffer, and the one report.
+-- Document 01's whole run: its three records, a buffer, and the one report, of the one visit.
 use Prim.Native.Nat.{ℕ}
 use mathlib.Core.Path.{_≡_}
 use mathlib.Core.List.{List, [], _∷_}
 use Rattle.names.specs.Text.{text}
-use Rattle.reports.specs.Reports.{Outcome}
-use Rattle.typecheck.specs.Check.{check}
+use Rattle.typecheck.specs.Check.{CheckOutcome, check}
 
 abbrev pub schemaBytes : List ℕ
 schemaBytes = 0x44 ∷ 0x57 ∷ 0x53 ∷ 0 ∷ 1 ∷ 0 ∷ 0 ∷ 0 ∷ 0 ∷ []
@@ -19,11 +18,15 @@ targetBytes = 0x44 ∷ 0x57 ∷ 0x54 ∷ 0 ∷ 1 ∷ 0 ∷ 0 ∷ 1 ∷ 0 ∷ 4 �
 abbrev pub buffer : List ℕ
 buffer = text ".........................................................................................."
 
-abbrev pub expected : Outcome
+abbrev pub expected : CheckOutcome
 expected =
     record {
-      answer = record { number = 0; recordNumber = 0; count = 1 };
-      buffer = 0 ∷ 0 ∷ 0 ∷ 0 ∷ 0 ∷ 0 ∷ 0 ∷ 8 ∷ 0 ∷ 75 ∷ text "comparison requires numeric operands on both sides, got `boolean` and `int`.....";
+      outcome =
+          record {
+            answer = record { number = 0; recordNumber = 0; count = 1 };
+            buffer = 0 ∷ 0 ∷ 0 ∷ 0 ∷ 0 ∷ 0 ∷ 0 ∷ 8 ∷ 0 ∷ 75 ∷ text "comparison requires numeric operands on both sides, got `boolean` and `int`.....";
+          };
+      visits = 1;
     }
 
 -- a byte less than the report takes
@@ -34,4 +37,4 @@ short = text "..................................................................
 abbrev pub Runs : Type 0
 Runs =
     (check schemaBytes conditionBytes targetBytes buffer ≡ expected)
-    × (check schemaBytes conditionBytes targetBytes short ≡ record { answer = record { number = 11; recordNumber = 0; count = 0 }; buffer = short })
+    × (check schemaBytes conditionBytes targetBytes short ≡ record { outcome = record { answer = record { number = 11; recordNumber = 0; count = 0 }; buffer = short }; visits = 1 })

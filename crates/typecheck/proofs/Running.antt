@@ -58,6 +58,7 @@ use Rattle.rules.specs.Rules.{nodeBreaches}
 use Rattle.typecheck.specs.Check.{profileOf, breachesUnder, isChecked, visitsUnder, begun, CheckOutcome, checked, checkWith, check}
 use Rattle.typecheck.specs.Answers.{checkOutcomeOf, WithVisits, Spared}
 use Rattle.typecheck.specs.Run.{Accepted, ReadAs, underVisits, UnderKnown, UnderHere, foundBy, begunFrom, Visited}
+use Rattle.typecheck.specs.Laws.Visits.{found-all}
 use Rattle.typecheck.specs.declared.CheckAnswer.{CheckAnswer}
 use Rattle.typecheck.specs.declared.Progress.{Progress}
 use Rattle.typecheck.specs.declared.Records.{Records}
@@ -283,29 +284,6 @@ module _ (s c n : List ℕ) (common : Common) (at : ℕ) (x : Under) (h : UnderH
 pub ruleset each-target = (needs, targets-begin, targets-over, targets-full, targets-stand, target-known, target-sum, target-turn)
 
 -- ---- the records
-
--- the visits find what the targets' breaches are
-found-under : (p : types.Profile) (s : Schema) (c : Condition) (scope : Scope) (t : Target) → foundBy (visitsUnder p s c scope t) ≡ breachesUnder p s c scope t
-unfolding visitsUnder isChecked breachesUnder gather
-found-under p s c scope t = go (findAction s (t .namespace) (t .id))
-  where
-    each : (f : Condition → List Breach) (cs : List Condition) → foundBy (map f cs) ≡ gather f cs
-    each f [] = refl
-    each f (x ∷ xs) = rw (each f xs)
-
-    admits : (b : Bool) (f : Condition → List Breach) → foundBy (cond b (map f (reached c)) []) ≡ cond b (gather f (reached c)) []
-    admits true f = each f (reached c)
-    admits false f = refl
-
-    go : (o : Option Action) → foundBy (cond (maybe true (admitsAnyEnv s scope) o) (map (nodeBreaches (factsOf p s c scope o)) (reached c)) [])
-        ≡ maybe (gather (nodeBreaches (factsOf p s c scope none)) (reached c)) (λ a. cond (admitsAnyEnv s scope a) (gather (nodeBreaches (factsOf p s c scope (some a))) (reached c)) []) o
-    go none = each (nodeBreaches (factsOf p s c scope none)) (reached c)
-    go (some a) = admits (admitsAnyEnv s scope a) (nodeBreaches (factsOf p s c scope (some a)))
-
-found-all : (p : types.Profile) (s : Schema) (c : Condition) (scope : Scope) (list : List Target) → foundBy (gather (visitsUnder p s c scope) list) ≡ gather (breachesUnder p s c scope) list
-unfolding gather
-found-all p s c scope [] = refl
-found-all p s c scope (t ∷ list) = gather-append (λ v. v) (visitsUnder p s c scope t) (gather (visitsUnder p s c scope) list) ∙ ap₂ (λ (a b : List Breach). a ++ b) (found-under p s c scope t) (found-all p s c scope list)
 
 -- a run from no report begins the visits of the definition
 begun-run : (old : List ℕ) (before : List Breach) (visits : List (List Breach)) → begunFrom (pushAll (start old) before) visits ≡ begun old before visits

@@ -1,3 +1,4 @@
 pub mod Check
 pub mod Answers
 pub mod Run
+pub mod Laws
