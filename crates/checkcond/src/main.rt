@@ -1,72 +1,104 @@
 // Checks a condition under a target record, and prints the reports. It reads schema.dws, cond.dwc and targets.dwt, or the files
-// that its three arguments name; with any other number of arguments it reads nothing. The option `--strict` before them has the
-// strict check made.
+// that its three arguments name; with any other number of arguments it reads nothing. Of the options before them `--strict` has
+// the strict check made, and `--visits` adds a line with the number of visits.
 use program::Loaded;
 
+// What the options say, and how many they are: `rules` is 1 where the check is strict, and else 0.
+struct Options {
+    rules: u8,
+    visits: bool,
+    count: usize,
+}
+
 fn main() {
-    if is_strict() {
-        begin(std::num::wrapping_sub_usize(os::arg_count(), 1), 1);
+    let options = chosen();
+    if program::fits(
+        std::num::wrapping_sub_usize(os::arg_count(), options.count),
+        3,
+    ) {
+        first(options);
         return;
     }
-    begin(os::arg_count(), 0);
+    program::print_usage(b"usage: checkcond [--strict] [--visits] [SCHEMA CONDITION TARGETS]\n");
 }
 
-// Whether the first argument is the option.
-fn is_strict() -> bool {
-    let mut word = [0u8; 16];
-    let n = os::arg(1, &mut word);
-    names::same(names::part_of(&word, 0, n), b"--strict")
+// The options: each of the first two arguments may be one.
+fn chosen() -> Options {
+    let none = Options {
+        rules: 0,
+        visits: false,
+        count: 0,
+    };
+    one_more(one_more(none))
 }
 
-// With so many arguments beside the option; `rules` is 1 where it was given, and else 0.
-fn begin(count: usize, rules: u8) {
-    if program::fits(count, 3) {
-        first(rules);
-        return;
+// With the next argument, where it is an option.
+fn one_more(options: Options) -> Options {
+    let at = behind(options, 1);
+    if is_word(at, b"--strict") {
+        return Options {
+            rules: 1,
+            visits: options.visits,
+            count: at,
+        };
     }
-    program::print_usage(b"usage: checkcond [--strict] [SCHEMA CONDITION TARGETS]\n");
+    if is_word(at, b"--visits") {
+        return Options {
+            rules: options.rules,
+            visits: true,
+            count: at,
+        };
+    }
+    options
 }
 
-// The place of an argument behind the option.
-fn behind(rules: u8, i: usize) -> usize {
-    std::num::wrapping_add_usize(names::wide(rules), i)
+// Whether an argument is this word.
+fn is_word(i: usize, word: &[u8]) -> bool {
+    let mut space = [0u8; 16];
+    let n = os::arg(i, &mut space);
+    names::same(names::part_of(&space, 0, n), word)
+}
+
+// The place of an argument behind the options.
+fn behind(options: Options, i: usize) -> usize {
+    std::num::wrapping_add_usize(options.count, i)
 }
 
 // The schema is read,
-fn first(rules: u8) {
+fn first(options: Options) {
     let mut space = program::record_space();
-    let loaded = program::load_argument(behind(rules, 1), b"schema.dws", &mut space);
+    let loaded = program::load_argument(behind(options, 1), b"schema.dws", &mut space);
     let Loaded::Bytes(n) = loaded else {
         return;
     };
-    second(rules, names::part_of(&space, 0, n));
+    second(options, names::part_of(&space, 0, n));
 }
 
 // then the condition,
-fn second(rules: u8, schema: &[u8]) {
+fn second(options: Options, schema: &[u8]) {
     let mut space = program::record_space();
-    let loaded = program::load_argument(behind(rules, 2), b"cond.dwc", &mut space);
+    let loaded = program::load_argument(behind(options, 2), b"cond.dwc", &mut space);
     let Loaded::Bytes(n) = loaded else {
         return;
     };
-    third(rules, schema, names::part_of(&space, 0, n));
+    third(options, schema, names::part_of(&space, 0, n));
 }
 
 // then the targets.
-fn third<'a>(rules: u8, schema: &'a [u8], condition: &'a [u8]) {
+fn third<'a>(options: Options, schema: &'a [u8], condition: &'a [u8]) {
     let mut space = program::record_space();
-    let loaded = program::load_argument(behind(rules, 3), b"targets.dwt", &mut space);
+    let loaded = program::load_argument(behind(options, 3), b"targets.dwt", &mut space);
     let Loaded::Bytes(n) = loaded else {
         return;
     };
-    run(rules, schema, condition, names::part_of(&space, 0, n));
+    run(options, schema, condition, names::part_of(&space, 0, n));
 }
 
-fn run<'a>(rules: u8, schema: &'a [u8], condition: &'a [u8], targets: &'a [u8]) {
+fn run<'a>(options: Options, schema: &'a [u8], condition: &'a [u8], targets: &'a [u8]) {
     let mut space = program::report_space();
     let mut workspace = [0u32; 2048];
     let answer = dogwood::dogwood_check_with(
-        rules,
+        options.rules,
         schema,
         condition,
         targets,
@@ -74,4 +106,7 @@ fn run<'a>(rules: u8, schema: &'a [u8], condition: &'a [u8], targets: &'a [u8]) 
         &mut workspace,
     );
     program::print_run(answer.number, answer.record, answer.count, &space);
+    if options.visits {
+        program::print_between(b"visits ", answer.visits, b"\n");
+    }
 }

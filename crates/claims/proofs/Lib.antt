@@ -6,3 +6,4 @@ pub mod Reordering
 pub mod Strict
 pub mod StrictExamples
 pub mod Visits
+pub mod VisitsExamples

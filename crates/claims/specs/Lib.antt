@@ -7,3 +7,4 @@ pub mod Reordering
 pub mod Strict
 pub mod StrictExamples
 pub mod Visits
+pub mod VisitsExamples

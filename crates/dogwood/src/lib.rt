@@ -1,5 +1,6 @@
 // The exported functions of the static library.
 pub use reports::Answer;
+pub use typecheck::CheckAnswer;
 ghost use mathlib.Core.Path.{_≡_};
 ghost use Rattle.names.specs.Fields.{whole};
 ghost use Rattle.names.specs.Read.{refusalNumber};
@@ -7,10 +8,11 @@ ghost use Rattle.schema.specs.Schema.{schemaRecord};
 ghost use Rattle.condition.specs.Condition.{conditionRecord};
 ghost use Rattle.targets.specs.Targets.{targetRecord};
 ghost use Rattle.targets.specs.PathRecord.{pathRecord};
-ghost use Rattle.reports.specs.Answers.{outcomeOf, Spared};
+ghost use Rattle.reports.specs.Answers.{outcomeOf};
 ghost use Rattle.sums.specs.Sums.{sums};
 ghost use Rattle.lookup.specs.Lookup.{lookup};
 ghost use Rattle.typecheck.specs.Check.{checkWith, check};
+ghost use Rattle.typecheck.specs.Answers.{checkOutcomeOf, Spared};
 
 // The number with which a schema record is refused, 0 for none.
 #[no_mangle]
@@ -57,15 +59,15 @@ pub extern "C" fn dogwood_lookup<'a>(
     lookup::lookup(schema, targets, path, output)
 }
 
-// The check of a condition under the targets of a rule: the answer, and the reports in the lent buffer.
+// The check of a condition under the targets of a rule: the answer, with how many visits were begun, and the reports in the lent buffer.
 #[no_mangle]
 pub extern "C" fn dogwood_check<'a>(
     schema: &'a [u8],
     condition: &'a [u8],
     targets: &[u8],
     reports: &mut [u8],
-) -> Answer
-    ensures { λ r. ⌜ outcomeOf r (now (reports .exit)) ≡ check (now (schema .entry)) (now (condition .entry)) (now (targets .entry)) (now (reports .entry)) ⌝ }
+) -> CheckAnswer
+    ensures { λ r. ⌜ checkOutcomeOf r (now (reports .exit)) ≡ check (now (schema .entry)) (now (condition .entry)) (now (targets .entry)) (now (reports .entry)) ⌝ }
 {
     typecheck::check(schema, condition, targets, reports)
 }
@@ -81,8 +83,8 @@ pub extern "C" fn dogwood_check_with<'a>(
     targets: &[u8],
     reports: &mut [u8],
     workspace: &mut [u32],
-) -> Answer
-    ensures { λ r. ⌜ outcomeOf r (now (reports .exit)) ≡ checkWith rules (now (schema .entry)) (now (condition .entry)) (now (targets .entry)) (now (reports .entry)) ⌝ }
+) -> CheckAnswer
+    ensures { λ r. ⌜ checkOutcomeOf r (now (reports .exit)) ≡ checkWith rules (now (schema .entry)) (now (condition .entry)) (now (targets .entry)) (now (reports .entry)) ⌝ }
     ensures { λ r. ⌜ Spared r (now (workspace .entry)) (now (workspace .exit)) ⌝ }
 {
     typecheck::check_with(rules, schema, condition, targets, reports, workspace)
