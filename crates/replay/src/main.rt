@@ -4,6 +4,7 @@
 // The lists stand in data/; their headings say how they were made and how a case is to be read. A case is never copied: its
 // records are parts of the list. Nothing is asked of a list: what no list has makes a case differ.
 use dogwood::Answer;
+use dogwood::CheckAnswer;
 use operands::Operand;
 use program::Loaded;
 use program::print;
@@ -66,7 +67,7 @@ fn letter_at(list: &[u8], at: usize) -> u8 {
 }
 
 fn case_at(list: &[u8], at: usize) -> Case {
-    let output = forward(at, 7);
+    let output = forward(at, 9);
     let first = past(list, output);
     let second = past(list, first);
     let third = past(list, second);
@@ -97,13 +98,29 @@ fn number(letter: u8, record: &[u8]) -> u8 {
 }
 
 // The strict check, with few slots of workspace.
-fn strict<'a>(a: &'a [u8], b: &'a [u8], c: &'a [u8], buffer: &mut [u8]) -> Answer {
+fn strict<'a>(a: &'a [u8], b: &'a [u8], c: &'a [u8], buffer: &mut [u8]) -> CheckAnswer {
     let mut workspace = [0u32; 8];
     dogwood::dogwood_check_with(1, a, b, c, buffer, &mut workspace)
 }
 
+// The answer of an operation that makes no visits.
+fn unvisited(answer: Answer) -> CheckAnswer {
+    CheckAnswer {
+        number: answer.number,
+        record: answer.record,
+        count: answer.count,
+        visits: 0,
+    }
+}
+
 // The exported function of a letter, with a buffer of the size that its case asks for.
-fn exported<'a>(letter: u8, a: &'a [u8], b: &'a [u8], c: &'a [u8], buffer: &mut [u8]) -> Answer {
+fn exported<'a>(
+    letter: u8,
+    a: &'a [u8],
+    b: &'a [u8],
+    c: &'a [u8],
+    buffer: &mut [u8],
+) -> CheckAnswer {
     if letter == b'k' {
         return dogwood::dogwood_check(a, b, c, buffer);
     }
@@ -111,15 +128,26 @@ fn exported<'a>(letter: u8, a: &'a [u8], b: &'a [u8], c: &'a [u8], buffer: &mut 
         return strict(a, b, c, buffer);
     }
     if letter == b'm' {
-        return dogwood::dogwood_sums(a, buffer);
+        return unvisited(dogwood::dogwood_sums(a, buffer));
     }
     if letter == b'l' {
-        return dogwood::dogwood_lookup(a, b, c, buffer);
+        return unvisited(dogwood::dogwood_lookup(a, b, c, buffer));
     }
-    Answer {
-        number: number(letter, a),
+    numbered(number(letter, a))
+}
+
+// A number and nothing else.
+fn numbered(number: u8) -> CheckAnswer {
+    written(number, 0)
+}
+
+// A number, and how many bytes were written.
+fn written(number: u8, count: usize) -> CheckAnswer {
+    CheckAnswer {
+        number,
         record: 0,
-        count: 0,
+        count,
+        visits: 0,
     }
 }
 
@@ -131,31 +159,19 @@ fn operand<'a>(
     position: usize,
     which: Operand,
     buffer: &mut [u8],
-) -> Answer {
+) -> CheckAnswer {
     let typed = operands::operand_type(a, b, c, position, which, buffer);
     match typed {
-        operands::Answer::Written(n) => Answer {
-            number: 0,
-            record: 0,
-            count: n,
-        },
-        operands::Answer::Untyped => Answer {
-            number: 0,
-            record: 0,
-            count: 0,
-        },
+        operands::Answer::Written(n) => written(0, n),
+        operands::Answer::Untyped => written(0, 0),
         operands::Answer::NoComparison => refused(),
         operands::Answer::Refused(_, _) => refused(),
     }
 }
 
 // What no case has.
-fn refused() -> Answer {
-    Answer {
-        number: 255,
-        record: 0,
-        count: 0,
-    }
+fn refused() -> CheckAnswer {
+    numbered(255)
 }
 
 // What the operation of a letter answers.
@@ -166,7 +182,7 @@ fn answered<'a>(
     b: &'a [u8],
     c: &'a [u8],
     buffer: &mut [u8],
-) -> Answer {
+) -> CheckAnswer {
     if letter == b'e' {
         return operand(a, b, c, size, Operand::Left, buffer);
     }
@@ -181,7 +197,7 @@ fn answered<'a>(
 }
 
 // What the case at a place answers.
-fn run(list: &[u8], at: usize, case: Case, buffer: &mut [u8]) -> Answer {
+fn run(list: &[u8], at: usize, case: Case, buffer: &mut [u8]) -> CheckAnswer {
     answered(
         letter_at(list, at),
         names::u16_at(list, forward(at, 5)),
@@ -193,14 +209,17 @@ fn run(list: &[u8], at: usize, case: Case, buffer: &mut [u8]) -> Answer {
 }
 
 // Whether an answer has the numbers of the case at a place.
-fn same_numbers(list: &[u8], at: usize, answer: Answer) -> bool {
+fn same_numbers(list: &[u8], at: usize, answer: CheckAnswer) -> bool {
     if names::wide(answer.number) != names::byte_at(list, forward(at, 1)) {
         return false;
     }
     if names::wide(answer.record) != names::byte_at(list, forward(at, 2)) {
         return false;
     }
-    answer.count == names::u16_at(list, forward(at, 3))
+    if answer.count != names::u16_at(list, forward(at, 3)) {
+        return false;
+    }
+    answer.visits == names::u16_at(list, forward(at, 7))
 }
 
 // Whether a buffer has an output in front, and is else as it was.

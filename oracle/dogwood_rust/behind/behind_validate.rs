@@ -24,6 +24,24 @@ pub fn oracle_breaches(
     errs
 }
 
+/// Where a report about each reached condition starts, in the order of `walk`, which is private above.
+pub fn oracle_starts(c: &Condition) -> Vec<usize> {
+    let mut starts = Vec::new();
+    walk(c, &mut |node| {
+        starts.push(match &node.kind {
+            ConditionKind::Predicate(p) => p.span.start,
+            _ => node.span.start,
+        })
+    });
+    starts
+}
+
+/// Whether `check_types_for_action` goes on to the conditions under a target: its first test.
+pub fn oracle_is_checked(info: &SchemaInfo, action: &crate::api::ActionRef, narrow: crate::Narrowing<'_>) -> bool {
+    let sig = info.action(action.namespace.as_deref(), &action.id);
+    sig.is_none_or(|sig| sig.admits_any_env(narrow.principal, narrow.resource))
+}
+
 /// `check_sum_summands`, which is private above.
 pub fn oracle_check_sum_summands(c: &Condition) -> Vec<LeafError> {
     let mut errs = Vec::new();

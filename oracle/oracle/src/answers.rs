@@ -10,20 +10,22 @@ pub struct Answer {
     pub number: u8,
     pub record: u8,
     pub count: usize,
+    /// Of a check, where they were counted (`visits::counted`), and else 0.
+    pub visits: usize,
 }
 
 impl Answer {
     fn done(count: usize) -> Answer {
-        Answer { number: 0, record: 0, count }
+        Answer { number: 0, record: 0, count, visits: 0 }
     }
 
     /// The output is longer than the buffer; `kept` reports are in it.
     fn full(kept: usize) -> Answer {
-        Answer { number: 11, record: 0, count: kept }
+        Answer { number: 11, record: 0, count: kept, visits: 0 }
     }
 
     fn refused(record: u8, refusal: Refusal) -> Answer {
-        Answer { number: refusal.0, record, count: 0 }
+        Answer { number: refusal.0, record, count: 0, visits: 0 }
     }
 }
 
@@ -77,7 +79,7 @@ fn lookup_bytes(schema: &[u8], targets: &[u8], path: &[u8]) -> Result<Vec<u8>, A
     let schema = records::read_schema(schema).map_err(|r| Answer::refused(SCHEMA, r))?;
     let targets = records::read_targets(targets).map_err(|r| Answer::refused(TARGETS, r))?;
     let path = records::read_path(path).map_err(|r| Answer::refused(PATH, r))?;
-    let target = targets.targets.get(path.position).ok_or(Answer { number: 12, record: TARGETS, count: 0 })?;
+    let target = targets.targets.get(path.position).ok_or(Answer { number: 12, record: TARGETS, count: 0, visits: 0 })?;
     let info = SchemaInfo::from_validator_schema(&schema);
     let found = match info.action(target.namespace.as_deref(), &target.id) {
         Some(action) => action.resolve_scope_path(path.scope.root(), &path.path, narrowing_of(&targets, path.scope)),

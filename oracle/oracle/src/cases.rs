@@ -7,6 +7,7 @@ use crate::hex;
 use crate::pieces::Piece;
 use crate::records;
 use crate::rng::Rng;
+use crate::visits;
 
 /// What a lent buffer holds before each call.
 pub const FILL: u8 = 0xA5;
@@ -112,7 +113,9 @@ impl Case {
             Operation::ReadCondition => Outcome::Number(answers::read_number(records::read_condition(&r[0]))),
             Operation::ReadTargets => Outcome::Number(answers::read_number(records::read_targets(&r[0]))),
             Operation::ReadPath => Outcome::Number(answers::read_number(records::read_path(&r[0]))),
-            Operation::Check => self.in_buffer(|buffer| answers::check(&r[0], &r[1], &r[2], buffer)),
+            Operation::Check => self.in_buffer(|buffer| {
+                visits::counted(answers::check(&r[0], &r[1], &r[2], buffer), r, self.size)
+            }),
             Operation::Sums => self.in_buffer(|buffer| answers::sums(&r[0], buffer)),
             Operation::Lookup => self.in_buffer(|buffer| answers::lookup(&r[0], &r[1], &r[2], buffer)),
             Operation::Terms => Outcome::Types(answers::operand_types(&r[0], &r[1], &r[2], self.size)?),
@@ -144,9 +147,10 @@ impl Case {
     pub fn stored(&self, outcome: &Outcome) -> Vec<u8> {
         let letter = self.operation.letter();
         match outcome {
-            Outcome::Number(number) => self.entry(letter, [*number, 0], 0, &[]),
+            Outcome::Number(number) => self.entry(letter, [*number, 0], [0, 0], &[]),
             Outcome::Answered(answer, buffer) => {
-                self.entry(letter, [answer.number, answer.record], answer.count, written(buffer))
+                let small = [answer.number, answer.record];
+                self.entry(letter, small, [answer.count, answer.visits], written(buffer))
             }
             Outcome::Types([left, right]) => [self.typed('e', left), self.typed('f', right)].concat(),
         }
@@ -154,12 +158,12 @@ impl Case {
 
     fn typed(&self, letter: char, ty: &Option<String>) -> Vec<u8> {
         let text = ty.clone().unwrap_or_default();
-        self.entry(letter, [0, 0], text.len(), text.as_bytes())
+        self.entry(letter, [0, 0], [text.len(), 0], text.as_bytes())
     }
 
-    fn entry(&self, letter: char, number_and_record: [u8; 2], count: usize, output: &[u8]) -> Vec<u8> {
+    fn entry(&self, letter: char, small: [u8; 2], [count, visits]: [usize; 2], output: &[u8]) -> Vec<u8> {
         let record = |i: usize| self.records.get(i).map_or(&[][..], Vec::as_slice);
-        entry(letter, number_and_record, [count, self.size], [output, record(0), record(1), record(2)])
+        entry(letter, small, [count, self.size, visits], [output, record(0), record(1), record(2)])
     }
 
     /// The case and its outcome on one line, for people.
@@ -170,7 +174,7 @@ impl Case {
             Outcome::Number(number) => words.push(number.to_string()),
             Outcome::Answered(answer, buffer) => {
                 words.push(self.size.to_string());
-                words.extend([answer.number as usize, answer.record as usize, answer.count].map(|n| n.to_string()));
+                words.extend([answer.number as usize, answer.record as usize, answer.count, answer.visits].map(|n| n.to_string()));
                 words.push(hex::encode(written(buffer)));
             }
             Outcome::Types(types) => {
@@ -182,9 +186,9 @@ impl Case {
     }
 }
 
-/// An entry of a stored list: a letter, two numbers in a byte each, two in two bytes each, and four fields, each behind its
+/// An entry of a stored list: a letter, two numbers in a byte each, three in two bytes each, and four fields, each behind its
 /// length in two bytes.
-pub fn entry(letter: char, small: [u8; 2], large: [usize; 2], fields: [&[u8]; 4]) -> Vec<u8> {
+pub fn entry(letter: char, small: [u8; 2], large: [usize; 3], fields: [&[u8]; 4]) -> Vec<u8> {
     let mut bytes = vec![letter as u8];
     bytes.extend(small);
     bytes.extend(large.map(u16_of).concat());

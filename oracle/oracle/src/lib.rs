@@ -19,4 +19,5 @@ pub mod search;
 pub mod shrink;
 pub mod stack;
 pub mod timing;
+pub mod visits;
 pub mod workloads;

@@ -17,7 +17,25 @@ struct Returned {
 #[allow(dead_code)]
 impl Returned {
     fn answer(self) -> Answer {
-        Answer { number: self.number, record: self.record, count: self.count }
+        Answer { number: self.number, record: self.record, count: self.count, visits: 0 }
+    }
+}
+
+/// The struct of a check.
+#[repr(C)]
+#[derive(Clone, Copy)]
+#[allow(dead_code)]
+struct ReturnedCheck {
+    number: u8,
+    record: u8,
+    count: usize,
+    visits: usize,
+}
+
+#[allow(dead_code)]
+impl ReturnedCheck {
+    fn answer(self) -> Answer {
+        Answer { number: self.number, record: self.record, count: self.count, visits: self.visits }
     }
 }
 
@@ -36,7 +54,7 @@ extern "C" {
         targets_length: usize,
         reports: *mut u8,
         reports_length: usize,
-    ) -> Returned;
+    ) -> ReturnedCheck;
     fn dogwood_check_with(
         rules: u8,
         schema: *const u8,
@@ -49,7 +67,7 @@ extern "C" {
         reports_length: usize,
         workspace: *mut u32,
         workspace_length: usize,
-    ) -> Returned;
+    ) -> ReturnedCheck;
     fn dogwood_sums(condition: *const u8, condition_length: usize, reports: *mut u8, reports_length: usize)
         -> Returned;
     fn dogwood_lookup(
@@ -96,8 +114,9 @@ pub fn read(operation: Operation, bytes: &[u8]) -> Option<u8> {
 }
 
 pub fn check(schema: &[u8], condition: &[u8], targets: &[u8], reports: &mut [u8]) -> Option<Answer> {
-    let returned: Option<Returned> = called!(has_dogwood_check, dogwood_check, [schema, condition, targets], [reports]);
-    returned.map(Returned::answer)
+    let returned: Option<ReturnedCheck> =
+        called!(has_dogwood_check, dogwood_check, [schema, condition, targets], [reports]);
+    returned.map(ReturnedCheck::answer)
 }
 
 /// The bit of `rules` that makes the check strict.
@@ -112,14 +131,14 @@ pub fn check_with(
     reports: &mut [u8],
     workspace: &mut [u32],
 ) -> Option<Answer> {
-    let returned: Option<Returned> = called!(
+    let returned: Option<ReturnedCheck> = called!(
         has_dogwood_check_with,
         dogwood_check_with,
         [rules],
         [schema, condition, targets],
         [reports, workspace]
     );
-    returned.map(Returned::answer)
+    returned.map(ReturnedCheck::answer)
 }
 
 pub fn sums(condition: &[u8], reports: &mut [u8]) -> Option<Answer> {
@@ -153,7 +172,7 @@ pub fn outcome(case: &Case) -> Option<Outcome> {
 /// Keeps whether there was an answer, and hands on one in any case.
 fn noted(kept: &mut Option<Answer>, answer: Option<Answer>) -> Answer {
     *kept = answer;
-    answer.unwrap_or(Answer { number: 0, record: 0, count: 0 })
+    answer.unwrap_or(Answer { number: 0, record: 0, count: 0, visits: 0 })
 }
 
 /// The operations whose functions the library has.

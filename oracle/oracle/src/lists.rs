@@ -28,13 +28,14 @@ pub fn all() -> Vec<List> {
         List {
             file: "check.cases",
             form: "k (schema, condition, targets). SIZE is the lent buffer's size; it is filled with A5 before the \
-                   call, and OUTPUT is what its first bytes are after it, all others being A5.",
+                   call, and OUTPUT is what its first bytes are after it, all others being A5. VISITS is the number of \
+                   visits, which the Rust does not say: it was counted by its own walk and breaches.",
             cases: checks(),
         },
         List {
             file: "strict.cases",
             form: "x (schema, condition, targets), with the strict check's answers, which are not the Rust's: each \
-                   was worked out from the definition. SIZE and OUTPUT as for k in check.cases.",
+                   was worked out from the definition. SIZE, OUTPUT and VISITS as for k in check.cases.",
             cases: stricts(),
         },
         List { file: "sums.cases", form: "m (condition). SIZE and OUTPUT as for k in check.cases.", cases: sums() },
@@ -78,12 +79,12 @@ impl List {
              Cases with the answers of the published Rust (repository dogwood-policy/dogwood 929f49e730) over a\n\
              reader of the records. Made by `oracle/run replay-list`, seed {SEED}; made again it has the same\n\
              bytes. `oracle/run replay-list --lines` prints the cases.\n\
-             A case: a letter, NUMBER and RECORD (a byte each), COUNT and SIZE (two bytes each), then OUTPUT and three\n\
-             records, each of them two bytes with its length and then its bytes. Numbers are big-endian.\n\
+             A case: a letter, NUMBER and RECORD (a byte each), COUNT, SIZE and VISITS (two bytes each), then OUTPUT and\n\
+             three records, each of them two bytes with its length and then its bytes. Numbers are big-endian.\n\
              Here: {}\n",
             self.form
         );
-        cases::entry('#', [0, 0], [0, 0], [text.as_bytes(), &[], &[], &[]])
+        cases::entry('#', [0, 0], [0, 0, 0], [text.as_bytes(), &[], &[], &[]])
     }
 }
 

@@ -6,7 +6,7 @@ mod path;
 mod schema;
 mod targets;
 
-pub use condition::{read_condition, ConditionRecord};
+pub use condition::{read_condition, read_numbered, ConditionRecord};
 pub use path::{read_path, PathRecord, Scope};
 pub use schema::read_schema;
 pub use targets::{read_targets, TargetsRecord};

@@ -30,14 +30,14 @@ fn expect_reports(shows: &str, reports: &[(u32, u32, String)], run: impl Fn(&mut
         let mut buffer = filled(size);
         let answer = run(&mut buffer);
         let text = String::from_utf8_lossy(&buffer[..expected.len()]).to_string();
-        assert_eq!(answer, Answer { number: 0, record: 0, count: reports.len() }, "{shows}: {text}");
+        assert_eq!(answer, Answer { number: 0, record: 0, count: reports.len(), visits: 0 }, "{shows}: {text}");
         assert_eq!(buffer[..expected.len()], expected, "{shows}: {text}");
         assert!(buffer[expected.len()..].iter().all(|b| *b == FILL), "{shows}");
     }
     if let Some((_, all_but_last)) = reports.split_last() {
         let kept = reports_bytes(all_but_last);
         let mut buffer = filled(expected.len() - 1);
-        assert_eq!(run(&mut buffer), Answer { number: 11, record: 0, count: all_but_last.len() }, "{shows}");
+        assert_eq!(run(&mut buffer), Answer { number: 11, record: 0, count: all_but_last.len(), visits: 0 }, "{shows}");
         assert_eq!(buffer[..kept.len()], kept, "{shows}");
         assert!(buffer[kept.len()..].iter().all(|b| *b == FILL), "{shows}");
     }
@@ -86,12 +86,12 @@ fn examples_of_lookup() {
         }
         let mut buffer = filled(200);
         let answer = lookup(&records[0], &records[1], &records[2], &mut buffer);
-        assert_eq!(answer, Answer { number: 0, record: 0, count: expected.len() }, "{}", e.shows);
+        assert_eq!(answer, Answer { number: 0, record: 0, count: expected.len(), visits: 0 }, "{}", e.shows);
         assert_eq!(buffer[..expected.len()], expected, "{}", e.shows);
         assert!(buffer[expected.len()..].iter().all(|b| *b == FILL), "{}", e.shows);
         let mut short = filled(expected.len() - 1);
         let full = lookup(&records[0], &records[1], &records[2], &mut short);
-        assert_eq!(full, Answer { number: 11, record: 0, count: 0 }, "{}", e.shows);
+        assert_eq!(full, Answer { number: 11, record: 0, count: 0, visits: 0 }, "{}", e.shows);
         assert!(short.iter().all(|b| *b == FILL), "{}", e.shows);
     }
 }

@@ -180,10 +180,11 @@ fn shown(outcome: Option<Outcome>) -> String {
     match outcome {
         Some(Outcome::Answered(answer, buffer)) => {
             format!(
-                "number {} record {} count {} buffer {}\n            {}",
+                "number {} record {} count {} visits {} buffer {}\n            {}",
                 answer.number,
                 answer.record,
                 answer.count,
+                answer.visits,
                 hex::encode(&buffer),
                 String::from_utf8_lossy(&buffer).replace(|c: char| c.is_control(), ".")
             )

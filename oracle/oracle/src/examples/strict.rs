@@ -15,6 +15,8 @@ pub struct Compared {
     pub condition: Piece,
     pub plain: Said,
     pub strict: Said,
+    /// The visits of the strict check with space for all reports, and with a byte too little.
+    pub visits: [usize; 2],
 }
 
 impl Compared {
@@ -37,7 +39,10 @@ impl Compared {
 /// The strict check of an example's records, with a lent buffer; none where the records are those of no example.
 pub fn check(records: &[Vec<u8>], buffer: &mut [u8]) -> Option<Answer> {
     let example = all().into_iter().find(|e| e.records() == records)?;
-    Some(answers::write_all(example.strict.iter().map(|(start, end, message)| bytes_of(*start, *end, message)), buffer))
+    let reports = example.strict.iter().map(|(start, end, message)| bytes_of(*start, *end, message));
+    let answer = answers::write_all(reports, buffer);
+    let [whole, stopped] = example.visits;
+    Some(Answer { visits: if answer.number == 0 { whole } else { stopped }, ..answer })
 }
 
 fn bytes_of(start: u32, end: u32, message: &str) -> Vec<u8> {
@@ -64,6 +69,7 @@ fn compared(
         condition: condition_record(comparison((0, 0), operator, left, right)),
         plain: at_zero(plain),
         strict: at_zero(strict),
+        visits: [1, 1],
     }
 }
 
@@ -100,6 +106,7 @@ pub fn all() -> Vec<Compared> {
             )),
             plain: vec![(3, 9, equality("U", "string"))],
             strict: vec![(3, 4, equality("U", "string"))],
+            visits: [3, 2],
             ..compared("of one message and start the first end stays", EQ, u(), u(), neither())
         },
     ]

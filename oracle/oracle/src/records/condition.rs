@@ -13,8 +13,18 @@ pub struct ConditionRecord {
 }
 
 pub fn read_condition(bytes: &[u8]) -> Result<ConditionRecord, Refusal> {
+    read(bytes, None)
+}
+
+/// The same with numbers in the place of spans: each condition has its own, which a predicate's own span has too, in the
+/// order in which they are read.
+pub fn read_numbered(bytes: &[u8]) -> Result<ConditionRecord, Refusal> {
+    read(bytes, Some(0))
+}
+
+fn read(bytes: &[u8], numbers: Option<usize>) -> Result<ConditionRecord, Refusal> {
     let fields = Fields::open(bytes, b"DWC")?;
-    let mut reader = Reader { fields, field_paths: FieldPaths::default() };
+    let mut reader = Reader { fields, field_paths: FieldPaths::default(), numbers };
     let condition = reader.condition(1)?;
     reader.fields.close()?;
     Ok(ConditionRecord { condition, field_paths: reader.field_paths })
@@ -23,6 +33,8 @@ pub fn read_condition(bytes: &[u8]) -> Result<ConditionRecord, Refusal> {
 struct Reader<'a> {
     fields: Fields<'a>,
     field_paths: FieldPaths,
+    /// The number of the condition that is read, where they are numbered.
+    numbers: Option<usize>,
 }
 
 /// Where a term stands: below an array no aggregate is let in.
@@ -62,13 +74,24 @@ impl Reader<'_> {
         Ok(Span { start, end })
     }
 
+    /// The span of a condition: its number, where they are numbered.
+    fn head(&mut self) -> Result<Span, Refusal> {
+        self.numbers = self.numbers.map(|n| n + 1);
+        self.numbered_span()
+    }
+
+    fn numbered_span(&mut self) -> Result<Span, Refusal> {
+        let span = self.span()?;
+        Ok(self.numbers.map_or(span, |n| Span { start: n, end: n }))
+    }
+
     fn boxed(&mut self, level: u32) -> Result<Box<Condition>, Refusal> {
         Ok(Box::new(self.condition(level)?))
     }
 
     fn condition(&mut self, level: u32) -> Result<Condition, Refusal> {
         let kind = self.fields.choice_at(1, 13, level)?;
-        let span = self.span()?;
+        let span = self.head()?;
         let inner = level + 1;
         let kind = match kind {
             1 => ConditionKind::And { left: self.boxed(inner)?, right: self.boxed(inner)? },
@@ -89,7 +112,7 @@ impl Reader<'_> {
     }
 
     fn predicate(&mut self, level: u32) -> Result<Predicate, Refusal> {
-        let span = self.span()?;
+        let span = self.numbered_span()?;
         let namespace = self.fields.strings(Class::PathName)?;
         let action = self.fields.string(Class::Plain)?;
         let count = self.fields.byte()?;

@@ -1,0 +1,47 @@
+//! How many visits a check begins. The published Rust has no such count: it is made here of its own `walk`, of its test
+//! whether a target is checked, and of its breaches, visit by visit up to the one whose report does not fit.
+
+use crate::answers::Answer;
+use crate::records;
+use dogwood_rust::extension::temporal::schema_info::SchemaInfo;
+use dogwood_rust::extension::temporal::validate;
+use std::collections::{HashMap, HashSet};
+
+/// The answer of a check of these records, lent a buffer of this size, with its visits.
+pub fn counted(answer: Answer, records: &[Vec<u8>], size: usize) -> Answer {
+    Answer { visits: begun(records, size).unwrap_or(0), ..answer }
+}
+
+/// None where a record is refused.
+fn begun(r: &[Vec<u8>], size: usize) -> Option<usize> {
+    let schema = records::read_schema(&r[0]).ok()?;
+    let starts = validate::oracle_starts(&records::read_condition(&r[1]).ok()?.condition);
+    let read = records::read_numbered(&r[1]).ok()?;
+    let numbers = validate::oracle_starts(&read.condition);
+    let targets = records::read_targets(&r[2]).ok()?;
+    let info = SchemaInfo::from_validator_schema(&schema);
+    let (mut visits, mut used, mut reported) = (0, 0, HashSet::new());
+    for target in targets.targets.iter().filter(|t| validate::oracle_is_checked(&info, t, targets.narrowing())) {
+        let breaches = read
+            .field_paths
+            .in_force(|| validate::oracle_breaches(&read.condition, &info, target, targets.narrowing()));
+        let mut found: HashMap<usize, Vec<String>> = HashMap::new();
+        for breach in breaches {
+            let number = breach.span.expect("each report of these checks has a span").start;
+            found.entry(number).or_default().push(breach.message);
+        }
+        for (number, start) in numbers.iter().zip(&starts) {
+            visits += 1;
+            for message in found.remove(number).unwrap_or_default() {
+                let long = 10 + message.len();
+                if reported.insert((message, *start)) {
+                    used += long;
+                }
+            }
+            if used > size {
+                return Some(visits);
+            }
+        }
+    }
+    Some(visits)
+}
