@@ -86,6 +86,21 @@ struct dogwood_answer {
 };
 
 /*
+ * What a check answers: the same, and a count of visits, for a host that bills by work. A visit is one condition that the
+ * check reaches, looked at under one target. Where all reports fit there are (targets not skipped) x (reached conditions)
+ * of them, whatever the rules are; a target is skipped where its action is declared and admits no environment under the
+ * rule's scope, and one that is listed twice counts twice. DOGWOOD_NO_SPACE has the visits begun up to and including the
+ * one whose report did not fit, any other refusal 0. Nine times the visits are never more than the targets listed times
+ * (condition_length - 5).
+ */
+struct dogwood_check_answer {
+    uint8_t number;
+    uint8_t record;
+    size_t count;
+    size_t visits;
+};
+
+/*
  * Whether bytes are a schema, condition, targets or path record: 0, or the number (1 to 10) of the first thing that is
  * wrong with them.
  */
@@ -105,10 +120,10 @@ uint8_t dogwood_read_path(const uint8_t *bytes, size_t length);
  * Any other number: `record` says which record was refused (they are read in the order given here, each to its end), and the
  * buffer is as it was.
  */
-struct dogwood_answer dogwood_check(const uint8_t *schema, size_t schema_length,
-                                    const uint8_t *condition, size_t condition_length,
-                                    const uint8_t *targets, size_t targets_length,
-                                    uint8_t *reports, size_t reports_length);
+struct dogwood_check_answer dogwood_check(const uint8_t *schema, size_t schema_length,
+                                          const uint8_t *condition, size_t condition_length,
+                                          const uint8_t *targets, size_t targets_length,
+                                          uint8_t *reports, size_t reports_length);
 
 /*
  * The same check with rules that the caller chooses, and with lent workspace, in which repeated reports are found: with
@@ -129,12 +144,12 @@ struct dogwood_answer dogwood_check(const uint8_t *schema, size_t schema_length,
  * Number 1 to 10 leaves the workspace as it was. Otherwise its contents afterwards mean nothing. It need not be cleared
  * before a call; a call clears it, so that more slots than are needed cost time.
  */
-struct dogwood_answer dogwood_check_with(uint8_t rules,
-                                         const uint8_t *schema, size_t schema_length,
-                                         const uint8_t *condition, size_t condition_length,
-                                         const uint8_t *targets, size_t targets_length,
-                                         uint8_t *reports, size_t reports_length,
-                                         uint32_t *workspace, size_t workspace_length);
+struct dogwood_check_answer dogwood_check_with(uint8_t rules,
+                                               const uint8_t *schema, size_t schema_length,
+                                               const uint8_t *condition, size_t condition_length,
+                                               const uint8_t *targets, size_t targets_length,
+                                               uint8_t *reports, size_t reports_length,
+                                               uint32_t *workspace, size_t workspace_length);
 
 /*
  * Reports each sum of a condition whose summand is declared as something else than Long. It needs no schema and no targets;

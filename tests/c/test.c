@@ -92,9 +92,27 @@ static int answers(struct dogwood_answer answer, int number, int record, size_t 
     return answer.number == number && answer.record == record && answer.count == count;
 }
 
+/* The answer of a check without its visits. */
+static struct dogwood_answer plainly(struct dogwood_check_answer answer) {
+    struct dogwood_answer plain;
+    plain.number = answer.number;
+    plain.record = answer.record;
+    plain.count = answer.count;
+    return plain;
+}
+
+static int checks(struct dogwood_check_answer answer, int number, int record, size_t count, size_t visits) {
+    return answers(plainly(answer), number, record, count) && answer.visits == visits;
+}
+
 /* A refusal leaves the buffer alone. */
 static int refuses(struct dogwood_answer answer, int number, int record) {
     return answers(answer, number, record, 0) && untouched_from(0);
+}
+
+/* A check that a record stopped has begun no visit. */
+static int refuses_check(struct dogwood_check_answer answer, int number, int record) {
+    return refuses(plainly(answer), number, record) && answer.visits == 0;
 }
 
 static int reports(const struct dogwood_report *report, uint32_t start, uint32_t end, const char *message) {
@@ -151,9 +169,9 @@ static void test_nothing(void) {
     TEST(dogwood_read_condition(NULL, 0) == DOGWOOD_CUT);
     TEST(dogwood_read_targets(NULL, 0) == DOGWOOD_CUT);
     TEST(dogwood_read_path(NULL, 0) == DOGWOOD_CUT);
-    TEST(answers(dogwood_check(NULL, 0, NULL, 0, NULL, 0, NULL, 0), DOGWOOD_CUT, DOGWOOD_SCHEMA, 0));
-    TEST(answers(dogwood_check(BYTES(SCHEMA), BYTES(CLEAN_CONDITION), BYTES(TARGETS), NULL, 0), 0, 0, 0));
-    TEST(answers(dogwood_check(BYTES(SCHEMA), BYTES(CONDITION), BYTES(TARGETS), NULL, 0), DOGWOOD_NO_SPACE, 0, 0));
+    TEST(checks(dogwood_check(NULL, 0, NULL, 0, NULL, 0, NULL, 0), DOGWOOD_CUT, DOGWOOD_SCHEMA, 0, 0));
+    TEST(checks(dogwood_check(BYTES(SCHEMA), BYTES(CLEAN_CONDITION), BYTES(TARGETS), NULL, 0), 0, 0, 0, 1));
+    TEST(checks(dogwood_check(BYTES(SCHEMA), BYTES(CONDITION), BYTES(TARGETS), NULL, 0), DOGWOOD_NO_SPACE, 0, 0, 1));
     TEST(answers(dogwood_sums(NULL, 0, NULL, 0), DOGWOOD_CUT, DOGWOOD_CONDITION, 0));
     TEST(answers(dogwood_sums(BYTES(WRONG_SUM), NULL, 0), DOGWOOD_NO_SPACE, 0, 0));
     TEST(answers(dogwood_lookup(NULL, 0, NULL, 0, NULL, 0, NULL, 0), DOGWOOD_CUT, DOGWOOD_SCHEMA, 0));
@@ -163,46 +181,46 @@ static void test_nothing(void) {
 /* ─── Check ─── */
 
 static void test_check(void) {
-    struct dogwood_answer answer = dogwood_check(BYTES(EMPTY_SCHEMA), BYTES(CONDITION), BYTES(TARGETS), fresh(), SPACE);
+    struct dogwood_check_answer answer = dogwood_check(BYTES(EMPTY_SCHEMA), BYTES(CONDITION), BYTES(TARGETS), fresh(), SPACE);
     struct dogwood_report report;
     const uint8_t *next = dogwood_next_report(buffer, &report);
 
-    TEST(answers(answer, DOGWOOD_ACCEPTED, DOGWOOD_NO_RECORD, 1));
+    TEST(checks(answer, DOGWOOD_ACCEPTED, DOGWOOD_NO_RECORD, 1, 1));
     TEST(reports(&report, 0, 8, MESSAGE));
     TEST(next == buffer + DOGWOOD_REPORT_HEAD + strlen(MESSAGE));
     TEST(untouched_from((size_t)(next - buffer)));
 
     answer = dogwood_check(BYTES(SCHEMA), BYTES(CLEAN_CONDITION), BYTES(TARGETS), fresh(), SPACE);
-    TEST(answers(answer, DOGWOOD_ACCEPTED, DOGWOOD_NO_RECORD, 0) && untouched_from(0));
+    TEST(checks(answer, DOGWOOD_ACCEPTED, DOGWOOD_NO_RECORD, 0, 1) && untouched_from(0));
 
     answer = dogwood_check(BYTES("XXX"), BYTES(""), BYTES(""), fresh(), SPACE);
-    TEST(refuses(answer, DOGWOOD_OTHER_MARK, DOGWOOD_SCHEMA));
+    TEST(refuses_check(answer, DOGWOOD_OTHER_MARK, DOGWOOD_SCHEMA));
     answer = dogwood_check(BYTES(SCHEMA), BYTES("DWC\0\1\16"), BYTES(""), fresh(), SPACE);
-    TEST(refuses(answer, DOGWOOD_UNDEFINED_CHOICE, DOGWOOD_CONDITION));
+    TEST(refuses_check(answer, DOGWOOD_UNDEFINED_CHOICE, DOGWOOD_CONDITION));
     answer = dogwood_check(BYTES(SCHEMA), BYTES(CONDITION), BYTES("DWT\0\1\2\0"), fresh(), SPACE);
-    TEST(refuses(answer, DOGWOOD_OUTSIDE_CLASS, DOGWOOD_TARGETS));
+    TEST(refuses_check(answer, DOGWOOD_OUTSIDE_CLASS, DOGWOOD_TARGETS));
 }
 
 /* Number 11 keeps the whole reports that fit, and a buffer that is just full is large enough. */
 static void test_check_space(void) {
     const size_t one = DOGWOOD_REPORT_HEAD + strlen(MESSAGE);
-    struct dogwood_answer answer;
+    struct dogwood_check_answer answer;
     struct dogwood_report report;
 
     answer = dogwood_check(BYTES(SCHEMA), BYTES(TWO_COMPARISONS), BYTES(TARGETS), fresh(), 2 * one);
-    TEST(answers(answer, DOGWOOD_ACCEPTED, DOGWOOD_NO_RECORD, 2));
+    TEST(checks(answer, DOGWOOD_ACCEPTED, DOGWOOD_NO_RECORD, 2, 3));
     dogwood_next_report(dogwood_next_report(buffer, &report), &report);
     TEST(reports(&report, 9, 17, MESSAGE));
     TEST(untouched_from(2 * one));
 
     answer = dogwood_check(BYTES(SCHEMA), BYTES(TWO_COMPARISONS), BYTES(TARGETS), fresh(), 2 * one - 1);
-    TEST(answers(answer, DOGWOOD_NO_SPACE, DOGWOOD_NO_RECORD, 1));
+    TEST(checks(answer, DOGWOOD_NO_SPACE, DOGWOOD_NO_RECORD, 1, 3));
     dogwood_next_report(buffer, &report);
     TEST(reports(&report, 0, 8, MESSAGE));
     TEST(untouched_from(one));
 
     answer = dogwood_check(BYTES(SCHEMA), BYTES(TWO_COMPARISONS), BYTES(TARGETS), fresh(), one - 1);
-    TEST(refuses(answer, DOGWOOD_NO_SPACE, DOGWOOD_NO_RECORD));
+    TEST(checks(answer, DOGWOOD_NO_SPACE, DOGWOOD_NO_RECORD, 0, 2) && untouched_from(0));
 }
 
 /* ─── Check with workspace ─── */
@@ -231,12 +249,12 @@ static int filled_with(uint32_t slot) {
 /* Whether the check of these records gives with this workspace and these rules what dogwood_check gives, to the byte. */
 static int as_without(const uint8_t *condition, size_t length, size_t space, uint8_t rules, uint32_t slot, size_t slots) {
     static uint8_t expected[SPACE];
-    struct dogwood_answer plain, lent;
+    struct dogwood_check_answer plain, lent;
 
     plain = dogwood_check(BYTES(SCHEMA), condition, length, BYTES(TARGETS), fresh(), space);
     memcpy(expected, buffer, SPACE);
     lent = dogwood_check_with(rules, BYTES(SCHEMA), condition, length, BYTES(TARGETS), fresh(), space, filled(slot), slots);
-    return answers(lent, plain.number, plain.record, plain.count) && memcmp(buffer, expected, SPACE) == 0;
+    return checks(lent, plain.number, plain.record, plain.count, plain.visits) && memcmp(buffer, expected, SPACE) == 0;
 }
 
 /* No slot, one, some and enough; free ones, such as name a place in the buffer, and garbage; with space for all, for one. */
@@ -261,11 +279,11 @@ static void test_check_with(void) {
             TEST(as_without(BYTES(OTHER_TAGS), SPACE, (uint8_t)rules, 0xA5A5A5A5, SLOTS));
         }
     }
-    TEST(answers(dogwood_check_with(0, BYTES(SCHEMA), BYTES(TWICE), BYTES(TARGETS), fresh(), SPACE, NULL, 0), 0, 0, 1));
+    TEST(checks(dogwood_check_with(0, BYTES(SCHEMA), BYTES(TWICE), BYTES(TARGETS), fresh(), SPACE, NULL, 0), 0, 0, 1, 3));
 }
 
 /* The strict check of a condition under the rules' other bits. */
-static struct dogwood_answer strictly(const uint8_t *condition, size_t length, size_t space, uint8_t others) {
+static struct dogwood_check_answer strictly(const uint8_t *condition, size_t length, size_t space, uint8_t others) {
     uint8_t rules = (uint8_t)(others | DOGWOOD_STRICT);
     return dogwood_check_with(rules, BYTES(SCHEMA), condition, length, BYTES(TARGETS), fresh(), space, filled(0), SLOTS);
 }
@@ -274,31 +292,31 @@ static struct dogwood_answer strictly(const uint8_t *condition, size_t length, s
 static void test_strict(void) {
     const size_t one = DOGWOOD_REPORT_HEAD + strlen(TAGS_MESSAGE);
     struct dogwood_report report;
-    struct dogwood_answer answer;
+    struct dogwood_check_answer answer;
     int others;
 
     for (others = 0; others < 256; others++) {
         answer = strictly(BYTES(OTHER_TAGS), SPACE, (uint8_t)others);
         dogwood_next_report(buffer, &report);
-        TEST(answers(answer, 0, 0, 1) && reports(&report, 0, 0, TAGS_MESSAGE) && untouched_from(one));
+        TEST(checks(answer, 0, 0, 1, 1) && reports(&report, 0, 0, TAGS_MESSAGE) && untouched_from(one));
     }
-    TEST(refuses(strictly(BYTES(OTHER_TAGS), one - 1, 0), DOGWOOD_NO_SPACE, DOGWOOD_NO_RECORD));
-    TEST(answers(strictly(BYTES(OTHER_TAGS_IN_ARRAYS), SPACE, 0), 0, 0, 1));
-    TEST(answers(strictly(BYTES(SAME_TAG), SPACE, 0), 0, 0, 0) && untouched_from(0));
+    TEST(checks(strictly(BYTES(OTHER_TAGS), one - 1, 0), DOGWOOD_NO_SPACE, 0, 0, 1) && untouched_from(0));
+    TEST(checks(strictly(BYTES(OTHER_TAGS_IN_ARRAYS), SPACE, 0), 0, 0, 1, 1));
+    TEST(checks(strictly(BYTES(SAME_TAG), SPACE, 0), 0, 0, 0, 1) && untouched_from(0));
 }
 
 /* A refused record leaves the buffer and the workspace as they were. */
 static void test_check_with_refusals(void) {
-    struct dogwood_answer answer;
+    struct dogwood_check_answer answer;
 
     answer = dogwood_check_with(0, BYTES("XXX"), BYTES(""), BYTES(""), fresh(), SPACE, filled(7), SLOTS);
-    TEST(refuses(answer, DOGWOOD_OTHER_MARK, DOGWOOD_SCHEMA) && filled_with(7));
+    TEST(refuses_check(answer, DOGWOOD_OTHER_MARK, DOGWOOD_SCHEMA) && filled_with(7));
     answer = dogwood_check_with(0, BYTES(SCHEMA), BYTES("DWC\0\1\16"), BYTES(""), fresh(), SPACE, filled(7), SLOTS);
-    TEST(refuses(answer, DOGWOOD_UNDEFINED_CHOICE, DOGWOOD_CONDITION) && filled_with(7));
+    TEST(refuses_check(answer, DOGWOOD_UNDEFINED_CHOICE, DOGWOOD_CONDITION) && filled_with(7));
     answer = dogwood_check_with(0, BYTES(SCHEMA), BYTES(CONDITION), BYTES("DWT\0\1\2\0"), fresh(), SPACE, filled(7), SLOTS);
-    TEST(refuses(answer, DOGWOOD_OUTSIDE_CLASS, DOGWOOD_TARGETS) && filled_with(7));
+    TEST(refuses_check(answer, DOGWOOD_OUTSIDE_CLASS, DOGWOOD_TARGETS) && filled_with(7));
     answer = dogwood_check_with(255, NULL, 0, NULL, 0, NULL, 0, NULL, 0, NULL, 0);
-    TEST(answers(answer, DOGWOOD_CUT, DOGWOOD_SCHEMA, 0));
+    TEST(checks(answer, DOGWOOD_CUT, DOGWOOD_SCHEMA, 0, 0));
 }
 
 /* ─── Sums ─── */

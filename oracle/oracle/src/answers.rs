@@ -79,7 +79,8 @@ fn lookup_bytes(schema: &[u8], targets: &[u8], path: &[u8]) -> Result<Vec<u8>, A
     let schema = records::read_schema(schema).map_err(|r| Answer::refused(SCHEMA, r))?;
     let targets = records::read_targets(targets).map_err(|r| Answer::refused(TARGETS, r))?;
     let path = records::read_path(path).map_err(|r| Answer::refused(PATH, r))?;
-    let target = targets.targets.get(path.position).ok_or(Answer { number: 12, record: TARGETS, count: 0, visits: 0 })?;
+    let target =
+        targets.targets.get(path.position).ok_or(Answer { number: 12, record: TARGETS, count: 0, visits: 0 })?;
     let info = SchemaInfo::from_validator_schema(&schema);
     let found = match info.action(target.namespace.as_deref(), &target.id) {
         Some(action) => action.resolve_scope_path(path.scope.root(), &path.path, narrowing_of(&targets, path.scope)),

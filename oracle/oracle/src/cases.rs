@@ -113,9 +113,9 @@ impl Case {
             Operation::ReadCondition => Outcome::Number(answers::read_number(records::read_condition(&r[0]))),
             Operation::ReadTargets => Outcome::Number(answers::read_number(records::read_targets(&r[0]))),
             Operation::ReadPath => Outcome::Number(answers::read_number(records::read_path(&r[0]))),
-            Operation::Check => self.in_buffer(|buffer| {
-                visits::counted(answers::check(&r[0], &r[1], &r[2], buffer), r, self.size)
-            }),
+            Operation::Check => {
+                self.in_buffer(|buffer| visits::counted(answers::check(&r[0], &r[1], &r[2], buffer), r, self.size))
+            }
             Operation::Sums => self.in_buffer(|buffer| answers::sums(&r[0], buffer)),
             Operation::Lookup => self.in_buffer(|buffer| answers::lookup(&r[0], &r[1], &r[2], buffer)),
             Operation::Terms => Outcome::Types(answers::operand_types(&r[0], &r[1], &r[2], self.size)?),
@@ -174,7 +174,10 @@ impl Case {
             Outcome::Number(number) => words.push(number.to_string()),
             Outcome::Answered(answer, buffer) => {
                 words.push(self.size.to_string());
-                words.extend([answer.number as usize, answer.record as usize, answer.count, answer.visits].map(|n| n.to_string()));
+                words.extend(
+                    [answer.number as usize, answer.record as usize, answer.count, answer.visits]
+                        .map(|n| n.to_string()),
+                );
                 words.push(hex::encode(written(buffer)));
             }
             Outcome::Types(types) => {

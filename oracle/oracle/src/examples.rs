@@ -3,3 +3,4 @@
 pub mod bytes;
 pub mod rules;
 pub mod strict;
+pub mod visits;

@@ -2,7 +2,7 @@
 
 use crate::cases::{self, Case, Operation, Outcome};
 use crate::coverage::Coverage;
-use crate::examples::{bytes, rules, strict};
+use crate::examples::{bytes, rules, strict, visits};
 use crate::generate::{self, boundaries, compared};
 use crate::pieces::Piece;
 use crate::rng::Rng;
@@ -154,6 +154,7 @@ fn checks() -> Vec<Case> {
         cases.extend(at_three_sizes(Operation::Check, records, &e.reports));
     }
     cases.extend(compared::equal());
+    cases.extend(visits::all().iter().map(visits::Visited::case));
     cases.extend(random(SEED, Operation::Check, 520));
     once(cases)
 }

@@ -1,7 +1,8 @@
 //! Each example of the tables, answered by the oracle.
 
 use oracle::answers::{check, lookup, sums, Answer};
-use oracle::examples::{bytes, rules};
+use oracle::cases::Outcome;
+use oracle::examples::{bytes, rules, visits};
 use oracle::pieces::Piece;
 
 const FILL: u8 = 0xA5;
@@ -64,6 +65,14 @@ fn examples_of_check() {
     for e in rules::checked() {
         let records = [&e.schema, &e.condition, &e.targets].map(Piece::bytes);
         expect_reports(e.shows, &e.reports, |buffer| check(&records[0], &records[1], &records[2], buffer));
+    }
+}
+
+#[test]
+fn examples_of_visits() {
+    for e in visits::all() {
+        let Some(Outcome::Answered(answer, _)) = e.case().outcome() else { panic!("{}", e.shows) };
+        assert_eq!(answer, e.answer, "{}", e.shows);
     }
 }
 

@@ -1,7 +1,8 @@
 //! What a call with a lent buffer answers.
 
-use crate::ffi::Returned;
+use crate::ffi::{Returned, ReturnedCheck};
 use crate::{Cause, RecordKind, Refusal};
+use std::ops::Deref;
 
 /// The answer of a call that writes to a lent buffer.
 #[derive(Clone, Copy, Debug, PartialEq, Eq)]
@@ -41,5 +42,44 @@ impl Answer {
             None => Ok(self.count),
             Some(refusal) => Err(refusal),
         }
+    }
+}
+
+/// The answer of a check that writes to a lent buffer: an [`Answer`], to which it dereferences, and how much work it was.
+///
+/// ```
+/// use dogwood_check::{check_into, Condition, Schema, Target, Targets};
+///
+/// let schema = Schema::new().encode()?;
+/// let condition = Condition::and(0..20, Condition::call(0..9), Condition::call(11..20)).encode()?;
+/// let targets = Targets::new().target(Target::new("view")).target(Target::new("edit")).encode()?;
+/// let answer = check_into(&schema, &condition, &targets, &mut []);
+/// assert_eq!((answer.refusal, answer.visits), (None, 6)); // three conditions under each of two targets
+/// assert!(answer.visits * 9 <= 2 * (condition.len() - 5));
+/// # Ok::<(), dogwood_check::EncodeError>(())
+/// ```
+#[derive(Clone, Copy, Debug, PartialEq, Eq)]
+pub struct CheckAnswer {
+    /// The refusal, if there is one, and how many reports stand in the buffer.
+    pub answer: Answer,
+    /// How many visits were begun, a visit being one reached condition looked at under one target. Where all reports fit
+    /// these are (targets not skipped) × (reached conditions), whatever the [rules](crate::Rules) are. After
+    /// [`Cause::NoSpace`] they are those up to and including the one whose report did not fit; after any other refusal
+    /// there is none.
+    pub visits: usize,
+}
+
+impl CheckAnswer {
+    pub(crate) fn new(returned: ReturnedCheck) -> CheckAnswer {
+        let ReturnedCheck { number, record, count, visits } = returned;
+        CheckAnswer { answer: Answer::new(Returned { number, record, count }), visits }
+    }
+}
+
+impl Deref for CheckAnswer {
+    type Target = Answer;
+
+    fn deref(&self) -> &Answer {
+        &self.answer
     }
 }

@@ -11,6 +11,15 @@ pub(crate) struct Returned {
     pub count: usize,
 }
 
+/// What a check returns, as `struct dogwood_check_answer`.
+#[repr(C)]
+pub(crate) struct ReturnedCheck {
+    pub number: u8,
+    pub record: u8,
+    pub count: usize,
+    pub visits: usize,
+}
+
 extern "C" {
     fn dogwood_read_schema(bytes: *const u8, length: usize) -> u8;
     fn dogwood_read_condition(bytes: *const u8, length: usize) -> u8;
@@ -25,7 +34,7 @@ extern "C" {
         targets_length: usize,
         reports: *mut u8,
         reports_length: usize,
-    ) -> Returned;
+    ) -> ReturnedCheck;
     fn dogwood_check_with(
         rules: u8,
         schema: *const u8,
@@ -38,7 +47,7 @@ extern "C" {
         reports_length: usize,
         workspace: *mut u32,
         workspace_length: usize,
-    ) -> Returned;
+    ) -> ReturnedCheck;
     fn dogwood_sums(condition: *const u8, condition_length: usize, reports: *mut u8, reports_length: usize)
         -> Returned;
     fn dogwood_lookup(
@@ -73,7 +82,7 @@ pub(crate) fn read_path(bytes: &[u8]) -> u8 {
     unsafe { dogwood_read_path(bytes.as_ptr(), bytes.len()) }
 }
 
-pub(crate) fn check(schema: &[u8], condition: &[u8], targets: &[u8], reports: &mut [u8]) -> Returned {
+pub(crate) fn check(schema: &[u8], condition: &[u8], targets: &[u8], reports: &mut [u8]) -> ReturnedCheck {
     // SAFETY: each address and length are those of a slice that is borrowed through the call, and the buffer, borrowed
     // mutably, overlaps none of the others.
     unsafe {
@@ -95,7 +104,7 @@ pub(crate) fn check_with(
     [schema, condition, targets]: [&[u8]; 3],
     reports: &mut [u8],
     workspace: &mut [u32],
-) -> Returned {
+) -> ReturnedCheck {
     // SAFETY: as for `check`; the buffer and the workspace, both borrowed mutably, do not overlap each other either.
     unsafe {
         dogwood_check_with(

@@ -70,7 +70,7 @@ mod span;
 mod targets;
 mod term;
 
-pub use answer::Answer;
+pub use answer::{Answer, CheckAnswer};
 pub use binder::{Annotation, Binder, Slot};
 pub use condition::{Argument, Condition, ConditionKind, Operator, Predicate};
 pub use decode::DecodeError;

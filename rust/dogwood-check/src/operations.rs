@@ -3,7 +3,7 @@
 use std::collections::hash_map::RandomState;
 use std::hash::{BuildHasher, Hasher};
 
-use crate::{ffi, Answer, Cause, Findings, Refusal, Reports, Rules, ScopePath};
+use crate::{ffi, Answer, Cause, CheckAnswer, Findings, Refusal, Reports, Rules, ScopePath};
 
 /// The space that [`check`], [`sums`] and [`lookup`] begin with: 64 KiB, which hold hundreds of reports.
 const FIRST_SPACE: usize = 64 << 10;
@@ -74,10 +74,10 @@ pub fn read_path(bytes: &[u8]) -> Result<(), Cause> {
 /// }
 /// # Ok::<(), dogwood_check::DecodeError>(())
 /// ```
-pub fn check_into(schema: &[u8], condition: &[u8], targets: &[u8], reports: &mut [u8]) -> Answer {
+pub fn check_into(schema: &[u8], condition: &[u8], targets: &[u8], reports: &mut [u8]) -> CheckAnswer {
     let most = most_reports(condition, targets, reports.len());
     if most < OWN_REPORTS {
-        return Answer::new(ffi::check(schema, condition, targets, reports));
+        return CheckAnswer::new(ffi::check(schema, condition, targets, reports));
     }
     let mut workspace = vec![0; slots_for(most)];
     workspace[0] = random_key();
@@ -117,8 +117,8 @@ pub fn check_with(
     targets: &[u8],
     reports: &mut [u8],
     workspace: &mut [u32],
-) -> Answer {
-    Answer::new(ffi::check_with(rules.bits(), [schema, condition, targets], reports, workspace))
+) -> CheckAnswer {
+    CheckAnswer::new(ffi::check_with(rules.bits(), [schema, condition, targets], reports, workspace))
 }
 
 /// How many slots of workspace make [`check_with`] linear in the reports of a buffer of so many bytes, whatever the
@@ -188,7 +188,7 @@ pub fn lookup_into(schema: &[u8], targets: &[u8], path: &[u8], output: &mut [u8]
 /// # Ok::<(), Box<dyn std::error::Error>>(())
 /// ```
 pub fn check(schema: &[u8], condition: &[u8], targets: &[u8]) -> Result<Findings, Refusal> {
-    findings(in_space(|buffer| check_into(schema, condition, targets, buffer)))
+    findings(in_space(|buffer| check_into(schema, condition, targets, buffer).answer))
 }
 
 /// Checks the sums of a condition: a report for each whose summand is declared as something else than `Long`.

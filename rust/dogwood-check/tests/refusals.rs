@@ -67,7 +67,9 @@ fn offending(record: RecordKind, cause: Cause) -> Option<Vec<u8>> {
 type Operation = (&'static [RecordKind], fn(&[Vec<u8>], &mut [u8]) -> Answer);
 
 const CHECK: Operation = (&[RecordKind::Schema, RecordKind::Condition, RecordKind::Targets], |records, buffer| {
-    check_into(&records[0], &records[1], &records[2], buffer)
+    let answer = check_into(&records[0], &records[1], &records[2], buffer);
+    assert_eq!(answer.visits, 0);
+    answer.answer
 });
 const SUMS: Operation = (&[RecordKind::Condition], |records, buffer| sums_into(&records[0], buffer));
 const LOOKUP: Operation = (&[RecordKind::Schema, RecordKind::Targets, RecordKind::Path], |records, buffer| {

@@ -26,7 +26,7 @@ fn joined(mut all: Vec<Condition>) -> Condition {
 fn reports_that_fit() {
     let mut buffer = [0xA5; 4 * ONE];
     let answer = check_into(SCHEMA, &wrong(3), TARGETS, &mut buffer);
-    assert_eq!(answer, Answer { refusal: None, count: 3 });
+    assert_eq!(answer, CheckAnswer { answer: Answer { refusal: None, count: 3 }, visits: 5 });
     assert!(buffer[3 * ONE..].iter().all(|byte| *byte == 0xA5));
     let reports: Vec<ReportRef> = Reports::new(&buffer, answer.count).unwrap().collect();
     let expected = [0, 10, 20].map(|start| ReportRef { start, end: start + 8, message: MESSAGE });
@@ -43,7 +43,8 @@ fn reports_that_do_not_fit() {
         let kept = space / ONE;
         assert!(answer.is_cut());
         let refusal = Refusal { cause: Cause::NoSpace, record: None };
-        assert_eq!(answer, Answer { refusal: Some(refusal), count: kept });
+        assert_eq!(answer.answer, Answer { refusal: Some(refusal), count: kept });
+        assert_eq!(answer.visits, 3 + kept);
         assert_eq!(Reports::new(&buffer, kept).unwrap().len(), kept);
         assert!(buffer[kept * ONE..].iter().all(|byte| *byte == 0xA5));
     }
@@ -52,7 +53,7 @@ fn reports_that_do_not_fit() {
 }
 
 /// What a check answers, and the whole buffer and workspace after it.
-fn lent(condition: &[u8], space: usize, workspace: &[u32]) -> (Answer, Vec<u8>, Vec<u32>) {
+fn lent(condition: &[u8], space: usize, workspace: &[u32]) -> (CheckAnswer, Vec<u8>, Vec<u32>) {
     let (mut buffer, mut workspace) = (vec![0xA5; space], workspace.to_vec());
     let answer = check_with(Rules::plain(), SCHEMA, condition, TARGETS, &mut buffer, &mut workspace);
     (answer, buffer, workspace)
@@ -87,7 +88,7 @@ fn any_key_gives_the_same() {
     let space = 300 * ONE;
     let mut workspace = vec![0; workspace_for(space)];
     let (answer, expected, _) = lent(&condition, space, &workspace);
-    assert_eq!(answer, Answer { refusal: None, count: 300 });
+    assert_eq!(answer, CheckAnswer { answer: Answer { refusal: None, count: 300 }, visits: 1_199 });
     let mut rng = Rng::new(19);
     for key in [1, 2, 1 << 31, u32::MAX].into_iter().chain((0..200).map(|_| rng.number32())) {
         workspace[0] = key;
