@@ -3,7 +3,8 @@
 //! Usage: `diff N [SEED [LETTERS]]`. Without a seed one is taken from the clock; it is printed, so that a run can be had
 //! again. LETTERS are those of the operations to be compared; without them all that the library has. Each check is also
 //! made with lent workspace of random size and contents and rules of no effect, and held against the one without; and it
-//! is made strictly, with space for all reports, where every pair of the plain one has to be among the strict ones.
+//! is made strictly, with space for all reports, where every pair of the plain one has to be among the strict ones, and the
+//! visits are as many.
 
 #[path = "../library.rs"]
 mod library;
@@ -90,36 +91,40 @@ fn differs(case: &Case) -> bool {
 const AMPLE: usize = 1 << 20;
 
 /// Whether the strict check of a case lacks a pair (message, start) of the plain one, or has another beside them that is
-/// not about an equality. With space for all: where it does not do, nothing is said.
+/// not about an equality, or makes another number of visits. With space for all: where it does not do, nothing is said.
 fn strict_lacks(case: &Case) -> bool {
     if case.operation != Operation::Check {
         return false;
     }
     let [plain, strict] = [0, library::STRICT].map(|rules| pairs(case, rules));
     match (plain, strict) {
-        (Some(plain), Some(strict)) => {
-            !plain.is_subset(&strict)
+        (Some((plain, visits)), Some((strict, strict_visits))) => {
+            visits != strict_visits
+                || !plain.is_subset(&strict)
                 || strict.difference(&plain).any(|(message, _)| !message.starts_with(b"equality "))
         }
         _ => false,
     }
 }
 
-/// The pairs that a check with these rules reports, where it answers 0.
-fn pairs(case: &Case, rules: u8) -> Option<BTreeSet<(Vec<u8>, u32)>> {
+/// Messages with their starts.
+type Pairs = BTreeSet<(Vec<u8>, u32)>;
+
+/// The pairs that a check with these rules reports and the number of its visits, where it answers 0.
+fn pairs(case: &Case, rules: u8) -> Option<(Pairs, usize)> {
     let r = &case.records;
     let mut buffer = vec![FILL; AMPLE];
     let mut workspace = vec![0; workloads::workspace_for(AMPLE)];
     let answer = library::check_with(rules, [&r[0], &r[1], &r[2]], &mut buffer, &mut workspace)?;
     let mut rest = &buffer[..];
-    let mut pairs = BTreeSet::new();
+    let mut pairs = Pairs::new();
     for _ in 0..answer.count {
         let start = u32::from_be_bytes(rest[..4].try_into().expect("a start has four bytes"));
         let length = usize::from(u16::from_be_bytes([rest[8], rest[9]]));
         pairs.insert((rest[10..10 + length].to_vec(), start));
         rest = &rest[10 + length..];
     }
-    (answer.number == 0).then_some(pairs)
+    (answer.number == 0).then_some((pairs, answer.visits))
 }
 
 /// Whether the check answers otherwise with workspace than without, or writes to it where a record is refused.
