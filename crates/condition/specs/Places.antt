@@ -1,13 +1,14 @@
 -- What a position of an accepted condition record stands for. A law says that what is read with fewer levels left is read alike with all 32, so a
 -- position alone denotes a condition, a term, a list of arguments; where none stands there, any. Its version is the one that stands in the record.
-use Prim.Native.Nat.{ℕ}
+use Prim.Native.Nat.{ℕ, _<_}
+use mathlib.Core.Path.{_≡_}
 use mathlib.Core.Bool.{Bool, false}
 use mathlib.Core.List.{List, []}
 use lib.ListN.{take, drop}
-use Rattle.names.specs.Fields.{Reader, levels, number, whole}
+use Rattle.names.specs.Fields.{got, Reader, choose, levels, number, whole}
 use Rattle.names.specs.Paths.{pathOf}
 use Rattle.names.specs.Read.{accepted, valueOr}
-use Rattle.condition.specs.Condition.{Span, Condition, Term, Terms, Arguments, Aggregate, Slot, Annotation, Binder, opaque, wildcard, noArgument, nil, call, paramRef, timepoint, conditionAt, termAt, arguments, elements, aggregateOf, slot, annotation, binder, conditionRecord}
+use Rattle.condition.specs.Condition.{Span, Condition, Term, Terms, Arguments, Aggregate, Slot, Annotation, Binder, opaque, wildcard, noArgument, nil, call, paramRef, timepoint, conditionAt, termAt, arguments, elements, aggregateOf, slot, annotation, binder, units, conditionRecord}
 
 abbrev pub nowhere : Span
 nowhere = record { start = 0; end = 0 }
@@ -98,3 +99,8 @@ isBinder s at = accepted (binder s at)
 
 unfoldable pub binderIn : List ℕ → ℕ → Binder
 binderIn s at = valueOr (record { slot = paramRef; annotation = timepoint }) (binder s at)
+
+-- the seconds of the unit that a choice byte stands for
+pub record UnitOf (k seconds : ℕ) : Type 0 where
+  pub reads : (s : List ℕ) (at : ℕ) → choose k units s at ≡ got seconds at
+  pub some : 0 < seconds

@@ -3,6 +3,7 @@
 // A position of accepted bytes denotes a condition, a term, a binder, .. (`specs/Places`). `specs/Walk` says what the walk of a condition reaches and which
 // binders it passes. The crate `nodes` takes a node apart, the crate `walk` goes through a record.
 mod read;
+mod window;
 
 pub use read::read_binder;
 pub use read::read_binders;
@@ -11,3 +12,5 @@ pub use read::read_slot;
 pub use read::read_subcondition;
 pub use read::read_term;
 pub use read::version;
+pub use window::read_window;
+pub use window::unit_seconds;

@@ -1,11 +1,12 @@
 // The condition record: which bytes are one.
+use crate::window::read_window;
 use names::Class;
 use names::Read;
 ghost use mathlib.Core.Path.{_≡_};
 ghost use mathlib.Core.Bool.{true, false};
 ghost use Rattle.names.specs.Read.{ending};
-ghost use Rattle.names.specs.Fields.{each, counted, whole};
-ghost use Rattle.condition.specs.Condition.{One, Two, span, slot, annotation, binder, operator, timepointOf, argumentList, elementList, unary, binary, predicateOf, comparisonOf, existsOf, sumOf, countOf, aggregateOf, arithOf, conditionAt, termAt, conditionRecord};
+ghost use Rattle.names.specs.Fields.{_<$>_, each, counted, whole};
+ghost use Rattle.condition.specs.Condition.{Window, One, Two, window, span, slot, annotation, binder, operator, timepointOf, argumentList, elementList, unary, binary, predicateOf, comparisonOf, existsOf, sumOf, countOf, aggregateOf, arithOf, conditionAt, termAt, conditionRecord};
 ghost use Rattle.condition.specs.Places.{versionIn};
 
 // Two 32-bit numbers, the ends of a span.
@@ -122,19 +123,22 @@ pub fn read_subcondition(s: &[u8], at: usize, version: usize, left: usize) -> Re
         return Read::Refused(7);
     }
     if kind <= 2 {
-        return read_binary(s, at + 1, version, left - 1);
+        return read_binary(s, at + 1, 1, version, left - 1);
+    }
+    if kind == 3 {
+        return read_unary(s, at + 1, 1, version, left - 1);
     }
     if kind <= 5 {
-        return read_unary(s, at + 1, version, left - 1);
+        return read_unary(s, at + 1, version, version, left - 1);
     }
     if 12 < kind {
-        return read_unary(s, at + 1, version, left - 1);
+        return read_unary(s, at + 1, 1, version, left - 1);
     }
     if 10 < kind {
         return read_span(s, at + 1);
     }
     if kind == 6 {
-        return read_binary(s, at + 1, version, left - 1);
+        return read_binary(s, at + 1, version, version, left - 1);
     }
     if kind == 7 {
         return read_predicate(s, at + 1, version, left - 1);
@@ -148,24 +152,32 @@ pub fn read_subcondition(s: &[u8], at: usize, version: usize, left: usize) -> Re
     read_timepoint(s, at + 1)
 }
 
-// A span and a condition: Not, Formerly, Previous, Refine.
-fn read_unary(s: &[u8], at: usize, version: usize, left: usize) -> Read
-    ensures { λ r. ⌜ ((k : One) → r ≡ ending (unary version (conditionAt version left) (termAt version left) k (now (s .entry)) at)) ⌝ }
+// A span, a window and a condition: Formerly, Previous. Not and Refine, which have no window, are read with that of version 1, which has no bytes.
+fn read_unary(s: &[u8], at: usize, windows: usize, version: usize, left: usize) -> Read
+    ensures { λ r. ⌜ ((k : Window → One) → r ≡ ending (unary version (conditionAt version left) (termAt version left) (k <$> window windows) (now (s .entry)) at)) ⌝ }
 {
     let span = read_span(s, at);
-    let Read::Next(n) = span else {
+    let Read::Next(p) = span else {
         return span;
+    };
+    let window = read_window(s, p, windows);
+    let Read::Next(n) = window else {
+        return window;
     };
     read_subcondition(s, n, version, left)
 }
 
-// A span and two conditions: And, Or, Since.
-fn read_binary(s: &[u8], at: usize, version: usize, left: usize) -> Read
-    ensures { λ r. ⌜ ((k : Two) → r ≡ ending (binary version (conditionAt version left) (termAt version left) k (now (s .entry)) at)) ⌝ }
+// A span, a window and two conditions: Since, and with the window of version 1 And and Or.
+fn read_binary(s: &[u8], at: usize, windows: usize, version: usize, left: usize) -> Read
+    ensures { λ r. ⌜ ((k : Window → Two) → r ≡ ending (binary version (conditionAt version left) (termAt version left) (k <$> window windows) (now (s .entry)) at)) ⌝ }
 {
     let span = read_span(s, at);
-    let Read::Next(n) = span else {
+    let Read::Next(p) = span else {
         return span;
+    };
+    let window = read_window(s, p, windows);
+    let Read::Next(n) = window else {
+        return window;
     };
     let first = read_subcondition(s, n, version, left);
     let Read::Next(m) = first else {
@@ -388,7 +400,7 @@ fn read_count(s: &[u8], at: usize, version: usize, left: usize) -> Read
 pub fn read_condition(s: &[u8]) -> Read
     ensures { λ r. ⌜ r ≡ ending (whole conditionRecord (now (s .entry))) ⌝ }
 {
-    let heading = names::read_start(s, b"DWC", 1);
+    let heading = names::read_start(s, b"DWC", 2);
     let Read::Next(at) = heading else {
         return heading;
     };

@@ -16,7 +16,7 @@ fn wide64(b: u8) -> u64
 
 // The eight bytes from a place on as one number, the first of them highest. Written so, it compiles to one load and a swap
 // of bytes; as a sum of products it would be eight loads.
-fn word_at(s: &[u8], at: usize) -> u64
+pub fn word_at(s: &[u8], at: usize) -> u64
     requires { ⌜ at + 8 ≤ length (now s) ⌝ }
     ensures { λ r. ⌜ WordAt (now (s .entry)) at r ⌝ }
 {

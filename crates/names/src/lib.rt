@@ -8,6 +8,7 @@ mod writer;
 pub use bytewise::compare;
 pub use bytewise::is_below;
 pub use bytewise::same;
+pub use bytewise::word_at;
 pub use classes::in_class;
 pub use fields::byte_at;
 pub use fields::part_of;

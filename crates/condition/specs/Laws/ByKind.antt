@@ -8,7 +8,7 @@ use native.Mathlib.Omega.{arith}
 use borrow.Author.Needs.{needs}
 use borrow.Author.Tests.{le-leb, lt-leb, ne-eqb}
 use lib.ListN.{length, getD}
-use Rattle.names.specs.Fields.{bad, Reader, choose, stringOf}
+use Rattle.names.specs.Fields.{bad, Reader, _<$>_, choose, stringOf}
 use Rattle.names.specs.Class.{classOf}
 use Rattle.names.specs.declared.Class.the-variants.{Plain, PathName}
 use Rattle.names.specs.Paths.{pathOf}
@@ -16,7 +16,7 @@ use Rattle.names.specs.Read.{ending}
 use Rattle.names.specs.declared.Read.{Read}
 use Rattle.names.specs.declared.Read.the-variants.{Next, Refused}
 use Rattle.names.specs.Laws.Readers.{u8-end, u8-got, via, last, choice, choose-beyond, keysUpTo, Each, each-in}
-use Rattle.condition.specs.Condition.{Condition, Term, One, Two, negation, formerly, previous, refine, and, or, since, span, timepointOf, elementList, unary, binary, predicateOf, comparisonOf, existsOf, conditionKinds, sumOf, countOf, aggregateKinds, aggregateOf, arithOf, termKinds, tooDeep, conditionAt, termAt}
+use Rattle.condition.specs.Condition.{Condition, Term, Window, One, Two, negation, formerly, previous, refine, and, or, since, window, span, timepointOf, elementList, unary, binary, predicateOf, comparisonOf, existsOf, conditionKinds, sumOf, countOf, aggregateKinds, aggregateOf, arithOf, termKinds, tooDeep, conditionAt, termAt}
 
 -- with no level left
 module _ {A : Type 0} (s : List ℕ) (at bound : ℕ) where
@@ -78,24 +78,28 @@ module _ (v : ℕ) (s : List ℕ) (at l : ℕ) where
       unfolding conditionAt ending
       condition-deep k z = rw (z, deep-defined {A = Condition} s at 13 h y k)
 
-      pub binary-low : (l ≡ 0 → ⊥) → getD s at 0 ≤ 2 → (x : Read) → ((k : Two) → x ≡ ending (binary v (conditionAt v (l - 1)) (termAt v (l - 1)) k s (at + 1))) → x ≡ ending (conditionAt v l s at)
-      unfolding choose conditionKinds Each
-      binary-low z k x e = via (condition-kind z _ refl) (each-in (λ j. x ≡ ending (choose j (conditionKinds v (conditionAt v (l - 1)) (termAt v (l - 1))) s (at + 1))) 1 2 ((tt, e and), e or) (getD s at 0) (omega arith) (omega arith))
+      pub binary-low : (l ≡ 0 → ⊥) → getD s at 0 ≤ 2 → (x : Read) → ((k : Window → Two) → x ≡ ending (binary v (conditionAt v (l - 1)) (termAt v (l - 1)) (k <$> window 1) s (at + 1))) → x ≡ ending (conditionAt v l s at)
+      unfolding choose conditionKinds Each window
+      binary-low z k x e = via (condition-kind z _ refl) (each-in (λ j. x ≡ ending (choose j (conditionKinds v (conditionAt v (l - 1)) (termAt v (l - 1))) s (at + 1))) 1 2 ((tt, e (λ _. and)), e (λ _. or)) (getD s at 0) (omega arith) (omega arith))
 
     module _ (z : l ≡ 0 → ⊥) (x : Read) where
-      pub unary-low : 2 < getD s at 0 → getD s at 0 ≤ 5 → ((k : One) → x ≡ ending (unary v (conditionAt v (l - 1)) (termAt v (l - 1)) k s (at + 1))) → x ≡ ending (conditionAt v l s at)
-      unfolding choose conditionKinds Each
-      unary-low a b e = via (condition-kind z _ refl) (each-in (λ j. x ≡ ending (choose j (conditionKinds v (conditionAt v (l - 1)) (termAt v (l - 1))) s (at + 1))) 3 3 (((tt, e negation), e formerly), e previous) (getD s at 0) a (omega arith))
+      pub not-kind : getD s at 0 ≡ 3 → ((k : Window → One) → x ≡ ending (unary v (conditionAt v (l - 1)) (termAt v (l - 1)) (k <$> window 1) s (at + 1))) → x ≡ ending (conditionAt v l s at)
+      unfolding choose conditionKinds window
+      not-kind k e = via (condition-kind z 3 k) (e (λ _. negation))
 
-      pub unary-high : 12 < getD s at 0 → getD s at 0 ≤ 13 → ((k : One) → x ≡ ending (unary v (conditionAt v (l - 1)) (termAt v (l - 1)) k s (at + 1))) → x ≡ ending (conditionAt v l s at)
-      unfolding choose conditionKinds
-      unary-high a b e = via (condition-kind z 13 (omega arith)) (e refine)
+      pub unary-low : 2 < getD s at 0 → (getD s at 0 ≡ 3 → ⊥) → getD s at 0 ≤ 5 → ((k : Window → One) → x ≡ ending (unary v (conditionAt v (l - 1)) (termAt v (l - 1)) (k <$> window v) s (at + 1))) → x ≡ ending (conditionAt v l s at)
+      unfolding choose conditionKinds Each
+      unary-low a i b e = via (condition-kind z _ refl) (each-in (λ j. x ≡ ending (choose j (conditionKinds v (conditionAt v (l - 1)) (termAt v (l - 1))) s (at + 1))) 4 2 ((tt, e formerly), e previous) (getD s at 0) (omega arith) (omega arith))
+
+      pub unary-high : 12 < getD s at 0 → getD s at 0 ≤ 13 → ((k : Window → One) → x ≡ ending (unary v (conditionAt v (l - 1)) (termAt v (l - 1)) (k <$> window 1) s (at + 1))) → x ≡ ending (conditionAt v l s at)
+      unfolding choose conditionKinds window
+      unary-high a b e = via (condition-kind z 13 (omega arith)) (e (λ _. refine))
 
       pub opaque-read : 10 < getD s at 0 → getD s at 0 ≤ 12 → x ≡ ending (span s (at + 1)) → x ≡ ending (conditionAt v l s at)
       unfolding choose conditionKinds Each
       opaque-read a b e = via (condition-kind z _ refl) (each-in (λ j. x ≡ ending (choose j (conditionKinds v (conditionAt v (l - 1)) (termAt v (l - 1))) s (at + 1))) 11 2 ((tt, e ∙ last _ _), e ∙ last _ _) (getD s at 0) a (omega arith))
 
-      pub binary-since : getD s at 0 ≡ 6 → ((k : Two) → x ≡ ending (binary v (conditionAt v (l - 1)) (termAt v (l - 1)) k s (at + 1))) → x ≡ ending (conditionAt v l s at)
+      pub binary-since : getD s at 0 ≡ 6 → ((k : Window → Two) → x ≡ ending (binary v (conditionAt v (l - 1)) (termAt v (l - 1)) (k <$> window v) s (at + 1))) → x ≡ ending (conditionAt v l s at)
       unfolding choose conditionKinds
       binary-since k e = via (condition-kind z 6 k) (e since)
 
@@ -225,7 +229,7 @@ module _ (v : ℕ) (c : Reader Condition) (t : Bool → Reader Term) (s : List �
     unfolding choose aggregateKinds ending
     aggregate-undefined i j k = via (aggregate-kind _ refl) (rw (ne-eqb (getD s at 0) 1 i, ne-eqb (getD s at 0) 2 j, ne-eqb (getD s at 0) 3 k))
 
-pub ruleset conditions = (needs, condition-end, condition-zero, condition-above, condition-deep, binary-low, unary-low, unary-high, opaque-read, binary-since, predicate-kind, comparison-kind, exists-kind, timepoint-kind)
+pub ruleset conditions = (needs, condition-end, condition-zero, condition-above, condition-deep, binary-low, not-kind, unary-low, unary-high, opaque-read, binary-since, predicate-kind, comparison-kind, exists-kind, timepoint-kind)
 
 pub ruleset terms = (needs, term-end, term-zero, term-above, term-deep, sigil-read, entity-read, literal-read, path-read, var-read, wildcard-read, array-read, aggregate-refused, aggregate-read, arith-kind)
 

@@ -65,13 +65,13 @@ module _ (v : ℕ) (f g : Reader Condition) (t u : Bool → Reader Term) (wide :
   body-wider : {A : Type 0} (m : Condition → A) (s : List ℕ) (at : ℕ) → Keeps (next (f s at) (λ a n. got (m a) n)) (next (g s at) (λ a n. got (m a) n))
   body-wider m s at = last-wider (f s at) (g s at) m (wide s at)
 
-  unary-wider : (k : One) → Wider (unary v f t k) (unary v g u k)
+  unary-wider : (k : Reader One) → Wider (unary v f t k) (unary v g u k)
   unfolding unary
-  unary-wider k s at = then-wider (span s at) _ _ (λ _ n. body-wider _ s n)
+  unary-wider k s at = then-wider (span s at) _ _ (λ _ p. then-wider (k s p) _ _ (λ _ n. body-wider _ s n))
 
-  binary-wider : (k : Two) → Wider (binary v f t k) (binary v g u k)
+  binary-wider : (k : Reader Two) → Wider (binary v f t k) (binary v g u k)
   unfolding binary
-  binary-wider k s at = then-wider (span s at) _ _ (λ _ n. next-wider (f s n) (g s n) _ _ (wide s n) (λ _ m. body-wider _ s m))
+  binary-wider k s at = then-wider (span s at) _ _ (λ _ p. then-wider (k s p) _ _ (λ _ n. next-wider (f s n) (g s n) _ _ (wide s n) (λ _ m. body-wider _ s m)))
 
   predicate-wider : Wider (predicateOf v f t) (predicateOf v g u)
   unfolding predicateOf

@@ -10,19 +10,19 @@ use lib.ListN.{length}
 use Rattle.names.specs.Fields.{got, bad, heading, levels, finished, whole}
 use Rattle.names.specs.Read.{accepted}
 use Rattle.names.specs.Laws.Readers.{split, held, heading-place, heading-version, whole-read, accept, is-accepted, has-value}
-use Rattle.condition.specs.Condition.{conditionAt, conditionRecord}
+use Rattle.condition.specs.Condition.{conditionAt, conditionRecordUpTo, conditionRecord}
 use Rattle.condition.specs.Places.{isRecord, recordIn, versionIn, conditionHere, isCondition, conditionIn}
 
 module _ (s : List ℕ) (acc : isRecord s ≡ true) where
   pub record-read : conditionHere s 5 ≡ got (recordIn s) (length s)
-  unfolding conditionRecord recordIn versionIn finished
+  unfolding conditionRecordUpTo conditionRecord recordIn versionIn finished
   record-read =
       let w = accept (whole conditionRecord s) acc in
-      let a = split (heading (68 ∷ 87 ∷ 67 ∷ []) 1 s 0) _ (whole-read conditionRecord s (w .read)) in
+      let a = split (heading (68 ∷ 87 ∷ 67 ∷ []) 2 s 0) _ (whole-read conditionRecord s (w .read)) in
       let b = split (conditionAt (a .value) levels s (a .place)) _ (a .rest) in
       let f = held 10 (eqb (b .place) (length s)) s (b .rest) in
-      let p : a .place ≡ 5 = heading-place (68 ∷ 87 ∷ 67 ∷ []) 1 s (a .first) in
-      let v : a .value ≡ versionIn s = heading-version (68 ∷ 87 ∷ 67 ∷ []) 1 s (a .first) in
+      let p : a .place ≡ 5 = heading-place (68 ∷ 87 ∷ 67 ∷ []) 2 s (a .first) in
+      let v : a .value ≡ versionIn s = heading-version (68 ∷ 87 ∷ 67 ∷ []) 2 s (a .first) in
       let x : recordIn s ≡ b .value = has-value _ (w .read) ∙ sym (f .value) in
       let n : b .place ≡ length s = eqb-true (b .place) (length s) (f .passed) in
       ap (λ w. conditionAt w levels s 5) (sym v) ∙ ap (conditionAt (a .value) levels s) (sym p) ∙ b .first ∙ ap (λ y. got y (b .place)) (sym x) ∙ ap (got (recordIn s)) n

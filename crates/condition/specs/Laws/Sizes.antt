@@ -10,10 +10,10 @@ use lib.Dec.{eqb, leb}
 use lib.ListN.{length, length-append}
 use Rattle.names.specs.Lists.{gather, select}
 use Rattle.names.specs.Laws.Lists.{gather-append}
-use Rattle.names.specs.Fields.{got, Reader, _>>=_, _<$>_, pure, refuse, holds, u8, u32, bytes, stringOf, many, counted, choose, each, levels}
+use Rattle.names.specs.Fields.{got, Reader, _>>=_, _<$>_, pure, refuse, holds, u8, u32, u64, bytes, stringOf, many, counted, choose, each, levels}
 use Rattle.names.specs.Paths.{pathOf}
 use Rattle.names.specs.Laws.Readers.{split, u8-view, bytes-view, got-value, got-place}
-use Rattle.condition.specs.Condition.{Condition, Term, Aggregate, Binder, Slot, Annotation, named, paramRef, binderRef, Span, Operator, One, Two, one, two, predicate, comparison, exists, tp, opaque, aggregate, call, span, slotKinds, slot, annotation, binder, operators, operator, timepointOf, arguments, argumentList, elements, elementList, unary, binary, predicateOf, comparisonOf, existsOf, conditionKinds, sumOf, countOf, aggregateKinds, aggregateOf, arithOf, termKinds, tooDeep, conditionAt, termAt}
+use Rattle.condition.specs.Condition.{Condition, Term, Aggregate, Binder, Slot, Annotation, named, paramRef, binderRef, Span, Operator, Window, One, Two, one, two, predicate, comparison, exists, tp, opaque, aggregate, call, span, slotKinds, slot, annotation, binder, operators, operator, units, fits, seconds, amountOf, secondsOf, windowKinds, window, timepointOf, arguments, argumentList, elements, elementList, unary, binary, predicateOf, comparisonOf, existsOf, conditionKinds, sumOf, countOf, aggregateKinds, aggregateOf, arithOf, termKinds, tooDeep, conditionAt, termAt}
 use Rattle.condition.specs.Condition as tree
 use Rattle.condition.specs.Walk.{declaredBy, operandAggregates, operandBinders, reached, reachedIn, reachedBody, declares, binders, hasName, namedOnes}
 use Rattle.condition.specs.Places.{isRecord, recordIn, versionIn}
@@ -146,9 +146,13 @@ four-u32 : Takes 4 u32
 unfolding u32
 four-u32 = on (whole-bytes 4) λ w. stay _ (omega arith)
 
-test : {k : ℕ} (r : ℕ) (b : Bool) (w : List ℕ) → 1 ≤ k → Owes k (λ _. 1) (holds r b w)
-test r true w h = stay w h
-test r false w h = never r
+eight-u64 : Takes 8 u64
+unfolding u64
+eight-u64 = on (whole-bytes 8) λ w. stay _ (omega arith)
+
+test : {A : Type 0} {k : ℕ} {size : A → ℕ} (r : ℕ) (b : Bool) (a : A) → size a ≤ k → Owes k size (holds r b a)
+test r true a h = stay a h
+test r false a h = never r
 
 -- a string takes its length byte at least
 one-string : (class : List ℕ → Bool) → Takes 1 (stringOf class)
@@ -218,6 +222,29 @@ forward-operator : Forward operator
 unfolding operator operators AllOwe
 forward-operator = on forward-u8 λ k. chosen k operators (stay _ (omega arith), (stay _ (omega arith), (stay _ (omega arith), (stay _ (omega arith), (stay _ (omega arith), (stay _ (omega arith), tt))))))
 
+forward-amount : (unit : ℕ) → Forward (amountOf unit)
+unfolding amountOf
+forward-amount unit = on eight-u64 λ n. test 13 (fits unit n) (seconds (n * unit)) (omega arith)
+
+forward-unit : (k : ℕ) → Forward (choose k units)
+unfolding units AllOwe
+forward-unit k = chosen k units (stay _ (omega arith) also stay _ (omega arith) also stay _ (omega arith) also stay _ (omega arith) also tt)
+
+forward-seconds : Forward secondsOf
+unfolding secondsOf
+forward-seconds = on forward-u8 λ k. on (forward-unit k) λ unit. forward-amount unit
+
+pub forward-window : (v : ℕ) → Forward (window v)
+unfolding window windowKinds AllOwe
+forward-window v = either-way (leb v 1) (stay _ (omega arith)) (on forward-u8 λ k. chosen k windowKinds (forward-seconds also stay _ (omega arith) also tt))
+
+-- a kind that stands behind a span: none of its bytes, or a window
+forward-kind : {A : Type 0} (a : A) → Forward (pure a)
+forward-kind a = stay a (omega arith)
+
+forward-windowed : {A : Type 0} (make : Window → A) (v : ℕ) → Forward (make <$> window v)
+forward-windowed make v = made make (forward-window v) (λ _. omega arith)
+
 -- a condition with none in it, and an operand with no aggregate in it
 light : (c : Condition) → reached c ≡ c ∷ [] → declares c ≡ [] → weight c ≡ 9
 unfolding weight bindersWeight nodesWeight namedOnes select gather
@@ -245,13 +272,13 @@ module _ (v : ℕ) (f : Reader Condition) (t : Bool → Reader Term) (p : Owes 0
   forward-element-list = on forward-u8 λ n. forward-elements n
 
   -- each kind of condition behind its kind byte
-  unary-owes : (k : One) → Owes 1 weight (unary v f t k)
+  unary-owes : {kind : Reader One} → Forward kind → Owes 1 weight (unary v f t kind)
   unfolding unary
-  unary-owes k = on eight-span λ at. on p λ c. stay _ (omega (arith, one-weight k at c))
+  unary-owes h = on eight-span λ at. on h λ k. on p λ c. stay _ (omega (arith, one-weight k at c))
 
-  binary-owes : (k : Two) → Owes 1 weight (binary v f t k)
+  binary-owes : {kind : Reader Two} → Forward kind → Owes 1 weight (binary v f t kind)
   unfolding binary
-  binary-owes k = on eight-span λ at. on p λ l. on p λ r. stay _ (omega (arith, two-weight k at l r))
+  binary-owes h = on eight-span λ at. on h λ k. on p λ l. on p λ r. stay _ (omega (arith, two-weight k at l r))
 
   predicate-owes : Owes 1 weight (predicateOf v f t)
   unfolding predicateOf reached declares
@@ -277,19 +304,19 @@ module _ (v : ℕ) (f : Reader Condition) (t : Bool → Reader Term) (p : Owes 0
   unfolding conditionKinds AllOwe
   conditions-owe k =
       chosen k (conditionKinds v f t)
-      (binary-owes _
-      also binary-owes _
-      also unary-owes _
-      also unary-owes _
-      also unary-owes _
-      also binary-owes _
+      (binary-owes (forward-kind _)
+      also binary-owes (forward-kind _)
+      also unary-owes (forward-kind _)
+      also unary-owes (forward-windowed _ v)
+      also unary-owes (forward-windowed _ v)
+      also binary-owes (forward-windowed _ v)
       also predicate-owes
       also comparison-owes
       also exists-owes
       also timepoint-owes
       also opaque-owes
       also opaque-owes
-      also unary-owes _
+      also unary-owes (forward-kind _)
       also tt)
 
   sum-owes : Owes 0 aggregateWeight (sumOf v f t)

@@ -53,6 +53,7 @@ use Rattle.condition.proofs.read.read_operator.Reads as read-operator-r
 use Rattle.condition.proofs.read.read_slot.Reads as read-slot-reads
 use Rattle.condition.proofs.read.read_span.Reads as read-span-reads
 use Rattle.condition.proofs.read.read_timepoint.Reads as read-timepoint-reads
+use Rattle.condition.proofs.window.read_window.Reads as read-window-reads
 use Rattle.names.proofs.read_path.Reads as read-path-reads
 use Rattle.names.proofs.read_string.Reads as read-string-reads
 use Rattle.names.proofs.read_strings.Reads as read-strings-reads
@@ -74,7 +75,7 @@ abbrev μ-read-arith : Measures 1 read-arith-kinds.ps ℕ
 μ-read-arith κs a = a .1 .1 .1 .0 + a .1 .1 .1 .0 + a .1 .1 .1 .0 + 1
 
 abbrev μ-read-binary : Measures 1 read-binary-kinds.ps ℕ
-μ-read-binary κs a = a .1 .1 .1 .0 + a .1 .1 .1 .0 + a .1 .1 .1 .0 + 1
+μ-read-binary κs a = a .1 .1 .1 .1 .0 + a .1 .1 .1 .1 .0 + a .1 .1 .1 .1 .0 + 1
 
 abbrev μ-read-comparison : Measures 1 read-comparison-kinds.ps ℕ
 μ-read-comparison κs a = a .1 .1 .1 .0 + a .1 .1 .1 .0 + a .1 .1 .1 .0 + 1
@@ -101,7 +102,7 @@ abbrev μ-read-term : Measures 1 read-term-kinds.ps ℕ
 μ-read-term κs a = a .1 .1 .1 .0 + a .1 .1 .1 .0 + a .1 .1 .1 .0
 
 abbrev μ-read-unary : Measures 1 read-unary-kinds.ps ℕ
-μ-read-unary κs a = a .1 .1 .1 .0 + a .1 .1 .1 .0 + a .1 .1 .1 .0 + 1
+μ-read-unary κs a = a .1 .1 .1 .1 .0 + a .1 .1 .1 .1 .0 + a .1 .1 .1 .1 .0 + 1
 
 -- What a member is given at the measure t, and what a call of it asks below t.
 abbrev read-aggregate-at : ℕ → In 1 read-aggregate-kinds.ps
@@ -253,11 +254,15 @@ read-arith-met t =
 
 -- read-binary
 abbrev read-binary-given : ℕ → read-binary-lts.Claims
-read-binary-given t = (read-span-reads.Asked, read-span-reads.Learnt, read-subcondition-below t, read-subcondition.Post)
+read-binary-given t = (read-span-reads.Asked, read-span-reads.Learnt, read-window-reads.Asked, read-window-reads.Learnt, read-subcondition-below t, read-subcondition.Post)
 
 read-binary-met : {M : Type 1} (t : ℕ) → read-binary-lts.Closed (read-binary-given t) (read-binary-at t) read-binary.Post M
 read-binary-met t =
     read-binary-lts.spec (read-binary-given t) (read-binary-at t) read-binary.Post
+    (λ c κs. search binaries)
+    (λ c. search binaries)
+    (λ c. search binaries)
+    (λ c. search binaries)
     (λ c κs. search binaries)
     (λ c. search binaries)
     (λ c. search binaries)
@@ -405,6 +410,10 @@ read-subcondition-met t =
     (λ c κs. search conditions)
     (λ c. search conditions)
     (λ c. search conditions)
+    (λ c. search conditions)
+    (λ c κs. search conditions)
+    (λ c. search conditions)
+    (λ c. search conditions)
     (λ c κs. search conditions)
     (λ c. search conditions)
     (λ c. search conditions)
@@ -492,11 +501,15 @@ read-term-met t =
 
 -- read-unary
 abbrev read-unary-given : ℕ → read-unary-lts.Claims
-read-unary-given t = (read-span-reads.Asked, read-span-reads.Learnt, read-subcondition-below t, read-subcondition.Post)
+read-unary-given t = (read-span-reads.Asked, read-span-reads.Learnt, read-window-reads.Asked, read-window-reads.Learnt, read-subcondition-below t, read-subcondition.Post)
 
 read-unary-met : {M : Type 1} (t : ℕ) → read-unary-lts.Closed (read-unary-given t) (read-unary-at t) read-unary.Post M
 read-unary-met t =
     read-unary-lts.spec (read-unary-given t) (read-unary-at t) read-unary.Post
+    (λ c κs. search unaries)
+    (λ c. search unaries)
+    (λ c. search unaries)
+    (λ c. search unaries)
     (λ c κs. search unaries)
     (λ c. search unaries)
     (λ c. search unaries)
