@@ -8,7 +8,7 @@ use lib.ListN.{take, drop}
 use Rattle.names.specs.Fields.{got, Reader, choose, levels, number, whole}
 use Rattle.names.specs.Paths.{pathOf}
 use Rattle.names.specs.Read.{accepted, valueOr}
-use Rattle.condition.specs.Condition.{Span, Condition, Term, Terms, Arguments, Aggregate, Slot, Annotation, Binder, opaque, wildcard, noArgument, nil, call, paramRef, timepoint, conditionAt, termAt, arguments, elements, aggregateOf, slot, annotation, binder, units, conditionRecord}
+use Rattle.condition.specs.Condition.{Span, Condition, Term, Terms, Arguments, Aggregate, Slot, Annotation, Binder, opaque, wildcard, noArgument, nil, call, paramRef, timepoint, conditionAt, termAt, arguments, elements, aggregateOf, unsaid, Window, slot, annotation, binder, units, window, conditionRecord}
 
 abbrev pub nowhere : Span
 nowhere = record { start = 0; end = 0 }
@@ -99,6 +99,13 @@ isBinder s at = accepted (binder s at)
 
 unfoldable pub binderIn : List ℕ → ℕ → Binder
 binderIn s at = valueOr (record { slot = paramRef; annotation = timepoint }) (binder s at)
+
+-- a window
+abbrev pub isWindow : List ℕ → ℕ → Bool
+isWindow s at = accepted (window (versionIn s) s at)
+
+unfoldable pub windowIn : List ℕ → ℕ → Window
+windowIn s at = valueOr unsaid (window (versionIn s) s at)
 
 -- the seconds of the unit that a choice byte stands for
 pub record UnitOf (k seconds : ℕ) : Type 0 where

@@ -1,19 +1,19 @@
 -- The kinds of conditions, terms, aggregates and operators by document 01's numbers. Of kinds that the tree does not tell apart, the least.
 use Prim.Native.Nat.{ℕ}
-use mathlib.Core.Bool.{Bool, _||_}
-use lib.Dec.{eqb}
-use Rattle.condition.specs.Condition.{Span, Condition, Term, Aggregate, Literal, Operator, One, negation, formerly, previous, refine, Two, and, or, since, integer, decimal, string, bool, le, lt, ge, gt, eq, notEq, one, two, predicate, comparison, exists, tp, opaque, entity, literal, contextField, scopeField, var, wildcard, array, aggregate, arith, sigil, sum, count, call}
+use mathlib.Core.Bool.{Bool, _||_, _&&_}
+use lib.Dec.{eqb, leb}
+use Rattle.condition.specs.Condition.{Span, Condition, Term, Aggregate, Literal, Operator, Window, unsaid, One, negation, formerly, previous, refine, Two, and, or, since, integer, decimal, string, bool, le, lt, ge, gt, eq, notEq, one, two, predicate, comparison, exists, tp, opaque, entity, literal, contextField, scopeField, var, wildcard, array, aggregate, arith, sigil, sum, count, call}
 
 abbrev pub oneNumber : One → ℕ
 oneNumber negation = 3
-oneNumber formerly = 4
-oneNumber previous = 5
+oneNumber (formerly w) = 4
+oneNumber (previous w) = 5
 oneNumber refine = 13
 
 abbrev pub twoNumber : Two → ℕ
 twoNumber and = 1
 twoNumber or = 2
-twoNumber since = 6
+twoNumber (since w) = 6
 
 -- 11 Call and SigilRef (12); the others each their own
 abbrev pub kindOf : Condition → ℕ
@@ -33,6 +33,27 @@ spanOf (comparison span op l r) = span
 spanOf (exists span b c) = span
 spanOf (tp span s) = span
 spanOf (opaque span) = span
+
+-- the window of a Formerly, a Previous, a Since; of another condition none
+abbrev pub oneWindow : One → Window
+oneWindow negation = unsaid
+oneWindow (formerly w) = w
+oneWindow (previous w) = w
+oneWindow refine = unsaid
+
+abbrev pub twoWindow : Two → Window
+twoWindow and = unsaid
+twoWindow or = unsaid
+twoWindow (since w) = w
+
+abbrev pub windowOf : Condition → Window
+windowOf (one k span c) = oneWindow k
+windowOf (two k span l r) = twoWindow k
+windowOf (predicate span own ns act args) = unsaid
+windowOf (comparison span op l r) = unsaid
+windowOf (exists span b c) = unsaid
+windowOf (tp span s) = unsaid
+windowOf (opaque span) = unsaid
 
 -- a predicate's own span; of another condition, its span
 abbrev pub ownSpanOf : Condition → Span
@@ -88,3 +109,7 @@ oneKind k = eqb k 3 || eqb k 4 || eqb k 5 || eqb k 13
 
 abbrev pub twoKind : ℕ → Bool
 twoKind k = eqb k 1 || eqb k 2 || eqb k 6
+
+-- the kinds with a window: Formerly, Previous, Since
+abbrev pub windowKind : ℕ → Bool
+windowKind k = leb 4 k && leb k 6

@@ -18,16 +18,18 @@ use Rattle.nodes.specs.declared.ArgumentAt.{ArgumentAt}
 use Rattle.nodes.specs.declared.Several.{Several}
 use Rattle.nodes.specs.declared.SlotAt.{SlotAt}
 use Rattle.nodes.specs.declared.SlotAt.the-variants.{Named, ParamRef, BinderRef}
+use Rattle.nodes.specs.declared.WindowAt.{WindowAt}
+use Rattle.nodes.specs.declared.WindowAt.the-variants.{Unsaid, Parameter, Seconds}
 use Rattle.nodes.specs.declared.Bound.{Bound}
 use Rattle.nodes.specs.declared.Bound.the-variants.{Segments, Timepoint, Nothing}
 use Rattle.nodes.specs.declared.NextAggregate.{NextAggregate}
 use Rattle.nodes.specs.declared.NextAggregate.the-variants.{At, Done}
 use Rattle.nodes.specs.declared.NextLeaf.{NextLeaf}
 use Rattle.nodes.specs.declared.NextLeaf.the-variants as NextLeaf
-use Rattle.condition.specs.Condition.{Span, Slot, named, paramRef, binderRef, Annotation, timepoint, path, Binder, Operator, Condition, Term, Aggregate, predicate, comparison, tp, argument, entity, literal, contextField, scopeField, var, wildcard, array, aggregate, arith, sigil, cons, sum, binder}
+use Rattle.condition.specs.Condition.{Span, Window, unsaid, seconds, parameter, Slot, named, paramRef, binderRef, Annotation, timepoint, path, Binder, Operator, Condition, Term, Aggregate, predicate, comparison, tp, argument, entity, literal, contextField, scopeField, var, wildcard, array, aggregate, arith, sigil, cons, sum, binder}
 use Rattle.condition.specs.Walk.{reached, reachedBody, operandAggregates, declaredBy}
 use Rattle.condition.specs.Places.{conditionHere, termHere, isCondition, conditionIn, isTerm, termIn, aggregateAt, isAggregate, aggregateIn, isArguments, argumentsIn, isElements, elementsIn, isPath, pathIn, isSlot, slotIn}
-use Rattle.nodes.specs.Kinds.{spanOf, ownSpanOf, termKindOf, aggregateSpanOf, operatorNumber}
+use Rattle.nodes.specs.Kinds.{spanOf, windowOf, ownSpanOf, termKindOf, aggregateSpanOf, operatorNumber}
 
 -- the two numbers of a span that starts there
 pub record EndsHere (s : List ℕ) (at : ℕ) (r : Ends) : Type 0 where
@@ -38,6 +40,15 @@ pub record EndsHere (s : List ℕ) (at : ℕ) (r : Ends) : Type 0 where
 pub record Spans (span : Span) (r : Ends) : Type 0 where
   pub start : r .start ≡ span .start
   pub end : r .end ≡ span .end
+
+-- the window that an answer says, and that it is the window of the condition there
+abbrev pub windowFrom : WindowAt → Window
+windowFrom Unsaid = unsaid
+windowFrom Parameter = parameter
+windowFrom (Seconds n) = seconds n
+
+pub record WindowHere (s : List ℕ) (at : ℕ) (r : WindowAt) : Type 0 where
+  pub value : windowOf (conditionIn s at) ≡ windowFrom r
 
 pub record ComparisonHere (s : List ℕ) (at : ℕ) (p : ComparisonAt) : Type 0 where
   pub op : Operator

@@ -8,12 +8,14 @@
 // |---|---|
 // | offsets | where the first part of a node stands |
 // | parts | kinds, spans and parts of conditions, terms, aggregates, slots, paths and annotations |
+// | windows | `window_at`: the window of a Formerly, a Previous, a Since; and how many bytes it takes |
 // | aggregates | `next_aggregate(s, count, first)`: `NextIs` of `aggregatesIn s count first` |
 // | leaves | `next_leaf(s, count, first)`: `NextLeafIs` of `leavesIn s count first` |
 mod aggregates;
 mod leaves;
 mod offsets;
 mod parts;
+mod windows;
 
 pub use aggregates::next_aggregate;
 pub use aggregates::operands_at;
@@ -48,6 +50,7 @@ pub use parts::segments_at;
 pub use parts::slot_at;
 pub use parts::span_at;
 pub use parts::term_kind_at;
+pub use windows::window_at;
 
 // Where a condition record's own condition stands, behind the mark and the version.
 pub const ROOT: usize = 5;
@@ -98,6 +101,13 @@ pub enum SlotAt {
     Named(usize),
     ParamRef,
     BinderRef,
+}
+
+// The window of a condition: none is said, or a macro's parameter, or so many seconds.
+pub enum WindowAt {
+    Unsaid,
+    Parameter,
+    Seconds(u64),
 }
 
 // The annotation of the last binder of a name: where its segments stand, a timepoint, or there is no such binder.

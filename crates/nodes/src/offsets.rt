@@ -1,4 +1,5 @@
 // Where the first part of a node stands. What stands there, by the kind of the node, is said by the laws of `specs/Laws/Inside`.
+use crate::windows::window_length;
 ghost use mathlib.Core.Path.{_≡_};
 ghost use mathlib.Core.Bool.{true};
 ghost use Prim.Native.Nat.{_+_, _≤_, _<_};
@@ -11,10 +12,18 @@ pub fn first_part(s: &[u8], at: usize) -> usize
     ensures { λ p. ⌜ p ≡ firstPart (now (s .entry)) at ⌝ }
     ensures { λ p. ⌜ at + 9 ≤ p ⌝ }
 {
-    if s[at] == 8 {
-        return at + 10;
+    let kind = s[at];
+    let next = at + 9;
+    if kind == 8 {
+        return next + 1;
     }
-    at + 9
+    if kind < 4 {
+        return next;
+    }
+    if 6 < kind {
+        return next;
+    }
+    next + window_length(s, next)
 }
 
 // In a term: a name, a path, the count of an array's elements, an aggregate, an arithmetic's left operand.

@@ -29,7 +29,8 @@ use Rattle.nodes.specs.Looked.{KindHere, TermKindHere, AggregateKindHere, Aggre
 use Rattle.nodes.specs.Parts.{ComparisonHere, PredicateHere, ArgumentHere, isTerms, leavesIn, LeafNext, NextLeafIs}
 use Rattle.nodes.specs.Laws.Leaves.{leaves-gather, one-term, one-leaves, leaf-next, leaf-stands, leaf-plain, fewer-leaves}
 use Rattle.walk.specs.Index.{nodesOf, Index, Reached}
-use Rattle.nodes.specs.Laws.Views.{by-kind, no-value, array-view}
+use Rattle.nodes.specs.Laws.Choices.{by-kind, no-value}
+use Rattle.nodes.specs.Laws.Views.{array-view}
 use Rattle.nodes.specs.Laws.Opens.{term-stands, raw-term}
 use Rattle.nodes.specs.Laws.Pieces.{arguments-over}
 use Rattle.reports.specs.Reports.{Breach}

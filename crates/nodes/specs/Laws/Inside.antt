@@ -1,11 +1,12 @@
 -- What stands where the first part of a node does, by the kind of the node. Assumes nothing.
 use mathlib.Core.Path.{_≡_, refl, sym, ap, ap₂, _∙_}
-use mathlib.Core.Bool.{true, false≢true}
+use mathlib.Core.Bool.{true, false, false≢true}
 use mathlib.Core.List.{List, [], _∷_, _++_}
-use Prim.Native.Nat.{ℕ, _+_}
+use Prim.Native.Nat.{ℕ, _+_, _≤_, _<_}
 use native.Mathlib.Omega.{arith}
 use borrow.Author.Needs.{needs}
-use borrow.Author.Tests.{eq-eqb, ne-eqb}
+use borrow.Author.Tests.{ne-eqb, le-leb, lt-leb}
+use lib.Dec.{eqb}
 use lib.ListN.{getD}
 use Rattle.names.specs.declared.Read.the-variants.{Next}
 use Rattle.names.specs.Fields.{Got, got}
@@ -15,8 +16,8 @@ use Rattle.condition.specs.Condition.{Condition, aggregate}
 use Rattle.condition.specs.Condition as tree
 use Rattle.condition.specs.Walk.{reached, reachedIn, declares}
 use Rattle.condition.specs.Places.{versionIn, isCondition, conditionIn, isTerm, termIn, isAggregate, aggregateIn, binderIn}
-use Rattle.nodes.specs.Kinds.{kindOf, oneKind, twoKind, termKindOf}
-use Rattle.nodes.specs.Offsets.{firstPart, termPart, aggregatePart}
+use Rattle.nodes.specs.Kinds.{kindOf, oneKind, twoKind, windowKind, termKindOf}
+use Rattle.nodes.specs.Offsets.{windowLength, behindSpan, firstPart, termPart, aggregatePart}
 use Rattle.nodes.specs.Looked.{TermKindHere, OneHere, TwoHere, ComparedHere, QuantifiedHere, AddedHere, AggregateHere}
 use Rattle.nodes.specs.Laws.Views.{aggregate-view}
 use Rattle.nodes.specs.Laws.Opens.{condition-value, term-value, condition-stands, condition-index, raw-kind, two-here, one-here, comparison-here, exists-here, term-stands, raw-term, arith-here}
@@ -31,27 +32,42 @@ unfolding ending
 ended e = rw e
 
 module _ (s : List ℕ) (at : ℕ) where
-  pub part-compared : getD s at 0 ≡ 8 → at + 10 ≡ firstPart s at
-  unfolding firstPart
-  part-compared e = rw (eq-eqb _ 8 e)
+  pub part-compared : getD s at 0 ≡ 8 → at + 9 + 1 ≡ firstPart s at
+  unfolding firstPart behindSpan
+  part-compared e = rw e
 
-  pub part-other : (getD s at 0 ≡ 8 → ⊥) → at + 9 ≡ firstPart s at
-  unfolding firstPart
-  part-other h = rw (ne-eqb _ 8 h)
+  module _ (other : getD s at 0 ≡ 8 → ⊥) where
+    pub part-low : getD s at 0 < 4 → at + 9 ≡ firstPart s at
+    unfolding firstPart behindSpan
+    part-low h = rw (ne-eqb _ 8 other, lt-leb 4 (getD s at 0) h) (omega arith)
+
+    module _ (l : 4 ≤ getD s at 0) where
+      pub part-high : 6 < getD s at 0 → at + 9 ≡ firstPart s at
+      unfolding firstPart behindSpan
+      part-high h = rw (ne-eqb _ 8 other, le-leb 4 (getD s at 0) l, lt-leb (getD s at 0) 6 h) (omega arith)
+
+      pub part-windowed : getD s at 0 ≤ 6 → (r : ℕ) → r ≡ windowLength (versionIn s) s (at + 9) → at + 9 + r ≡ firstPart s at
+      unfolding firstPart behindSpan
+      part-windowed h r e = rw (ne-eqb _ 8 other, le-leb 4 (getD s at 0) l, le-leb (getD s at 0) 6 h, e)
 
   module _ (acc : isCondition s at ≡ true) where
     pub place-compared : (p : ℕ) → p ≡ firstPart s at → kindOf (conditionIn s at) ≡ 8 → p ≡ at + 10
-    place-compared p e is = e ∙ sym (part-compared (raw-kind s at acc 8 (λ q. omega arith) is))
+    place-compared p e is = let i = part-compared (raw-kind s at acc 8 (λ q. omega arith) is) in omega arith
 
     module _ (p : ℕ) (e : p ≡ firstPart s at) (k : ℕ) (o : k ≡ kindOf (conditionIn s at)) where
-      pub place-other : (k ≡ 8 → ⊥) → (k ≡ 11 → ⊥) → p ≡ at + 9
-      place-other h i = e ∙ sym (part-other (λ q. h (sym (raw-kind s at acc k i (sym o)) ∙ q)))
+      place-kind : (k ≡ 11 → ⊥) → p ≡ at + 9 + behindSpan (versionIn s) k s at
+      unfolding firstPart
+      place-kind i = e ∙ ap (λ j. at + 9 + behindSpan (versionIn s) j s at) (raw-kind s at acc k i (sym o))
+
+      pub place-other : eqb k 8 ≡ false → windowKind k ≡ false → (k ≡ 11 → ⊥) → p ≡ at + 9
+      unfolding behindSpan
+      place-other h w i = place-kind i ∙ rw (h, w) (omega arith)
 
       pub two-inside : twoKind k ≡ true → TwoHere s at p
       unfolding reached
       two-inside h =
           let v = two-here s at acc k o h in
-          let i = place-other (λ q. false≢true (rw q at h)) (λ q. false≢true (rw q at h)) in
+          let i = place-kind (λ q. false≢true (rw q at h)) in
           rw i (record {
             second = v .middle;
             stands = is-accepted (v .reads);
@@ -66,7 +82,7 @@ module _ (s : List ℕ) (at : ℕ) where
       unfolding reached
       one-inside h =
           let v = one-here s at acc k o h in
-          let i = place-other (λ q. false≢true (rw q at h)) (λ q. false≢true (rw q at h)) in
+          let i = place-kind (λ q. false≢true (rw q at h)) in
           rw i (record {
             stands = is-accepted (v .reads);
             ahead = omega arith;
@@ -93,7 +109,7 @@ module _ (s : List ℕ) (at : ℕ) where
       unfolding reached binderIn declares
       quantified-inside h =
           let v = exists-here s at acc (sym o ∙ h) in
-          let i = place-other (λ q. omega arith) (λ q. omega arith) in
+          let i = place-other (ap (λ j. eqb j 8) h) (ap windowKind h) (λ q. omega arith) in
           rw i (record {
             body = v .middle;
             stands = is-accepted (v .declares);
@@ -146,4 +162,4 @@ pub aggregate-part-is : (s : List ℕ) (at : ℕ) → at + 9 ≡ aggregatePart s
 unfolding aggregatePart
 aggregate-part-is s at = refl
 
-pub ruleset inside-room = (needs, condition-index, part-compared, part-other, term-part-is, aggregate-part-is)
+pub ruleset inside-room = (needs, condition-index, part-compared, part-low, part-high, part-windowed, term-part-is, aggregate-part-is)

@@ -150,15 +150,15 @@ module _ (s : List ℕ) (at : ℕ) (acc : isCondition s at ≡ true) where
   raw-kind k h e = raw (getD s at 0) k 12 11 (condition-head .kind ∙ e) h
 
   module _ (k : ℕ) (o : k ≡ kindOf (conditionIn s at)) where
-    pub two-here : twoKind k ≡ true → TwoView (versionIn s) s at (conditionIn s at) (condition-stands .end)
+    pub two-here : twoKind k ≡ true → TwoView (versionIn s) k s at (conditionIn s at) (condition-stands .end)
     two-here h =
         let i = raw-kind k (λ e. false≢true (rw e at h)) (sym o) in
-        two-view (versionIn s) s at (condition-stands .read) (rw i h)
+        rw (← i) (two-view (versionIn s) s at (condition-stands .read) (rw i h))
 
-    pub one-here : oneKind k ≡ true → OneView (versionIn s) s at (conditionIn s at) (condition-stands .end)
+    pub one-here : oneKind k ≡ true → OneView (versionIn s) k s at (conditionIn s at) (condition-stands .end)
     one-here h =
         let i = raw-kind k (λ e. false≢true (rw e at h)) (sym o) in
-        one-view (versionIn s) s at (condition-stands .read) (rw i h)
+        rw (← i) (one-view (versionIn s) s at (condition-stands .read) (rw i h))
 
   pub comparison-here : kindOf (conditionIn s at) ≡ 8 → ComparisonView (versionIn s) s at (conditionIn s at) (condition-stands .end)
   comparison-here e = comparison-view (versionIn s) s at (condition-stands .read) (raw-kind 8 (λ i. omega arith) e)

@@ -29,7 +29,8 @@ use Rattle.nodes.specs.Looked.{placeOf, Skipped, KindHere, TermKindHere,
 use Rattle.nodes.specs.Parts.{EndsHere, Spans, ComparisonHere, ArithHere, PredicateHere, ArgumentHere, TimepointHere, ElementsHere, ElementHere, PathHere, SummandHere, bindersIn, BindersHere, slotOf, segmentsIn, SegmentsHere, SlotHere}
 use Rattle.condition.specs.Laws.Sizes.{forward-counted, forward-string, forward-path, one-term}
 use Rattle.condition.specs.Laws.Levels.{term-anywhere}
-use Rattle.nodes.specs.Laws.Views.{by-kind, head-view, span-view, operator-view, PredicateView, predicate-view, timepoint-view, aggregate-head-view, PartView, entity-view, context-view, scope-view, var-view, array-view}
+use Rattle.nodes.specs.Laws.Choices.{by-kind}
+use Rattle.nodes.specs.Laws.Views.{head-view, span-view, operator-view, PredicateView, predicate-view, timepoint-view, aggregate-head-view, PartView, entity-view, context-view, scope-view, var-view, array-view}
 use Rattle.nodes.specs.Laws.Opens.{term-there, term-value, Stands, skipped, stood, ends-at, condition-stands, condition-room, raw-kind, comparison-here, term-stands, term-index, raw-term, aggregate-stands, aggregate-kind-here, sum-here, count-here, counts}
 
 -- The place behind path names and behind a path.
@@ -79,7 +80,7 @@ module _ (s : List ℕ) (at : ℕ) (acc : isCondition s at ≡ true) where
   unfolding slotIn
   timepoint-inside is p e =
       let v = timepoint-view (versionIn s) s at (condition-stands s at acc .read) (raw-kind s at acc 10 (λ i. omega arith) is) in
-      let i = place-other s at acc p e 10 (sym is) (λ q. omega arith) (λ q. omega arith) in
+      let i = place-other s at acc p e 10 (sym is) refl refl (λ q. omega arith) in
       rw i (record { stands = is-accepted (v .reads); value = timepoint-value (v .whole) (has-value _ (v .reads)) })
 
 pub aggregate-span-room : (s : List ℕ) (at : ℕ) → isAggregate s at ≡ true → at + 1 + 8 ≤ length s

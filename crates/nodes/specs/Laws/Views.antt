@@ -5,25 +5,19 @@ use mathlib.Core.Bool.{Bool, true, false, cond, false≢true}
 use mathlib.Core.List.{List}
 use Prim.Native.Nat.{ℕ, _+_, _-_, _≤_, _<_}
 use native.Mathlib.Omega.{arith}
-use borrow.Author.Tests.{leb-true, leb-false}
-use lib.Dec.{eqb, leb}
+use lib.Dec.{eqb}
 use lib.ListN.{length, getD, take, drop}
-use Rattle.names.specs.Fields.{Got, got, bad, Reader, next, u8, u32, number, bytes, choose, levels, stringOf, each, counted}
+use Rattle.names.specs.Fields.{Got, got, Reader, _<$>_, pure, next, u8, u32, number, bytes, choose, levels, stringOf, each, counted}
 use Rattle.names.specs.Names.{plain, pathName}
 use Rattle.names.specs.Paths.{pathOf}
-use Rattle.names.specs.Laws.Readers.{split, u8-view, bytes-view, got-value, got-place, Each, each-below, choose-beyond, keysUpTo, _&_}
-use Rattle.condition.specs.Condition.{Span, Slot, Condition, Term, Arguments, Aggregate, Operator, Binder, One, Two, one, two, predicate, comparison, exists, tp, opaque, negation, formerly, previous, refine, and, or, since, le, lt, ge, gt, eq, notEq, integer, decimal, string, bool, entity, literal, contextField, scopeField, var, wildcard, array, aggregate, sigil, sum, count, call, span, slot, operators, operator, binder, timepointOf, argumentList, elementList, unary, binary, predicateOf, comparisonOf, existsOf, conditionKinds, sumOf, countOf, aggregateKinds, aggregateOf, arithOf, termKinds, conditionAt, termAt}
+use Rattle.names.specs.Laws.Readers.{split, u8-view, bytes-view, got-value, got-place, Each, keysUpTo, _&_}
+use Rattle.condition.specs.Condition.{Span, Slot, Condition, Term, Arguments, Aggregate, Operator, Binder, Window, One, Two, one, two, predicate, comparison, exists, tp, opaque, negation, formerly, previous, refine, and, or, since, le, lt, ge, gt, eq, notEq, integer, decimal, string, bool, entity, literal, contextField, scopeField, var, wildcard, array, aggregate, sigil, sum, count, call, span, slot, operators, operator, binder, window, timepointOf, argumentList, elementList, unary, binary, predicateOf, comparisonOf, existsOf, conditionKinds, sumOf, countOf, aggregateKinds, aggregateOf, arithOf, termKinds, conditionAt, termAt}
 use Rattle.condition.specs.Condition as tree
-use Rattle.nodes.specs.Kinds.{kindOf, spanOf, termKindOf, aggregateKindOf, aggregateSpanOf, operatorNumber, oneNumber, twoNumber, twoKind, oneKind}
+use Rattle.nodes.specs.Kinds.{kindOf, spanOf, termKindOf, aggregateKindOf, aggregateSpanOf, operatorNumber, oneNumber, twoNumber, oneWindow, twoWindow, twoKind, oneKind, windowKind}
+use Rattle.nodes.specs.Offsets.{windowLength, behindSpan}
+use Rattle.nodes.specs.Laws.Choices.{by-kind, no-value}
+use Rattle.nodes.specs.Laws.Windows.{window-place}
 use Rattle.condition.specs.Laws.Levels.{condition-wider, term-wider}
-
--- what is known of a table's choice, by what each of its keys says
-pub by-kind : {A : Type 0} (s : List ℕ) (at bound : ℕ) (table : List (ℕ × Reader A)) {a : A} {n : ℕ} → keysUpTo bound table ≡ true → (P : ℕ → Type 0) → Each (λ k. choose k table s at ≡ got a n → P k) (bound + 1) → (k : ℕ) → choose k table s at ≡ got a n → P k
-by-kind s at bound table {a} {n} keys P all k e = go (leb k bound) refl
-  where
-    go : (b : Bool) → leb k bound ≡ b → P k
-    go true h = let l = leb-true k bound h in each-below (λ k. choose k table s at ≡ got a n → P k) (bound + 1) all k (omega arith) e
-    go false h = let i = choose-beyond s at bound k (leb-false k bound h) table keys in let z : _≡_ {A = ℕ} 0 1 = cc in absurd (omega arith)
 
 -- a 32-bit number, and the two of a span
 record WordView (s : List ℕ) (at v n : ℕ) : Type 0 where
@@ -74,23 +68,31 @@ module _ {A : Type 0} (s : List ℕ) (at : ℕ) {x : A} {n : ℕ} (f : Span → 
       let i : a .place ≡ at + 9 = omega arith in
       record { own = a .value; spans = a .first ∙ ap (got (a .value)) i; rest = rw (← i) (a .rest) }
 
+-- what stands behind the span of a condition of kind k that has conditions in it: which of these it is (`number`), and its window
+pub record Behind (version k : ℕ) (s : List ℕ) (at number : ℕ) (w : Window) (p : ℕ) : Type 0 where
+  pub place : p ≡ at + 9 + behindSpan version k s at
+  pub kind : number ≡ k
+  pub windows : windowKind k ≡ true → window version s (at + 9) ≡ got w p
+
 -- Conditions.
-pub record OneView (version : ℕ) (s : List ℕ) (at : ℕ) (x : Condition) (n : ℕ) : Type 0 where
+pub record OneView (version k : ℕ) (s : List ℕ) (at : ℕ) (x : Condition) (n : ℕ) : Type 0 where
   pub kind : One
   pub own : Span
   pub body : Condition
   pub spans : span s (at + 1) ≡ got own (at + 9)
-  pub reads : conditionAt version levels s (at + 9) ≡ got body n
+  pub behind : Behind version k s at (oneNumber kind) (oneWindow kind) (at + 9 + behindSpan version k s at)
+  pub reads : conditionAt version levels s (at + 9 + behindSpan version k s at) ≡ got body n
   pub whole : x ≡ one kind own body
 
-pub record TwoView (version : ℕ) (s : List ℕ) (at : ℕ) (x : Condition) (n : ℕ) : Type 0 where
+pub record TwoView (version k : ℕ) (s : List ℕ) (at : ℕ) (x : Condition) (n : ℕ) : Type 0 where
   pub kind : Two
   pub own : Span
   pub left : Condition
   pub middle : ℕ
   pub right : Condition
   pub spans : span s (at + 1) ≡ got own (at + 9)
-  pub reads : conditionAt version levels s (at + 9) ≡ got left middle
+  pub behind : Behind version k s at (twoNumber kind) (twoWindow kind) (at + 9 + behindSpan version k s at)
+  pub reads : conditionAt version levels s (at + 9 + behindSpan version k s at) ≡ got left middle
   pub further : conditionAt version levels s middle ≡ got right n
   pub whole : x ≡ two kind own left right
 
@@ -159,31 +161,90 @@ operator-view s at {o} {n} e =
     let p = choose-place (a .value) s (a .place) (a .rest) in
     (p .0 ∙ v .2, p .1 ∙ v .1)
 
-module _ (version : ℕ) (s : List ℕ) (at : ℕ) {x : Condition} {n : ℕ} where
-  unary-view : (k : One) → unary version (conditionAt version levels) (termAt version levels) k s (at + 1) ≡ got x n → OneView version s at x n
-  unfolding unary
-  unary-view k e =
-      let a = after-span s at _ e in
-      let b = split (conditionAt version levels s (at + 9)) _ (a .rest) in
-      record { kind = k; own = a .own; body = b .value; spans = a .spans; reads = b .first ∙ ap (got (b .value)) (got-place (b .rest)); whole = sym (got-value (b .rest)) }
+-- each kind of condition with conditions in it, by what is read behind its span
+module _ (version : ℕ) (s : List ℕ) (at : ℕ) {A : Type 0} (number : A → ℕ) (says : A → Window) where
+  abbrev KindRead : ℕ → Reader A → Type 0
+  KindRead k kind = (j : A) (p : ℕ) → kind s (at + 9) ≡ got j p → Behind version k s at (number j) (says j) p
 
-  binary-view : (k : Two) → binary version (conditionAt version levels) (termAt version levels) k s (at + 1) ≡ got x n → TwoView version s at x n
-  unfolding binary
-  binary-view k e =
+  bare : (j : A) → windowKind (number j) ≡ false → eqb (number j) 8 ≡ false → KindRead (number j) (pure j)
+  unfolding behindSpan
+  bare j none other i p e =
+      let q = got-place e in
+      record { place = rw (other, none) (omega arith); kind = ap number (sym (got-value e)); windows = λ h. absurd (false≢true (sym none ∙ h)) }
+
+  windowed : (k : ℕ) (make : Window → A) → ((w : Window) → number (make w) ≡ k) → ((w : Window) → says (make w) ≡ w) → windowKind k ≡ true → eqb k 8 ≡ false → KindRead k (make <$> window version)
+  unfolding behindSpan
+  windowed k make numbered said is other i p e =
+      let a = split (window version s (at + 9)) _ e in
+      let q = got-place (a .rest) in
+      let v : make (a .value) ≡ i = got-value (a .rest) in
+      let h = window-place version s (at + 9) (a .first) in
+      record {
+        place = rw (other, is) (omega arith);
+        kind = ap number (sym v) ∙ numbered (a .value);
+        windows = λ _. a .first ∙ ap (got (a .value)) q ∙ ap (λ w. got w p) (sym (said (a .value)) ∙ ap says v);
+      }
+
+module _ (version : ℕ) (s : List ℕ) (at : ℕ) {x : Condition} {n : ℕ} where
+  unary-view : (k : ℕ) (kind : Reader One) → KindRead version s at oneNumber oneWindow k kind → unary version (conditionAt version levels) (termAt version levels) kind s (at + 1) ≡ got x n → OneView version k s at x n
+  unfolding unary
+  unary-view k kind known e =
       let a = after-span s at _ e in
-      let b = split (conditionAt version levels s (at + 9)) _ (a .rest) in
+      let c = split (kind s (at + 9)) _ (a .rest) in
+      let i = known (c .value) (c .place) (c .first) in
+      let b = split (conditionAt version levels s (c .place)) _ (c .rest) in
+      record {
+        kind = c .value;
+        own = a .own;
+        body = b .value;
+        spans = a .spans;
+        behind = rw (← i .place) i;
+        reads = rw (← i .place) (b .first ∙ ap (got (b .value)) (got-place (b .rest)));
+        whole = sym (got-value (b .rest));
+      }
+
+  binary-view : (k : ℕ) (kind : Reader Two) → KindRead version s at twoNumber twoWindow k kind → binary version (conditionAt version levels) (termAt version levels) kind s (at + 1) ≡ got x n → TwoView version k s at x n
+  unfolding binary
+  binary-view k kind known e =
+      let a = after-span s at _ e in
+      let c = split (kind s (at + 9)) _ (a .rest) in
+      let i = known (c .value) (c .place) (c .first) in
+      let b = split (conditionAt version levels s (c .place)) _ (c .rest) in
       let d = split (conditionAt version levels s (b .place)) _ (b .rest) in
       record {
-        kind = k;
+        kind = c .value;
         own = a .own;
         left = b .value;
         middle = b .place;
         right = d .value;
         spans = a .spans;
-        reads = b .first;
+        behind = rw (← i .place) i;
+        reads = rw (← i .place) (b .first);
         further = d .first ∙ ap (got (d .value)) (got-place (d .rest));
         whole = sym (got-value (d .rest));
       }
+
+  -- the kinds themselves
+  not-view : unary version (conditionAt version levels) (termAt version levels) (pure negation) s (at + 1) ≡ got x n → OneView version 3 s at x n
+  not-view = unary-view 3 (pure negation) (bare version s at oneNumber oneWindow negation refl refl)
+
+  formerly-view : unary version (conditionAt version levels) (termAt version levels) (formerly <$> window version) s (at + 1) ≡ got x n → OneView version 4 s at x n
+  formerly-view = unary-view 4 (formerly <$> window version) (windowed version s at oneNumber oneWindow 4 formerly (λ _. refl) (λ _. refl) refl refl)
+
+  previous-view : unary version (conditionAt version levels) (termAt version levels) (previous <$> window version) s (at + 1) ≡ got x n → OneView version 5 s at x n
+  previous-view = unary-view 5 (previous <$> window version) (windowed version s at oneNumber oneWindow 5 previous (λ _. refl) (λ _. refl) refl refl)
+
+  refine-view : unary version (conditionAt version levels) (termAt version levels) (pure refine) s (at + 1) ≡ got x n → OneView version 13 s at x n
+  refine-view = unary-view 13 (pure refine) (bare version s at oneNumber oneWindow refine refl refl)
+
+  and-view : binary version (conditionAt version levels) (termAt version levels) (pure and) s (at + 1) ≡ got x n → TwoView version 1 s at x n
+  and-view = binary-view 1 (pure and) (bare version s at twoNumber twoWindow and refl refl)
+
+  or-view : binary version (conditionAt version levels) (termAt version levels) (pure or) s (at + 1) ≡ got x n → TwoView version 2 s at x n
+  or-view = binary-view 2 (pure or) (bare version s at twoNumber twoWindow or refl refl)
+
+  since-view : binary version (conditionAt version levels) (termAt version levels) (since <$> window version) s (at + 1) ≡ got x n → TwoView version 6 s at x n
+  since-view = binary-view 6 (since <$> window version) (windowed version s at twoNumber twoWindow 6 since (λ _. refl) (λ _. refl) refl refl)
 
   acting-view : predicateOf version (conditionAt version levels) (termAt version levels) s (at + 1) ≡ got x n → PredicateView version s at x n
   unfolding predicateOf
@@ -275,43 +336,40 @@ pub record Head (s : List ℕ) (at : ℕ) (x : Condition) (k : ℕ) : Type 0 whe
 head : {s : List ℕ} {at : ℕ} {x y : Condition} (k : ℕ) → span s (at + 1) ≡ got (spanOf y) (at + 9) → x ≡ y → conditionNumber k ≡ kindOf y → Head s at x k
 head k spans whole kind = record { spans = rw whole spans; kind = rw whole kind }
 
-pub no-value : {A : Type 0} {P : Type 0} {a : A} {n r : ℕ} → bad r ≡ got a n → P
-no-value e = let z : _≡_ {A = ℕ} 0 1 = cc in absurd (omega arith)
-
 module _ (version : ℕ) (s : List ℕ) (at : ℕ) {x : Condition} {n : ℕ} where
   pub heads : (k : ℕ) → choose k (conditionKinds version (conditionAt version levels) (termAt version levels)) s (at + 1) ≡ got x n → Head s at x k
-  unfolding choose conditionKinds Each keysUpTo unary-view binary-view
+  unfolding choose conditionKinds Each keysUpTo
   heads =
-      let ones : (j : One) → conditionNumber (oneNumber j) ≡ oneNumber j → unary version (conditionAt version levels) (termAt version levels) j s (at + 1) ≡ got x n → Head s at x (oneNumber j) = λ j i e. let v = unary-view version s at j e in head (oneNumber j) (v .spans) (v .whole) i in
-      let twos : (j : Two) → conditionNumber (twoNumber j) ≡ twoNumber j → binary version (conditionAt version levels) (termAt version levels) j s (at + 1) ≡ got x n → Head s at x (twoNumber j) = λ j i e. let v = binary-view version s at j e in head (twoNumber j) (v .spans) (v .whole) i in
+      let ones : (j : ℕ) → conditionNumber j ≡ j → OneView version j s at x n → Head s at x j = λ j i v. head j (v .spans) (v .whole) (i ∙ sym (v .behind .kind)) in
+      let twos : (j : ℕ) → conditionNumber j ≡ j → TwoView version j s at x n → Head s at x j = λ j i v. head j (v .spans) (v .whole) (i ∙ sym (v .behind .kind)) in
       by-kind s (at + 1) 13 (conditionKinds version (conditionAt version levels) (termAt version levels)) refl (Head s at x)
       (tt
       & no-value
-      & twos and refl
-      & twos or refl
-      & ones negation refl
-      & ones formerly refl
-      & ones previous refl
-      & twos since refl
+      & (λ e. twos 1 refl (and-view version s at e))
+      & (λ e. twos 2 refl (or-view version s at e))
+      & (λ e. ones 3 refl (not-view version s at e))
+      & (λ e. ones 4 refl (formerly-view version s at e))
+      & (λ e. ones 5 refl (previous-view version s at e))
+      & (λ e. twos 6 refl (since-view version s at e))
       & (λ e. let v = acting-view version s at e in head 7 (v .spans) (v .whole) refl)
       & (λ e. let v = testing-view version s at e in head 8 (v .spans) (v .whole) refl)
       & (λ e. let v = binding-view version s at e in head 9 (v .spans) (v .whole) refl)
       & (λ e. let v = pointing-view s at e in head 10 (v .spans) (v .whole) refl)
       & (λ e. let v = bare-view s at e in head 11 (v .spans) (v .whole) refl)
       & (λ e. let v = bare-view s at e in head 12 (v .spans) (v .whole) refl)
-      & ones refine refl)
+      & (λ e. ones 13 refl (refine-view version s at e)))
 
-  pub ones : (k : ℕ) → choose k (conditionKinds version (conditionAt version levels) (termAt version levels)) s (at + 1) ≡ got x n → oneKind k ≡ true → OneView version s at x n
+  pub ones : (k : ℕ) → choose k (conditionKinds version (conditionAt version levels) (termAt version levels)) s (at + 1) ≡ got x n → oneKind k ≡ true → OneView version k s at x n
   unfolding choose conditionKinds Each keysUpTo
   ones =
-      by-kind s (at + 1) 13 (conditionKinds version (conditionAt version levels) (termAt version levels)) refl (λ k. oneKind k ≡ true → OneView version s at x n)
+      by-kind s (at + 1) 13 (conditionKinds version (conditionAt version levels) (termAt version levels)) refl (λ k. oneKind k ≡ true → OneView version k s at x n)
       (tt
       & (λ _ h. absurd (false≢true h))
       & (λ _ h. absurd (false≢true h))
       & (λ _ h. absurd (false≢true h))
-      & (λ e h. unary-view version s at negation e)
-      & (λ e h. unary-view version s at formerly e)
-      & (λ e h. unary-view version s at previous e)
+      & (λ e h. not-view version s at e)
+      & (λ e h. formerly-view version s at e)
+      & (λ e h. previous-view version s at e)
       & (λ _ h. absurd (false≢true h))
       & (λ _ h. absurd (false≢true h))
       & (λ _ h. absurd (false≢true h))
@@ -319,20 +377,20 @@ module _ (version : ℕ) (s : List ℕ) (at : ℕ) {x : Condition} {n : ℕ} whe
       & (λ _ h. absurd (false≢true h))
       & (λ _ h. absurd (false≢true h))
       & (λ _ h. absurd (false≢true h))
-      & (λ e h. unary-view version s at refine e))
+      & (λ e h. refine-view version s at e))
 
-  pub twos : (k : ℕ) → choose k (conditionKinds version (conditionAt version levels) (termAt version levels)) s (at + 1) ≡ got x n → twoKind k ≡ true → TwoView version s at x n
+  pub twos : (k : ℕ) → choose k (conditionKinds version (conditionAt version levels) (termAt version levels)) s (at + 1) ≡ got x n → twoKind k ≡ true → TwoView version k s at x n
   unfolding choose conditionKinds Each keysUpTo
   twos =
-      by-kind s (at + 1) 13 (conditionKinds version (conditionAt version levels) (termAt version levels)) refl (λ k. twoKind k ≡ true → TwoView version s at x n)
+      by-kind s (at + 1) 13 (conditionKinds version (conditionAt version levels) (termAt version levels)) refl (λ k. twoKind k ≡ true → TwoView version k s at x n)
       (tt
       & (λ _ h. absurd (false≢true h))
-      & (λ e h. binary-view version s at and e)
-      & (λ e h. binary-view version s at or e)
+      & (λ e h. and-view version s at e)
+      & (λ e h. or-view version s at e)
       & (λ _ h. absurd (false≢true h))
       & (λ _ h. absurd (false≢true h))
       & (λ _ h. absurd (false≢true h))
-      & (λ e h. binary-view version s at since e)
+      & (λ e h. since-view version s at e)
       & (λ _ h. absurd (false≢true h))
       & (λ _ h. absurd (false≢true h))
       & (λ _ h. absurd (false≢true h))
@@ -361,10 +419,10 @@ module _ (version : ℕ) (s : List ℕ) (at : ℕ) {x : Condition} {n : ℕ} (e 
   pub head-view : Head s at x (getD s at 0)
   head-view = heads version s at (getD s at 0) inner
 
-  pub one-view : oneKind (getD s at 0) ≡ true → OneView version s at x n
+  pub one-view : oneKind (getD s at 0) ≡ true → OneView version (getD s at 0) s at x n
   one-view = ones version s at (getD s at 0) inner
 
-  pub two-view : twoKind (getD s at 0) ≡ true → TwoView version s at x n
+  pub two-view : twoKind (getD s at 0) ≡ true → TwoView version (getD s at 0) s at x n
   two-view = twos version s at (getD s at 0) inner
 
   pub predicate-view : getD s at 0 ≡ 7 → PredicateView version s at x n
