@@ -12,7 +12,7 @@ use lib.Seq.{take-length, take-take, length-take-le}
 use Rattle.names.specs.Fields.{Reader, _>>=_, bytes, heading, whole}
 use Rattle.names.specs.Read.{refusalNumber}
 use Rattle.schema.specs.Schema.{schemaRecord}
-use Rattle.condition.specs.Condition.{conditionRecord}
+use Rattle.condition.specs.Condition.{conditionRecordUpTo, conditionRecord}
 use Rattle.targets.specs.Targets.{targetRecord}
 use Rattle.targets.specs.PathRecord.{pathRecord}
 use Rattle.offence.specs.declared.Kind.{Kind}
@@ -53,7 +53,7 @@ module _ (k : Kind) (s : List ℕ) where
           let i : place (numberOf k) s ≡ length s = omega (arith, ltb-false (place (numberOf k) s) (length s) h, least (numberOf k) s .upto) in
           ap (λ (n : ℕ). take n s) i ∙ take-length s
 
-  -- 3 to 9: the front of the place is refused by the number of the whole
+  -- 3 to 9 and 13: the front of the place is refused by the number of the whole
   pub there : length s ≤ 32768 → (numberOf k s ≡ 0 → ⊥) → (numberOf k s ≡ 10 → ⊥) → numberOf k (take (place (numberOf k) s) s) ≡ numberOf k s
   there h refused inside = go (judged h)
     where
@@ -100,8 +100,8 @@ module _ {A : Type 0} (mark : List ℕ) (newest : ℕ) (s : List ℕ) (rest : �
       go true h true i = rw (h, i, e)
 
 pub unmarked : (k : Kind) (s : List ℕ) → begins (markOf k) s ≡ false → numberOf k s ≡ cond (leb (length s) 32768) (cond (leb 3 (length s)) 3 2) 1
-unfolding schemaRecord conditionRecord targetRecord pathRecord
+unfolding schemaRecord conditionRecordUpTo conditionRecord targetRecord pathRecord
 unmarked Schema s e = unmarked-front (markOf Schema) 1 s _ e
-unmarked Condition s e = unmarked-front (markOf Condition) 1 s _ e
+unmarked Condition s e = unmarked-front (markOf Condition) 2 s _ e
 unmarked Targets s e = unmarked-front (markOf Targets) 1 s _ e
 unmarked Path s e = unmarked-front (markOf Path) 1 s _ e

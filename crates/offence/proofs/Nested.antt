@@ -2,12 +2,12 @@
 use mathlib.Core.Path.{refl}
 use mathlib.Core.Bool.{Bool, true, false, _&&_}
 use mathlib.Core.Option.{none}
-use Prim.Native.Nat.{ℕ, zero, suc}
+use Prim.Native.Nat.{ℕ, zero, suc, _*_}
 use lib.Dec.{leb, eqb}
-use Rattle.names.specs.Fields.{Reader, choose, counted, each, levels}
+use Rattle.names.specs.Fields.{Reader, _<$>_, pure, choose, counted, each, levels}
 use Rattle.names.specs.Names.{identifier, pathName, plain}
-use Rattle.condition.specs.Condition.{Condition, Term, One, Two, span, slotKinds, slot, annotation, binder, operators, operator, timepointOf, arguments, argumentList, elements, elementList, unary, binary, predicateOf, comparisonOf, existsOf, conditionKinds, sumOf, countOf, aggregateKinds, aggregateOf, arithOf, termKinds, tooDeep, conditionAt, termAt, conditionRecord}
-use Rattle.offence.proofs.Steady.{Steady, Ends, pure-steady, refuse-steady, cond-steady, then-steady, map-steady, u8-steady, u32-steady, string-steady, many-steady, counted-steady, path-steady, heading-steady, then-ends, finished-ends}
+use Rattle.condition.specs.Condition.{Condition, Term, Window, One, Two, seconds, units, fits, amountOf, secondsOf, windowKinds, window, span, slotKinds, slot, annotation, binder, operators, operator, timepointOf, arguments, argumentList, elements, elementList, unary, binary, predicateOf, comparisonOf, existsOf, conditionKinds, sumOf, countOf, aggregateKinds, aggregateOf, arithOf, termKinds, tooDeep, conditionAt, termAt, conditionRecordUpTo, conditionRecord}
+use Rattle.offence.proofs.Steady.{Steady, Ends, pure-steady, refuse-steady, cond-steady, then-steady, map-steady, u8-steady, u32-steady, u64-steady, holds-steady, string-steady, many-steady, counted-steady, path-steady, heading-steady, then-ends, finished-ends}
 
 span-steady : Steady span
 unfolding span
@@ -42,6 +42,24 @@ operator-steady =
     (cond-steady (eqb k 4) pure-steady
     (cond-steady (eqb k 5) pure-steady (refuse-steady 5 refl)))))))
 
+amount-steady : (unit : ℕ) → Steady (amountOf unit)
+unfolding amountOf
+amount-steady unit = then-steady u64-steady (λ n. holds-steady 13 refl (fits unit n) (seconds (n * unit)))
+
+seconds-steady : Steady secondsOf
+unfolding secondsOf units choose
+seconds-steady =
+    then-steady u8-steady (λ k.
+    then-steady
+      (cond-steady (eqb k 0) pure-steady (cond-steady (eqb k 1) pure-steady (cond-steady (eqb k 2) pure-steady (cond-steady (eqb k 3) pure-steady (refuse-steady 5 refl)))))
+      (λ unit. amount-steady unit))
+
+window-steady : (version : ℕ) → Steady (window version)
+unfolding window windowKinds choose
+window-steady version =
+    cond-steady (leb version 1) pure-steady
+    (then-steady u8-steady (λ k. cond-steady (eqb k 0) seconds-steady (cond-steady (eqb k 1) pure-steady (refuse-steady 5 refl))))
+
 timepoint-steady : Steady timepointOf
 unfolding timepointOf
 timepoint-steady = then-steady span-steady (λ at. then-steady slot-steady (λ s. pure-steady))
@@ -66,13 +84,16 @@ module _ (version : ℕ) (f : Reader Condition) (t : Bool → Reader Term) (inne
   unfolding elementList
   element-list-steady = then-steady u8-steady elements-steady
 
-  unary-steady : (k : One) → Steady (unary version f t k)
+  unary-steady : {kind : Reader One} → Steady kind → Steady (unary version f t kind)
   unfolding unary
-  unary-steady k = then-steady span-steady (λ at. then-steady inner (λ body. pure-steady))
+  unary-steady kind = then-steady span-steady (λ at. then-steady kind (λ k. then-steady inner (λ body. pure-steady)))
 
-  binary-steady : (k : Two) → Steady (binary version f t k)
+  binary-steady : {kind : Reader Two} → Steady kind → Steady (binary version f t kind)
   unfolding binary
-  binary-steady k = then-steady span-steady (λ at. then-steady inner (λ left. then-steady inner (λ right. pure-steady)))
+  binary-steady kind = then-steady span-steady (λ at. then-steady kind (λ k. then-steady inner (λ left. then-steady inner (λ right. pure-steady))))
+
+  windowed-steady : {A : Type 0} (make : Window → A) → Steady (make <$> window version)
+  windowed-steady make = map-steady make (window-steady version)
 
   predicate-steady : Steady (predicateOf version f t)
   unfolding predicateOf
@@ -94,19 +115,19 @@ module _ (version : ℕ) (f : Reader Condition) (t : Bool → Reader Term) (inne
   condition-kinds-steady : (k : ℕ) → Steady (choose k (conditionKinds version f t))
   unfolding choose conditionKinds
   condition-kinds-steady k =
-      cond-steady (eqb k 1) (binary-steady _)
-      (cond-steady (eqb k 2) (binary-steady _)
-      (cond-steady (eqb k 3) (unary-steady _)
-      (cond-steady (eqb k 4) (unary-steady _)
-      (cond-steady (eqb k 5) (unary-steady _)
-      (cond-steady (eqb k 6) (binary-steady _)
+      cond-steady (eqb k 1) (binary-steady pure-steady)
+      (cond-steady (eqb k 2) (binary-steady pure-steady)
+      (cond-steady (eqb k 3) (unary-steady pure-steady)
+      (cond-steady (eqb k 4) (unary-steady (windowed-steady _))
+      (cond-steady (eqb k 5) (unary-steady (windowed-steady _))
+      (cond-steady (eqb k 6) (binary-steady (windowed-steady _))
       (cond-steady (eqb k 7) predicate-steady
       (cond-steady (eqb k 8) comparison-steady
       (cond-steady (eqb k 9) exists-steady
       (cond-steady (eqb k 10) timepoint-steady
       (cond-steady (eqb k 11) (map-steady _ span-steady)
       (cond-steady (eqb k 12) (map-steady _ span-steady)
-      (cond-steady (eqb k 13) (unary-steady _) (refuse-steady 5 refl)))))))))))))
+      (cond-steady (eqb k 13) (unary-steady pure-steady) (refuse-steady 5 refl)))))))))))))
 
   sum-steady : Steady (sumOf version f t)
   unfolding sumOf
@@ -160,5 +181,5 @@ mutual
   term-steady version (suc left) b = then-steady u8-steady (λ k. term-kinds-steady version (conditionAt version left) (λ b. termAt version left b) (condition-steady version left) (λ b. term-steady version left b) b k)
 
 pub condition-ends : Ends conditionRecord
-unfolding conditionRecord
+unfolding conditionRecordUpTo conditionRecord
 condition-ends = then-ends (heading-steady _ _) (λ version. then-ends (condition-steady version levels) (λ c. finished-ends _))

@@ -11,7 +11,7 @@ use borrow.Author.Tests.{le-leb, lt-leb, leb-true, leb-false, eqb-false, eq-eqb}
 use lib.Dec.{leb, eqb}
 use lib.ListN.{length, getD, take, drop, take-append-drop, length-append, length-drop, List·getD-append}
 use lib.Seq.{take-append-le, drop-append-le, take-take, length-take-le}
-use Rattle.names.specs.Fields.{Got, got, bad, Reader, next, _>>=_, _<$>_, pure, refuse, holds, bytes, u8, u16, u32, number, stringOf, each, many, counted, heading, finished, whole}
+use Rattle.names.specs.Fields.{Got, got, bad, Reader, next, _>>=_, _<$>_, pure, refuse, holds, bytes, u8, u16, u32, u64, number, stringOf, each, many, counted, heading, finished, whole}
 use Rattle.names.specs.Names.{same, plain}
 use Rattle.names.specs.Paths.{pathOf}
 use Rattle.names.specs.Read.{refusalNumber}
@@ -171,6 +171,10 @@ u16-steady = then-steady (bytes-steady 2) (λ w. pure-steady)
 pub u32-steady : Steady u32
 unfolding u32
 u32-steady = then-steady (bytes-steady 4) (λ w. pure-steady)
+
+pub u64-steady : Steady u64
+unfolding u64
+u64-steady = then-steady (bytes-steady 8) (λ w. pure-steady)
 
 pub string-steady : (class : List ℕ → Bool) → Steady (stringOf class)
 unfolding stringOf

@@ -81,15 +81,15 @@ alone (one k span c) h i a b = absurd (go k i)
   where
     go : (k : One) → oneKind (oneNumber k) ≡ false → ⊥
     go negation i = false≢true (sym i)
-    go formerly i = false≢true (sym i)
-    go previous i = false≢true (sym i)
+    go (formerly w) i = false≢true (sym i)
+    go (previous w) i = false≢true (sym i)
     go refine i = false≢true (sym i)
 alone (two k span l r) h i a b = absurd (go k h)
   where
     go : (k : Two) → twoKind (twoNumber k) ≡ false → ⊥
     go and i = false≢true (sym i)
     go or i = false≢true (sym i)
-    go since i = false≢true (sym i)
+    go (since w) i = false≢true (sym i)
 alone (predicate span own ns act args) h i a b = refl
 alone (comparison span op l r) h i a b = absurd (a refl)
 alone (exists span bi c) h i a b = absurd (b refl)
