@@ -7,3 +7,5 @@ pub mod Strict
 pub mod StrictExamples
 pub mod Visits
 pub mod VisitsExamples
+pub mod Windows
+pub mod WindowExamples
