@@ -15,8 +15,9 @@ HERE = os.path.dirname(os.path.abspath(__file__))
 class Record:
     """The bytes of a record, and the line of each part: place, depth, text."""
 
-    def __init__(self, mark, words):
-        self.bytes = bytearray(mark + b"\x00\x01")
+    def __init__(self, mark, words, version=1):
+        self.bytes = bytearray(mark) + version.to_bytes(2, "big")
+        self.version = version
         self.words = words
         self.lines = []
 
@@ -53,7 +54,7 @@ class Record:
 
     def text(self):
         n = len(self.bytes)
-        lines = [(0, 0, f"{self.words}, version 1, {n} bytes")] + self.lines + [(n, 0, "end")]
+        lines = [(0, 0, f"{self.words}, version {self.version}, {n} bytes")] + self.lines + [(n, 0, "end")]
         return "".join(f"{at:5} {'  ' * depth}{text}\n" for at, depth, text in lines)
 
 
@@ -117,6 +118,7 @@ CONDITIONS = {1: "and", 2: "or", 3: "not", 4: "formerly", 5: "previous", 6: "sin
 OPERATORS = ["<=", "<", ">=", ">", "==", "!="]
 TERMS = {1: "entity", 2: "integer", 3: "decimal", 4: "string", 5: "boolean", 6: "context field", 7: "scope field", 8: "variable", 9: "wildcard", 10: "array", 11: "aggregate", 12: "arithmetic", 13: "ParamRef", 14: "BinderRef"}
 AGGREGATES = {1: "sum", 2: "count", 3: "call"}
+UNITS = ["second", "minute", "hour", "day"]
 
 
 def slot(r, depth, what, s):
@@ -143,12 +145,23 @@ def binders(r, depth, bs):
         binder(r, depth + 1, b)
 
 
+def windowed(window):
+    """The bytes of a window (a unit and an amount, or none for a ParamRef), and its words."""
+    if window is None:
+        return b"\x01", " within ParamRef"
+    unit, amount = window
+    words = f" within {amount} {UNITS[unit]}" + ("" if amount == 1 else "s")
+    return bytes([0, unit]) + amount.to_bytes(8, "big", signed=True), words
+
+
 def condition(r, depth, c):
-    kind, (start, end), rest = c
+    kind, (start, end), rest, *window = c
     text = CONDITIONS[kind] + (f" {OPERATORS[rest[0]]}" if kind == 8 else "")
-    r.line(depth, f"{text} span {start}..{end}")
+    data, words = windowed(*window) if r.version > 1 and kind in (4, 5, 6) else (b"", "")
+    r.line(depth, f"{text} span {start}..{end}{words}")
     r.u8(kind)
     r.span(start, end)
+    r.bytes += data
     if kind in (1, 2, 6, 3, 4, 5, 13):
         for inner in rest:
             condition(r, depth + 1, inner)
@@ -211,8 +224,8 @@ def term(r, depth, t):
         term(r, depth + 1, rest[1])
 
 
-def condition_record(c):
-    r = Record(b"DWC", "condition record")
+def condition_record(c, version=1):
+    r = Record(b"DWC", "condition record", version)
     condition(r, 1, c)
     return r
 
@@ -293,6 +306,14 @@ EVERY_CONDITION = (2, (0, 200), [
     ]),
 ])
 
+# Windows in each unit, one of it and several, and a parameter: the largest number of seconds, none, and one below an argument.
+WINDOWS = (6, (0, 90), [
+    (4, (1, 40), [(5, (2, 30), [(3, (3, 30), [leaf(4)])], (1, 90))], (0, 9223372036854775807)),
+    (5, (41, 80), [(4, (42, 70), [(7, (43, 60), ((44, 59), [], "view", [
+        ("n", [], (11, (2, (45, 50), ([], (4, (46, 49), [leaf(1)], (2, 0)))))),
+    ]))], (3, 1))], None),
+], (2, 36))
+
 ACCEPTED = {
     "schema.dws": schema([], []),
     "cond.dwc": condition_record((8, (0, 8), (1, 5, 2))),
@@ -322,6 +343,7 @@ ACCEPTED = {
     "every.dwt": targets((2, "Archive::Clerk"), (4, "Archive::Deed"), [("Archive", "view"), ("", "edit"), ("Archive", "")]),
     "other.dwt": targets(1, (3, "Bot"), []),
     "every.dwp": path(1, ["by", "born", ""], 2),
+    "windows.dwc": condition_record(WINDOWS, 2),
 }
 
 
@@ -356,6 +378,7 @@ def refused():
         "refused8.dws": changed(every, "id `view`", 1, ord("a")),
         "refused9.dwc": bytes(array.bytes),
         "refused10.dwp": bytes(ACCEPTED["every.dwp"].bytes) + b"\x00\x07",
+        "refused13.dwc": bytes(condition_record((4, (0, 8), [leaf(0)], (0, -1)), 2).bytes),
         "empty": b"",
     }
 

@@ -106,6 +106,21 @@ pub fn print_u32(s: &[u8], at: usize) {
     print_number(names::u32_at(s, at) as usize);
 }
 
+// The 64-bit number at a place; 0 where there are not so many bytes.
+pub fn u64_at(s: &[u8], at: usize) -> u64 {
+    if s.len() <= at {
+        return 0;
+    }
+    if s.len() - at < 8 {
+        return 0;
+    }
+    names::word_at(s, at)
+}
+
+pub fn print_u64(n: u64) {
+    io::print_decimal(STDOUT_FILENO, n);
+}
+
 // A byte, in two hexadecimal digits.
 pub fn print_byte(b: usize) {
     io::print_hex(STDOUT_FILENO, b as u64, 2);

@@ -15,10 +15,11 @@ ghost use lib.ListN.{length};
 //     ?X  a byte, and its choice of the rule X                          &X  the rule X, once
 //     (X  where the byte is 0 that byte and the first choice of X, else the second
 //     *X  a span and the byte behind it, whose choice of X is printed first, as a word
+//     {   a window, in units of Z; in version 1 it has no bytes
 //
 // A to D are what stands behind the version of the four records. X has their names, Y says why a record is refused and, behind
 // a semicolon, what ends where that shows; each choice of a rule that is said as a word has a bar behind it.
-pub const TABLE: [u8; 1872] = *b"
+pub const TABLE: [u8; 2037] = *b"
 A=+@entity types%E@actions%H
 B=+@?J
 C=+@principal narrowing ?T@resource narrowing ?T@targets#U
@@ -28,7 +29,7 @@ F=+@attribute `+@?G
 G=Long|String|Bool|extension `|set+@?G|set without element|record#F|entity `|several entities|any entity|Never
 H=+@action of type `+@id `@principals#I@resources#I@context ?G
 I=+@`
-J=-|and~+@?J@?J|or~+@?J@?J|not~+@?J|formerly~+@?J|previous~+@?J|since~+@?J@?J|predicate~+@own~@namespace#I@action `@arguments#K|comparison*O+@?Q@?Q|exists~&N+@?J|tp~+@slot?M|call~|SigilRef~|refine~+@?J
+J=-|and~+@?J@?J|or~+@?J@?J|not~+@?J|formerly~{+@?J|previous~{+@?J|since~{+@?J@?J|predicate~+@own~@namespace#I@action `@arguments#K|comparison*O+@?Q@?Q|exists~&N+@?J|tp~+@slot?M|call~|SigilRef~|refine~+@?J
 K=+@argument `+@field path#L@?Q
 L= `
 M= `| ParamRef| BinderRef
@@ -43,7 +44,8 @@ U=+@target :(V+@id `
 V= without namespace| namespace `
 W= principal| resource
 X=-|schema record|condition record|targets record|path record|
-Y=-|the record has more than 32,768 bytes|the bytes end before a field does; they end|the first three bytes are no record's mark (DWS, DWC, DWT, DWP); the field that shows it ends|the version is not 1; the field that shows it ends|a kind, type, operator or other choice byte is not defined; the field that shows it ends|a string is not of its class: the path name, the identifier or the plain text that must stand there; the field that shows it ends|conditions, terms or types are nested deeper than 32 levels; the field that shows it ends|the names of a list do not ascend; the field that shows it ends|an aggregate stands below an array; the field that shows it ends|bytes stand behind the end of the record; the record ends|
+Y=-|the record has more than 32,768 bytes|the bytes end before a field does; they end|the first three bytes are no record's mark (DWS, DWC, DWT, DWP); the field that shows it ends|the version is not read: 1, or 2 of a condition record; the field that shows it ends|a kind, type, operator or other choice byte is not defined; the field that shows it ends|a string is not of its class: the path name, the identifier or the plain text that must stand there; the field that shows it ends|conditions, terms or types are nested deeper than 32 levels; the field that shows it ends|the names of a list do not ascend; the field that shows it ends|an aggregate stands below an array; the field that shows it ends|bytes stand behind the end of the record; the record ends|-|-|a window is below 0 or above 2^63 - 1 seconds; its amount ends|
+Z= second| minute| hour| day| seconds| minutes| hours| days|
 ";
 
 // No accepted record is as deep: it has 32 levels, and each adds at most three rules.
@@ -183,6 +185,30 @@ fn span(s: &[u8], at: usize) -> usize {
     forward(at, 8)
 }
 
+// The choice of Z for an amount of a unit: of one, or of several.
+fn unit_word(unit: usize, amount: u64) -> usize {
+    if amount == 1 {
+        return unit;
+    }
+    forward(unit, 4)
+}
+
+// A window; the place behind it.
+fn window<'a>(table: &'a [u8], s: &'a [u8], at: usize) -> usize {
+    if names::u16_at(s, 3) <= 1 {
+        return at;
+    }
+    if names::byte_at(s, at) == 1 {
+        print(b" within ParamRef");
+        return forward(at, 1);
+    }
+    let amount = program::u64_at(s, forward(at, 2));
+    print(b" within ");
+    program::print_u64(amount);
+    say(table, b'Z', unit_word(names::byte_at(s, forward(at, 1)), amount));
+    forward(at, 10)
+}
+
 // What a mark that names no rule stands for; the place behind it.
 fn value(s: &[u8], mark: u8, at: usize, depth: usize, turn: usize) -> usize {
     if mark == b'@' {
@@ -284,6 +310,9 @@ fn open<'a>(
     if mark == b'+' {
         return plain(forward(here, 1), at, forward(depth, 1));
     }
+    if mark == b'{' {
+        return plain(forward(here, 1), window(table, s, at), depth);
+    }
     plain(forward(here, 1), value(s, mark, at, depth, turn), depth)
 }
 
@@ -340,7 +369,9 @@ fn last(at: usize, long: usize) {
 pub fn show<'a>(table: &'a [u8], s: &'a [u8], record: u8) {
     line(0, 0);
     say(table, b'X', names::wide(record));
-    print_between(b", version 1, ", s.len(), b" bytes");
+    print_between(b", version ", names::u16_at(s, 3), b", ");
+    print_number(s.len());
+    print(b" bytes");
     let start = choice(table, std::num::wrapping_add_u8(b'@', record), 0);
     last(items(table, s, start, 5, 0, 0, DEEPEST), s.len());
 }
