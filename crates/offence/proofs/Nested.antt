@@ -51,8 +51,8 @@ unfolding secondsOf units choose
 seconds-steady =
     then-steady u8-steady (λ k.
     then-steady
-      (cond-steady (eqb k 0) pure-steady (cond-steady (eqb k 1) pure-steady (cond-steady (eqb k 2) pure-steady (cond-steady (eqb k 3) pure-steady (refuse-steady 5 refl)))))
-      (λ unit. amount-steady unit))
+    (cond-steady (eqb k 0) pure-steady (cond-steady (eqb k 1) pure-steady (cond-steady (eqb k 2) pure-steady (cond-steady (eqb k 3) pure-steady (refuse-steady 5 refl)))))
+    (λ unit. amount-steady unit))
 
 window-steady : (version : ℕ) → Steady (window version)
 unfolding window windowKinds choose

@@ -205,7 +205,11 @@ fn window<'a>(table: &'a [u8], s: &'a [u8], at: usize) -> usize {
     let amount = program::u64_at(s, forward(at, 2));
     print(b" within ");
     program::print_u64(amount);
-    say(table, b'Z', unit_word(names::byte_at(s, forward(at, 1)), amount));
+    say(
+        table,
+        b'Z',
+        unit_word(names::byte_at(s, forward(at, 1)), amount),
+    );
     forward(at, 10)
 }
 

@@ -89,9 +89,10 @@ pub record Said (s : List ℕ) (at k : ℕ) (w : Window) (n : ℕ) : Type 0 wher
 pub window-said : (s : List ℕ) (at k : ℕ) {w : Window} {n : ℕ} → choose k windowKinds s (at + 1) ≡ got w n → Said s at k w n
 unfolding choose windowKinds Each keysUpTo
 window-said s at k {w} {n} =
-    by-kind s (at + 1) 1 windowKinds refl (λ j. Said s at j w n)
-    ((tt, λ e. record { place = let h = seconds-view s (at + 1) e .amount .place in omega arith; amount = λ _. e; other = λ h. absurd (h refl) })
-    , λ e. record { place = sym (got-place e); amount = λ h. absurd (omega arith); other = λ _. sym (got-value e) }) k
+    by-kind s (at + 1) 1 windowKinds refl (λ j. Said s at j w n) (
+      (tt, λ e. record { place = let h = seconds-view s (at + 1) e .amount .place in omega arith; amount = λ _. e; other = λ h. absurd (h refl) }),
+      λ e. record { place = sym (got-place e); amount = λ h. absurd (omega arith); other = λ _. sym (got-value e) },
+    ) k
 
 -- where it ends
 pub window-place : (v : ℕ) (s : List ℕ) (at : ℕ) {w : Window} {n : ℕ} → window v s at ≡ got w n → n ≡ at + windowLength v s at
