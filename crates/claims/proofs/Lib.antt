@@ -7,5 +7,7 @@ pub mod Strict
 pub mod StrictExamples
 pub mod Visits
 pub mod VisitsExamples
+pub mod Versions
+pub mod FirstVersion
 pub mod Windows
 pub mod WindowExamples

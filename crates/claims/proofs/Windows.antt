@@ -36,20 +36,20 @@ joined f xs ys e h = gather-append f xs ys ∙ ap₂ _++_ e h
 module _ (w : Window) where
   -- ---- what a walk gathers of the reached conditions
 
-  module _ {B : Type 0} (g : Condition → List B) (same : (x : Condition) → g (withWindow w x) ≡ g x) where
+  module _ {B : Type 0} (g h : Condition → List B) (same : (x : Condition) → g (withWindow w x) ≡ h x) where
     mutual
       unfolding withWindow inTerm inAggregate reached reachedIn reachedBody gather
 
-      gathered : (c : Condition) → gather g (reached (withWindow w c)) ≡ gather g (reached c)
+      pub gathered : (c : Condition) → gather g (reached (withWindow w c)) ≡ gather h (reached c)
       gathered (one k at c) = ap₂ _++_ (same (one k at c)) (gathered c)
-      gathered (two k at l r) = ap₂ _++_ (same (two k at l r)) (joined g (reached (withWindow w l)) (reached (withWindow w r)) (gathered l) (gathered r) ∙ sym (gather-append g (reached l) (reached r)))
+      gathered (two k at l r) = ap₂ _++_ (same (two k at l r)) (joined g (reached (withWindow w l)) (reached (withWindow w r)) (gathered l) (gathered r) ∙ sym (gather-append h (reached l) (reached r)))
       gathered (predicate at own ns act args) = ap₂ _++_ (same (predicate at own ns act args)) refl
-      gathered (comparison at op l r) = ap₂ _++_ (same (comparison at op l r)) (joined g (reachedIn (inTerm w l)) (reachedIn (inTerm w r)) (gathered-in l) (gathered-in r) ∙ sym (gather-append g (reachedIn l) (reachedIn r)))
+      gathered (comparison at op l r) = ap₂ _++_ (same (comparison at op l r)) (joined g (reachedIn (inTerm w l)) (reachedIn (inTerm w r)) (gathered-in l) (gathered-in r) ∙ sym (gather-append h (reachedIn l) (reachedIn r)))
       gathered (exists at b c) = ap₂ _++_ (same (exists at b c)) (gathered c)
       gathered (tp at s) = ap₂ _++_ (same (tp at s)) refl
       gathered (opaque at) = ap₂ _++_ (same (opaque at)) refl
 
-      gathered-in : (t : Term) → gather g (reachedIn (inTerm w t)) ≡ gather g (reachedIn t)
+      gathered-in : (t : Term) → gather g (reachedIn (inTerm w t)) ≡ gather h (reachedIn t)
       gathered-in (entity n) = refl
       gathered-in (literal l) = refl
       gathered-in (contextField p) = refl
@@ -58,10 +58,10 @@ module _ (w : Window) where
       gathered-in wildcard = refl
       gathered-in (array ts) = refl
       gathered-in (aggregate a) = gathered-body a
-      gathered-in (tree.arith l r) = joined g (reachedIn (inTerm w l)) (reachedIn (inTerm w r)) (gathered-in l) (gathered-in r) ∙ sym (gather-append g (reachedIn l) (reachedIn r))
+      gathered-in (tree.arith l r) = joined g (reachedIn (inTerm w l)) (reachedIn (inTerm w r)) (gathered-in l) (gathered-in r) ∙ sym (gather-append h (reachedIn l) (reachedIn r))
       gathered-in sigil = refl
 
-      gathered-body : (a : Aggregate) → gather g (reachedBody (inAggregate w a)) ≡ gather g (reachedBody a)
+      gathered-body : (a : Aggregate) → gather g (reachedBody (inAggregate w a)) ≡ gather h (reachedBody a)
       gathered-body (sum at summand bs body) = gathered body
       gathered-body (count at bs body) = gathered body
       gathered-body (call at) = refl
@@ -99,7 +99,7 @@ module _ (w : Window) where
 
   same-binders : (c : Condition) → binders (withWindow w c) ≡ binders c
   unfolding binders
-  same-binders c = gathered declares same-declares c
+  same-binders c = gathered declares declares same-declares c
 
   -- ---- the types
 
@@ -173,7 +173,7 @@ module _ (w : Window) where
     same-reached : (a : Option Action) → gather (nodeBreaches (factsOf p s (withWindow w c) scope a)) (reached (withWindow w c)) ≡ gather (nodeBreaches (factsOf p s c scope a)) (reached c)
     same-reached a =
         ap (λ bs. gather (nodeBreaches (record { profile = p; schema = s; scope = scope; action = a; binders = bs })) (reached (withWindow w c))) (same-binders c)
-        ∙ gathered (nodeBreaches (factsOf p s c scope a)) (same-node (factsOf p s c scope a)) c
+        ∙ gathered (nodeBreaches (factsOf p s c scope a)) (nodeBreaches (factsOf p s c scope a)) (same-node (factsOf p s c scope a)) c
 
     same-under : (t : Target) → breachesUnder p s (withWindow w c) scope t ≡ breachesUnder p s c scope t
     unfolding breachesUnder
@@ -237,7 +237,7 @@ module _ (w : Window) where
   unfolding breaches
   same-sums c =
       ap (λ bs. gather (conditionBreaches bs) (reached (withWindow w c))) (same-binders c)
-      ∙ gathered (conditionBreaches (binders c)) (same-condition (binders c)) c
+      ∙ gathered (conditionBreaches (binders c)) (conditionBreaches (binders c)) (same-condition (binders c)) c
 
 -- ---- records
 

@@ -8,5 +8,6 @@ pub mod Strict
 pub mod StrictExamples
 pub mod Visits
 pub mod VisitsExamples
+pub mod Versions
 pub mod Windows
 pub mod WindowExamples

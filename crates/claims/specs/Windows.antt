@@ -5,7 +5,7 @@ use Prim.Native.Nat.{ℕ}
 use mathlib.Core.Path.{_≡_}
 use mathlib.Core.Bool.{true}
 use mathlib.Core.List.{List}
-use Rattle.condition.specs.Condition.{Window, parameter, Condition, One, negation, refine, formerly, previous, Two, and, or, since, Arguments, Term, Terms, Aggregate, one, two, predicate, comparison, exists, tp, opaque, noArgument, argument, entity, literal, contextField, scopeField, var, wildcard, array, aggregate, arith, sigil, nil, cons, sum, count, call}
+use Rattle.condition.specs.Condition.{Window, unsaid, parameter, Condition, One, negation, refine, formerly, previous, Two, and, or, since, Arguments, Term, Terms, Aggregate, one, two, predicate, comparison, exists, tp, opaque, noArgument, argument, entity, literal, contextField, scopeField, var, wildcard, array, aggregate, arith, sigil, nil, cons, sum, count, call}
 use Rattle.condition.specs.Places.{isRecord, recordIn, versionIn}
 use Rattle.typecheck.specs.Check.{checkWith}
 use Rattle.sums.specs.Sums.{sums}
@@ -57,6 +57,10 @@ module _ (w : Window) where
     inAggregate (sum at summand bs body) = sum at summand bs (withWindow body)
     inAggregate (count at bs body) = count at bs (withWindow body)
     inAggregate (call at) = call at
+
+-- a record of version 1 says no window
+abbrev pub NoneInFirst : Type 0
+NoneInFirst = (s : List ℕ) → isRecord s ≡ true → versionIn s ≡ 1 → withWindow unsaid (recordIn s) ≡ recordIn s
 
 -- two condition records answer alike: the same outcome, which is the answer and each byte of the buffer, whatever else is asked
 pub record Alike (a b : List ℕ) : Type 0 where
