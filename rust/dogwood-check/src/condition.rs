@@ -1,7 +1,7 @@
 //! Record 2: a condition.
 
 use crate::encode::{quoted, Class, EncodeError, Encoded, Level, Within, Writer};
-use crate::{Binder, Slot, Span, Term};
+use crate::{Binder, Slot, Span, Term, Window};
 
 /// A condition of a rule, with the place in the rule's text that reports name.
 ///
@@ -15,6 +15,9 @@ use crate::{Binder, Slot, Span, Term};
 /// assert_eq!(read_condition(&condition.encode()?), Ok(()));
 /// # Ok::<(), dogwood_check::EncodeError>(())
 /// ```
+///
+/// Of the conditions that look back (`formerly`, `previous`, `since`) all have a [`Window`], or none has: a record of
+/// version 2 holds the windows, one of version 1 holds none.
 ///
 /// A tree is dropped recursively, as any tree of boxes. Whoever builds one from a rule's text bounds its depth while
 /// parsing; [`MOST_LEVELS`](crate::MOST_LEVELS) are enough for every tree that can be encoded.
@@ -35,12 +38,12 @@ pub enum ConditionKind {
     Or(Box<Condition>, Box<Condition>),
     /// It does not hold.
     Not(Box<Condition>),
-    /// It held at some time before.
-    Formerly(Box<Condition>),
+    /// It held at some time before, in the window if there is one.
+    Formerly(Option<Window>, Box<Condition>),
     /// It held at the time just before.
-    Previous(Box<Condition>),
-    /// The right one held, and the left one ever since.
-    Since(Box<Condition>, Box<Condition>),
+    Previous(Option<Window>, Box<Condition>),
+    /// The right one held, and the left one ever since. (The window stands first, as in the record.)
+    Since(Option<Window>, Box<Condition>, Box<Condition>),
     /// An event is matched.
     Predicate(Predicate),
     /// Two terms are compared.
@@ -98,17 +101,32 @@ impl Condition {
 
     /// `formerly body`
     pub fn formerly(span: impl Into<Span>, body: Condition) -> Condition {
-        Condition::new(span, ConditionKind::Formerly(Box::new(body)))
+        Condition::new(span, ConditionKind::Formerly(None, Box::new(body)))
     }
 
     /// `previous body`
     pub fn previous(span: impl Into<Span>, body: Condition) -> Condition {
-        Condition::new(span, ConditionKind::Previous(Box::new(body)))
+        Condition::new(span, ConditionKind::Previous(None, Box::new(body)))
     }
 
     /// `left since right`
     pub fn since(span: impl Into<Span>, left: Condition, right: Condition) -> Condition {
-        Condition::new(span, ConditionKind::Since(Box::new(left), Box::new(right)))
+        Condition::new(span, ConditionKind::Since(None, Box::new(left), Box::new(right)))
+    }
+
+    /// `formerly within window body`
+    pub fn formerly_within(span: impl Into<Span>, window: Window, body: Condition) -> Condition {
+        Condition::new(span, ConditionKind::Formerly(Some(window), Box::new(body)))
+    }
+
+    /// `previous within window body`
+    pub fn previous_within(span: impl Into<Span>, window: Window, body: Condition) -> Condition {
+        Condition::new(span, ConditionKind::Previous(Some(window), Box::new(body)))
+    }
+
+    /// `left since within window right`
+    pub fn since_within(span: impl Into<Span>, left: Condition, window: Window, right: Condition) -> Condition {
+        Condition::new(span, ConditionKind::Since(Some(window), Box::new(left), Box::new(right)))
     }
 
     /// A predicate whose own span is that of the condition.
@@ -158,7 +176,8 @@ impl Condition {
         Condition::new(span, ConditionKind::Refine(Box::new(base)))
     }
 
-    /// The bytes of the record with this condition as its root.
+    /// The bytes of the record with this condition as its root: of version 2 where the conditions that look back have
+    /// their windows, else of version 1.
     pub fn encode(&self) -> Result<Vec<u8>, EncodeError> {
         Writer::record(b"DWC", |out| self.write(out, Level::ROOT))
     }
@@ -177,8 +196,8 @@ impl ConditionKind {
             ConditionKind::And(..) => 1,
             ConditionKind::Or(..) => 2,
             ConditionKind::Not(_) => 3,
-            ConditionKind::Formerly(_) => 4,
-            ConditionKind::Previous(_) => 5,
+            ConditionKind::Formerly(..) => 4,
+            ConditionKind::Previous(..) => 5,
             ConditionKind::Since(..) => 6,
             ConditionKind::Predicate(_) => 7,
             ConditionKind::Comparison(..) => 8,
@@ -193,14 +212,20 @@ impl ConditionKind {
     /// What stands behind the kind and the span, of a condition at this level.
     fn write(&self, out: &mut Writer, level: Level) -> Encoded {
         match self {
-            ConditionKind::And(left, right) | ConditionKind::Or(left, right) | ConditionKind::Since(left, right) => {
+            ConditionKind::And(left, right) | ConditionKind::Or(left, right) => {
                 left.write(out, level.below()?)?;
                 right.write(out, level.below()?)
             }
-            ConditionKind::Not(inner)
-            | ConditionKind::Formerly(inner)
-            | ConditionKind::Previous(inner)
-            | ConditionKind::Refine(inner) => inner.write(out, level.below()?),
+            ConditionKind::Since(window, left, right) => {
+                out.window(*window)?;
+                left.write(out, level.below()?)?;
+                right.write(out, level.below()?)
+            }
+            ConditionKind::Not(inner) | ConditionKind::Refine(inner) => inner.write(out, level.below()?),
+            ConditionKind::Formerly(window, body) | ConditionKind::Previous(window, body) => {
+                out.window(*window)?;
+                body.write(out, level.below()?)
+            }
             ConditionKind::Predicate(predicate) => predicate.write(out, level),
             ConditionKind::Comparison(operator, left, right) => {
                 out.byte(*operator as u8);

@@ -11,6 +11,11 @@ pub enum DecodeError {
         /// How many whole reports stand before it.
         index: usize,
     },
+    /// There is no whole window with this number, from 0.
+    Window {
+        /// How many whole windows stand before it.
+        index: usize,
+    },
     /// The bytes are no output of a lookup.
     ScopePath,
 }
@@ -19,6 +24,7 @@ impl fmt::Display for DecodeError {
     fn fmt(&self, f: &mut fmt::Formatter) -> fmt::Result {
         match self {
             DecodeError::Report { index } => write!(f, "no whole report stands behind the first {index}"),
+            DecodeError::Window { index } => write!(f, "no whole window stands behind the first {index}"),
             DecodeError::ScopePath => write!(f, "these bytes are not the output of a lookup"),
         }
     }

@@ -1,8 +1,8 @@
 //! The temporal type check of Dogwood, as proved in Rattle, for Rust servers.
 //!
 //! A server that takes rules in asks [`check`] whether a rule's condition compares what can be compared, and [`sums`]
-//! whether it adds up numbers alone; [`lookup`] says what a path under `principal` or `resource` is. All three work
-//! on records, byte strings in a format that `docs/RECORDS.md` of the repository describes. [`Schema`],
+//! whether it adds up numbers alone; [`lookup`] says what a path under `principal` or `resource` is, and [`windows`] how
+//! far back a condition looks, counted in the sweeps of an archive. All of them work on records, byte strings in a format that `docs/RECORDS.md` of the repository describes. [`Schema`],
 //! [`Condition`], [`Targets`] and [`Path`] build them from trees: what the format cannot hold is an [`EncodeError`]
 //! and never a wrong record.
 //!
@@ -30,7 +30,7 @@
 //!
 //! # Two layers
 //!
-//! [`check_with`], [`sums_into`] and [`lookup_into`] take lent space and allocate nothing; [`check_into`] takes a lent
+//! [`check_with`], [`sums_into`], [`windows_into`] and [`lookup_into`] take lent space and allocate nothing; [`check_into`] takes a lent
 //! buffer, and workspace of its own where a request may have very many reports. [`Reports`] and [`ScopePath::decode`]
 //! read what they write. [`check`], [`sums`] and [`lookup`] take the space they need, up to [`MOST_SPACE`], and give owned
 //! values; [`Findings`] say whether there were more reports than that holds.
@@ -69,6 +69,7 @@ mod scope_path;
 mod span;
 mod targets;
 mod term;
+mod window;
 
 pub use answer::{Answer, CheckAnswer};
 pub use binder::{Annotation, Binder, Slot};
@@ -78,7 +79,7 @@ pub use encode::{Class, EncodeError, Problem, MOST_BYTES, MOST_LEVELS, MOST_TEXT
 pub use findings::Findings;
 pub use operations::{
     check, check_into, check_with, lookup, lookup_into, read_condition, read_path, read_schema, read_targets, sums,
-    sums_into, workspace_for, MOST_SPACE,
+    sums_into, windows, windows_into, workspace_for, MOST_SPACE,
 };
 pub use path::{Path, Scope};
 pub use refusal::{Cause, RecordKind, Refusal};
@@ -89,6 +90,7 @@ pub use scope_path::ScopePath;
 pub use span::Span;
 pub use targets::{Narrowing, Target, Targets};
 pub use term::{Aggregate, AggregateKind, Term};
+pub use window::{ListedWindow, ListedWindows, TimeUnit, Window};
 
 /// The example of README.md runs with the documentation's.
 #[cfg(doctest)]

@@ -3,7 +3,7 @@
 use std::collections::hash_map::RandomState;
 use std::hash::{BuildHasher, Hasher};
 
-use crate::{ffi, Answer, Cause, CheckAnswer, Findings, Refusal, Reports, Rules, ScopePath};
+use crate::{ffi, Answer, Cause, CheckAnswer, Findings, Refusal, Reports, Rules, ScopePath, ListedWindow, ListedWindows};
 
 /// The space that [`check`], [`sums`] and [`lookup`] begin with: 64 KiB, which hold hundreds of reports.
 const FIRST_SPACE: usize = 64 << 10;
@@ -154,6 +154,15 @@ pub fn sums_into(condition: &[u8], reports: &mut [u8]) -> Answer {
     Answer::new(ffi::sums(condition, reports))
 }
 
+/// Lists the windows of a condition in sweeps of a period of so many seconds, with a lent buffer for the entries.
+///
+/// Without refusal the buffer begins with [`count`](Answer::count) entries, which [`ListedWindows`] decodes. After
+/// [`Cause::NoSpace`] it begins with the `count` entries before the first that does not fit. After any other refusal,
+/// and behind the entries, the buffer is as it was. A period of 0 is [`Cause::NoPeriod`], once the condition was read.
+pub fn windows_into(condition: &[u8], period: u64, output: &mut [u8]) -> Answer {
+    Answer::new(ffi::windows(condition, period, output))
+}
+
 /// Looks a path up for one target, with a lent buffer for the output.
 ///
 /// Without refusal the buffer begins with [`count`](Answer::count) bytes, which [`ScopePath::decode`] takes apart,
@@ -207,6 +216,24 @@ pub fn check(schema: &[u8], condition: &[u8], targets: &[u8]) -> Result<Findings
 /// ```
 pub fn sums(condition: &[u8]) -> Result<Findings, Refusal> {
     findings(in_space(|buffer| sums_into(condition, buffer)))
+}
+
+/// Lists the windows of a condition in sweeps of a period of so many seconds, in the order in which a check visits the
+/// conditions. Windows that are a macro's parameter are left out, and so are those that no check visits, in an aggregate
+/// that is a predicate's argument. A condition of version 1 has none.
+///
+/// ```
+/// use dogwood_check::{windows, Condition, ListedWindow, Window};
+///
+/// // formerly within 90m f(), swept every hour
+/// let condition = Condition::formerly_within(0..23, Window::minutes(90), Condition::call(20..23)).encode()?;
+/// assert_eq!(windows(&condition, 3_600)?, [ListedWindow { start: 0, sweeps: 1, rest: 1_800 }]);
+/// # Ok::<(), Box<dyn std::error::Error>>(())
+/// ```
+pub fn windows(condition: &[u8], period: u64) -> Result<Vec<ListedWindow>, Refusal> {
+    let (buffer, answer) = in_space(|buffer| windows_into(condition, period, buffer));
+    let count = answer.into_result()?;
+    Ok(ListedWindows::new(&buffer, count).expect("the library writes whole entries").collect())
 }
 
 /// Says how a path under principal or resource resolves for one target.

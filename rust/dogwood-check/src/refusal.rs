@@ -5,7 +5,7 @@ use std::fmt;
 
 /// The cause of a refusal. Its number is the one that the library returns.
 ///
-/// The numbers 1 to 10 are met while a record is read: the first one from the left counts.
+/// The numbers 1 to 10 and 13 are met while a record is read: the first one from the left counts.
 #[derive(Clone, Copy, Debug, PartialEq, Eq, Hash)]
 #[non_exhaustive]
 #[repr(u8)]
@@ -34,11 +34,15 @@ pub enum Cause {
     NoSpace = 11,
     /// The position is not in the list of targets.
     NoSuchTarget = 12,
+    /// A window is negative, or above 2^63 - 1 seconds.
+    WindowOutOfRange = 13,
+    /// The period of a listing is 0.
+    NoPeriod = 14,
 }
 
 impl Cause {
     /// Every cause, in the order of the numbers.
-    pub const ALL: [Cause; 12] = [
+    pub const ALL: [Cause; 14] = [
         Cause::TooLong,
         Cause::Cut,
         Cause::OtherMark,
@@ -51,9 +55,11 @@ impl Cause {
         Cause::BytesAfter,
         Cause::NoSpace,
         Cause::NoSuchTarget,
+        Cause::WindowOutOfRange,
+        Cause::NoPeriod,
     ];
 
-    /// The library's number of this cause, 1 to 12.
+    /// The library's number of this cause, 1 to 14.
     pub fn number(self) -> u8 {
         self as u8
     }
@@ -105,6 +111,10 @@ impl Cause {
                 MOST_SPACE >> 20
             ),
             Cause::NoSuchTarget => write!(f, "the position asked for is not in the list of targets"),
+            Cause::WindowOutOfRange => {
+                write!(f, "{subject} has a window that is negative or above {} seconds", i64::MAX)
+            }
+            Cause::NoPeriod => write!(f, "a period of 0 seconds cannot be asked for"),
         }
     }
 }
@@ -187,7 +197,7 @@ fn known<T>(number: u8, meaning: fn(u8) -> Option<T>) -> Option<T> {
 pub struct Refusal {
     /// Why.
     pub cause: Cause,
-    /// Which record; none for [`Cause::NoSpace`].
+    /// Which record; none for [`Cause::NoSpace`] and [`Cause::NoPeriod`].
     pub record: Option<RecordKind>,
 }
 

@@ -46,6 +46,9 @@ fn offending(record: RecordKind, cause: Cause) -> Option<Vec<u8>> {
         (Cause::Cut, _) => Some(good(record)[..good(record).len() - 1].to_vec()),
         (Cause::OtherMark, _) => front(record, b"DWX"),
         (Cause::OtherVersion, _) => front(record, &[&good(record)[..3], &[0, 9]].concat()),
+        (Cause::WindowOutOfRange, Condition) => {
+            front(record, b"DWC\0\x02\x04\0\0\0\0\0\0\0\0\0\x03\xFF\xFF\xFF\xFF\xFF\xFF\xFF\xFF")
+        }
         (Cause::UndefinedChoice, Schema) => fields(record, b"\0\0\0\x01\x01A\0\0\0\x0B"),
         (Cause::UndefinedChoice, Condition) => fields(record, &[14]),
         (Cause::UndefinedChoice, Targets) => fields(record, &[0, 5]),
@@ -72,6 +75,7 @@ const CHECK: Operation = (&[RecordKind::Schema, RecordKind::Condition, RecordKin
     answer.answer
 });
 const SUMS: Operation = (&[RecordKind::Condition], |records, buffer| sums_into(&records[0], buffer));
+const WINDOWS: Operation = (&[RecordKind::Condition], |records, buffer| windows_into(&records[0], 60, buffer));
 const LOOKUP: Operation = (&[RecordKind::Schema, RecordKind::Targets, RecordKind::Path], |records, buffer| {
     lookup_into(&records[0], &records[1], &records[2], buffer)
 });
@@ -99,12 +103,12 @@ fn the_readers_refuse() {
             }
         }
     }
-    assert_eq!(refusals, 9 + 9 + 7 + 7);
+    assert_eq!(refusals, 9 + 10 + 7 + 7);
 }
 
 #[test]
 fn the_operations_refuse() {
-    for operation in [CHECK, SUMS, LOOKUP] {
+    for operation in [CHECK, SUMS, WINDOWS, LOOKUP] {
         for (place, record) in operation.0.iter().enumerate() {
             for (cause, bytes) in Cause::ALL.into_iter().filter_map(|cause| Some((cause, offending(*record, cause)?))) {
                 let mut records: Vec<Vec<u8>> = operation.0.iter().map(|record| good(*record).to_vec()).collect();
@@ -130,6 +134,24 @@ fn a_position_that_is_not_in_the_list() {
     assert_eq!(refusal.to_string(), "the position asked for is not in the list of targets");
     let cut = [&path[..path.len() - 1]].concat();
     assert_eq!(call(LOOKUP, &[records[0].clone(), records[1].clone(), cut]), refused(Cause::Cut, RecordKind::Path));
+}
+
+/// Number 14 comes behind the record's own numbers and before 11, whether or not there is a window.
+#[test]
+fn a_period_of_nothing() {
+    let no_period = Answer { refusal: Some(Refusal { cause: Cause::NoPeriod, record: None }), count: 0 };
+    let windowed = Condition::formerly_within(0..9, Window::seconds(5), Condition::call(0..0)).encode().unwrap();
+    for condition in [CONDITION, &windowed] {
+        let mut buffer = [0xA5; 64];
+        assert_eq!(windows_into(condition, 0, &mut buffer), no_period);
+        assert_eq!(buffer, [0xA5; 64]);
+        assert_eq!(windows_into(condition, 0, &mut []), no_period);
+        assert_eq!(windows(condition, 0), Err(no_period.refusal.unwrap()));
+        let after = [condition, &[0]].concat();
+        assert_eq!(windows_into(&after, 0, &mut buffer), refused(Cause::BytesAfter, RecordKind::Condition));
+    }
+    assert_eq!(no_period.refusal.unwrap().to_string(), "a period of 0 seconds cannot be asked for");
+    assert_eq!((no_period.number(), no_period.record()), (14, 0));
 }
 
 /// Number 11 of a lookup leaves the buffer alone; that of check and sums is in `reports.rs`.
@@ -173,8 +195,8 @@ fn refusals_by_the_owned_calls() {
 #[test]
 fn numbers_and_sentences() {
     let numbers: Vec<u8> = Cause::ALL.iter().map(|cause| cause.number()).collect();
-    assert_eq!(numbers, (1..=12).collect::<Vec<u8>>());
-    assert_eq!([0, 13, 255].map(Cause::from_number), [None; 3]);
+    assert_eq!(numbers, (1..=14).collect::<Vec<u8>>());
+    assert_eq!([0, 15, 255].map(Cause::from_number), [None; 3]);
     assert_eq!(RECORDS.map(RecordKind::number), [1, 2, 3, 4]);
     assert_eq!([0, 5].map(RecordKind::from_number), [None; 2]);
     let mut sentences = std::collections::BTreeSet::new();
@@ -182,7 +204,7 @@ fn numbers_and_sentences() {
         assert_eq!(Cause::from_number(cause.number()), Some(cause));
         assert!(sentences.insert(cause.to_string()));
         let refusal = Refusal { cause, record: Some(RecordKind::Condition) };
-        if cause.number() <= 10 {
+        if cause.number() <= 10 || cause == Cause::WindowOutOfRange {
             assert!(refusal.to_string().starts_with("the condition "), "{refusal}");
         }
     }

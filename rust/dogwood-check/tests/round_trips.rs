@@ -101,10 +101,14 @@ enum Damage {
     AggregateInArray,
     /// An annotation without segments.
     NoSegments,
+    /// A window that is negative, or too long by one of its unit.
+    OtherWindow,
+    /// A window beside a condition that has none, or none beside one that has.
+    OneWindow,
 }
 
 impl Damage {
-    const ALL: [Damage; 7] = [
+    const ALL: [Damage; 9] = [
         Damage::LongText,
         Damage::OtherClass,
         Damage::LongList,
@@ -112,6 +116,8 @@ impl Damage {
         Damage::Twice,
         Damage::AggregateInArray,
         Damage::NoSegments,
+        Damage::OtherWindow,
+        Damage::OneWindow,
     ];
 
     fn is_named_by(self, problem: &Problem) -> bool {
@@ -123,6 +129,8 @@ impl Damage {
             Damage::Twice => matches!(problem, Problem::Repeated { .. }),
             Damage::AggregateInArray => *problem == Problem::AggregateBelowArray,
             Damage::NoSegments => *problem == Problem::NoSegments,
+            Damage::OtherWindow => matches!(problem, Problem::WindowOutOfRange { .. }),
+            Damage::OneWindow => *problem == Problem::WindowMissing,
         }
     }
 
@@ -139,6 +147,7 @@ impl Damage {
                     | Part::Type(..)
                     | Part::Condition(..)
                     | Part::Term(..)
+                    | Part::Window(_)
             ),
             Damage::Deep => matches!(part, Part::Type(..) | Part::Condition(..) | Part::Term(..)),
             Damage::Twice => match part {
@@ -151,6 +160,8 @@ impl Damage {
             // an array there, arithmetic in it, and the aggregate in that, at level 32 at most
             Damage::AggregateInArray => matches!(part, Part::Term(..31, _)),
             Damage::NoSegments => matches!(part, Part::Segments(_)),
+            Damage::OtherWindow => matches!(part, Part::Window(Some(_))),
+            Damage::OneWindow => matches!(part, Part::Condition(..31, _)),
         }
     }
 
@@ -182,6 +193,8 @@ impl Damage {
             Damage::Twice => repeat(part),
             Damage::AggregateInArray => put_aggregate(part, rng),
             Damage::NoSegments => clear(part),
+            Damage::OtherWindow => put_window(part, rng),
+            Damage::OneWindow => put_two(part, rng),
         }
     }
 }
@@ -275,6 +288,27 @@ fn clear(part: Part) {
     segments.clear();
 }
 
+fn put_window(part: Part, rng: &mut Rng) {
+    let Part::Window(window) = part else { unreachable!() };
+    let unit = *rng.pick(&TimeUnit::ALL);
+    let amount = match (unit, rng.below(2)) {
+        (TimeUnit::Seconds, _) | (_, 0) => *rng.pick(&[-1, i64::MIN]),
+        _ => i64::MAX / unit.seconds() + 1,
+    };
+    *window = Some(Window::Within { amount, unit });
+}
+
+/// Two conditions that look back, one with a window and one without.
+fn put_two(part: Part, rng: &mut Rng) {
+    let Part::Condition(_, condition) = part else { unreachable!() };
+    let call = || Condition::call(0..0);
+    let (one, other) = (Condition::previous(0..0, call()), Condition::formerly_within(0..0, Window::ParamRef, call()));
+    *condition = match rng.below(2) {
+        0 => Condition::and(0..0, one, other),
+        _ => Condition::and(0..0, other, one),
+    };
+}
+
 #[test]
 fn schemas_are_read() {
     SCHEMAS.accepted();
@@ -309,6 +343,8 @@ fn damaged_conditions_are_errors() {
         Damage::Deep,
         Damage::AggregateInArray,
         Damage::NoSegments,
+        Damage::OtherWindow,
+        Damage::OneWindow,
     ];
     CONDITIONS.finds(&wanted, 100);
 }

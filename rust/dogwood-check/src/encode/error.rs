@@ -1,7 +1,7 @@
 //! What cannot be written as a record.
 
 use super::{Class, MOST_BYTES, MOST_LEVELS, MOST_TEXT};
-use crate::{Cause, Span};
+use crate::{Cause, Span, TimeUnit};
 use std::fmt;
 
 /// A tree that is no record: what is wrong with it, and where.
@@ -68,6 +68,15 @@ pub enum Problem {
     AggregateBelowArray,
     /// A binder's annotation has no segments.
     NoSegments,
+    /// A window is negative, or above 2^63 - 1 seconds.
+    WindowOutOfRange {
+        /// How many.
+        amount: i64,
+        /// Of which unit.
+        unit: TimeUnit,
+    },
+    /// Of the conditions that look back some have a window and some have none.
+    WindowMissing,
 }
 
 impl EncodeError {
@@ -89,7 +98,10 @@ impl EncodeError {
             Problem::TooDeep => Some(Cause::TooDeep),
             Problem::Repeated { .. } => Some(Cause::NotAscending),
             Problem::AggregateBelowArray => Some(Cause::AggregateBelowArray),
-            Problem::TextTooLong { .. } | Problem::TooMany { .. } | Problem::NoSegments => None,
+            Problem::WindowOutOfRange { .. } => Some(Cause::WindowOutOfRange),
+            Problem::TextTooLong { .. } | Problem::TooMany { .. } | Problem::NoSegments | Problem::WindowMissing => {
+                None
+            }
         }
     }
 }
@@ -128,6 +140,15 @@ impl fmt::Display for Problem {
             Problem::Repeated { name } => write!(f, "{} is given twice", quoted(name)),
             Problem::AggregateBelowArray => write!(f, "a sum or count stands inside an array, where none may stand"),
             Problem::NoSegments => write!(f, "a type annotation has no name"),
+            Problem::WindowOutOfRange { amount, unit } => write!(
+                f,
+                "the window of {amount} {} is negative or above {} seconds",
+                format!("{unit:?}").to_lowercase(),
+                i64::MAX
+            ),
+            Problem::WindowMissing => {
+                write!(f, "of the conditions that look back some have a window and some have none")
+            }
         }
     }
 }

@@ -1,19 +1,23 @@
 //! The fields of a record, written one after the other.
 
 use super::{Class, EncodeError, Encoded, Problem, Within, MOST_BYTES, MOST_TEXT};
-use crate::Span;
+use crate::{Span, Window};
 
 /// A record so far.
 pub(crate) struct Writer {
     bytes: Vec<u8>,
+    /// Whether the conditions that look back have windows; none where there was no such condition yet.
+    windows: Option<bool>,
 }
 
 impl Writer {
-    /// A record's mark and version, what `fields` writes, and a look at the size.
+    /// A record's mark and version, what `fields` writes, and a look at the size. With windows it is of version 2.
     pub(crate) fn record(mark: &[u8; 3], fields: impl FnOnce(&mut Writer) -> Encoded) -> Result<Vec<u8>, EncodeError> {
-        let mut out = Writer { bytes: mark.to_vec() };
-        out.number16(1);
+        let mut out = Writer { bytes: [mark.as_slice(), &[0, 1]].concat(), windows: None };
         fields(&mut out)?;
+        if out.windows == Some(true) {
+            out.bytes[4] = 2;
+        }
         if out.bytes.len() > MOST_BYTES {
             return Err(Problem::TooLong { bytes: out.bytes.len() }.into());
         }
@@ -26,6 +30,18 @@ impl Writer {
 
     fn number16(&mut self, number: u16) {
         self.bytes.extend(number.to_be_bytes());
+    }
+
+    pub(crate) fn number64(&mut self, number: i64) {
+        self.bytes.extend(number.to_be_bytes());
+    }
+
+    /// The window of a condition that looks back: all of them have one, or none has.
+    pub(crate) fn window(&mut self, window: Option<Window>) -> Encoded {
+        if *self.windows.get_or_insert(window.is_some()) != window.is_some() {
+            return Err(Problem::WindowMissing.into());
+        }
+        window.map_or(Ok(()), |window| window.write(self))
     }
 
     pub(crate) fn span(&mut self, span: Span) {

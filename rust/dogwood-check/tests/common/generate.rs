@@ -11,16 +11,19 @@ pub struct Trees {
     pub rng: Rng,
     left: usize,
     deep: usize,
+    /// Whether the conditions of the tree that look back have windows.
+    windows: bool,
 }
 
 impl Trees {
     pub fn new(seed: u64) -> Trees {
-        Trees { rng: Rng::new(seed), left: 0, deep: 0 }
+        Trees { rng: Rng::new(seed), left: 0, deep: 0, windows: false }
     }
 
     fn begin(&mut self) {
         self.left = 1 + self.rng.below(120);
         self.deep = 1 + self.rng.below(40);
+        self.windows = self.rng.once_in(2);
     }
 
     /// Whether the node at this level may have others below it.
@@ -164,9 +167,9 @@ impl Trees {
             0 => ConditionKind::And(self.boxed(below), self.boxed(below)),
             1 => ConditionKind::Or(self.boxed(below), self.boxed(below)),
             2 => ConditionKind::Not(self.boxed(below)),
-            3 => ConditionKind::Formerly(self.boxed(below)),
-            4 => ConditionKind::Previous(self.boxed(below)),
-            5 => ConditionKind::Since(self.boxed(below), self.boxed(below)),
+            3 => ConditionKind::Formerly(self.window(), self.boxed(below)),
+            4 => ConditionKind::Previous(self.window(), self.boxed(below)),
+            5 => ConditionKind::Since(self.window(), self.boxed(below), self.boxed(below)),
             6 => ConditionKind::Refine(self.boxed(below)),
             7 => ConditionKind::Exists(self.binder(), self.boxed(below)),
             8 => ConditionKind::Predicate(self.predicate(level)),
@@ -176,6 +179,23 @@ impl Trees {
                 ConditionKind::Comparison(operator, self.term(below, false), self.term(below, false))
             }
         }
+    }
+
+    /// A window as long as a record holds it, often the longest of its unit; none in a record of version 1.
+    fn window(&mut self) -> Option<Window> {
+        if !self.windows {
+            return None;
+        }
+        if self.rng.once_in(4) {
+            return Some(Window::ParamRef);
+        }
+        let unit = *self.rng.pick(&TimeUnit::ALL);
+        let most = i64::MAX / unit.seconds();
+        let amount = match self.rng.below(3) {
+            0 => most - self.rng.below(2) as i64,
+            _ => self.rng.below(1_000) as i64,
+        };
+        Some(Window::Within { amount, unit })
     }
 
     /// The predicate of a condition at this level; at the deepest one it has no arguments.

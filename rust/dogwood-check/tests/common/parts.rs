@@ -23,6 +23,8 @@ pub enum Part<'t> {
     Type(u8, &'t mut Type),
     Condition(u8, &'t mut Condition),
     Term(u8, &'t mut Term),
+    /// How far back a condition looks, if the record says that.
+    Window(&'t mut Option<Window>),
 }
 
 /// A tree whose parts can be visited.
@@ -86,14 +88,20 @@ impl Tree for Condition {
 fn condition(level: u8, it: &mut Condition, each: &mut dyn FnMut(Part)) {
     each(Part::Condition(level, it));
     match &mut it.kind {
-        ConditionKind::And(left, right) | ConditionKind::Or(left, right) | ConditionKind::Since(left, right) => {
+        ConditionKind::And(left, right) | ConditionKind::Or(left, right) => {
             condition(level + 1, left, each);
             condition(level + 1, right, each);
         }
-        ConditionKind::Not(inner)
-        | ConditionKind::Formerly(inner)
-        | ConditionKind::Previous(inner)
-        | ConditionKind::Refine(inner) => condition(level + 1, inner, each),
+        ConditionKind::Since(window, left, right) => {
+            each(Part::Window(window));
+            condition(level + 1, left, each);
+            condition(level + 1, right, each);
+        }
+        ConditionKind::Not(inner) | ConditionKind::Refine(inner) => condition(level + 1, inner, each),
+        ConditionKind::Formerly(window, body) | ConditionKind::Previous(window, body) => {
+            each(Part::Window(window));
+            condition(level + 1, body, each);
+        }
         ConditionKind::Predicate(predicate) => {
             texts(Class::PathName, &mut predicate.namespaces, each);
             each(Part::Text(Class::Plain, &mut predicate.action));

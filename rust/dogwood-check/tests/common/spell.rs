@@ -3,13 +3,13 @@
 
 use dogwood_check::*;
 
-/// The bytes of a record so far.
+/// The bytes of a record so far, and whether there is a window in them.
 #[derive(Default)]
-pub struct Bytes(Vec<u8>);
+pub struct Bytes(Vec<u8>, bool);
 
 impl Bytes {
     fn begin(mark: &[u8; 3]) -> Bytes {
-        Bytes([mark.as_slice(), &[0, 1]].concat())
+        Bytes([mark.as_slice(), &[0, 1]].concat(), false)
     }
 
     fn byte(&mut self, byte: u8) {
@@ -109,6 +109,9 @@ fn ty(out: &mut Bytes, ty: &Type) {
 pub fn condition_record(root: &Condition) -> Vec<u8> {
     let mut out = Bytes::begin(b"DWC");
     condition(&mut out, root);
+    if out.1 {
+        out.0[4] = 2;
+    }
     out.0
 }
 
@@ -132,16 +135,19 @@ fn condition(out: &mut Bytes, it: &Condition) {
             head(3);
             condition(out, inner);
         }
-        ConditionKind::Formerly(inner) => {
+        ConditionKind::Formerly(within, inner) => {
             head(4);
+            window(out, within);
             condition(out, inner);
         }
-        ConditionKind::Previous(inner) => {
+        ConditionKind::Previous(within, inner) => {
             head(5);
+            window(out, within);
             condition(out, inner);
         }
-        ConditionKind::Since(left, right) => {
+        ConditionKind::Since(within, left, right) => {
             head(6);
+            window(out, within);
             condition(out, left);
             condition(out, right);
         }
@@ -184,6 +190,24 @@ fn condition(out: &mut Bytes, it: &Condition) {
         ConditionKind::Refine(inner) => {
             head(13);
             condition(out, inner);
+        }
+    }
+}
+
+fn window(out: &mut Bytes, window: &Option<Window>) {
+    out.1 |= window.is_some();
+    match window {
+        None => {}
+        Some(Window::ParamRef) => out.byte(1),
+        Some(Window::Within { amount, unit }) => {
+            out.byte(0);
+            out.byte(match unit {
+                TimeUnit::Seconds => 0,
+                TimeUnit::Minutes => 1,
+                TimeUnit::Hours => 2,
+                TimeUnit::Days => 3,
+            });
+            out.0.extend(amount.to_be_bytes());
         }
     }
 }
