@@ -33,6 +33,7 @@ pub use simple::simple_start;
 pub use writer::put;
 pub use writer::put_u16;
 pub use writer::put_u32;
+pub use writer::put_u64;
 
 // Where the next byte stands, or the number of the refusal.
 pub enum Read {

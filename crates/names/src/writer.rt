@@ -37,3 +37,12 @@ pub fn put_u32(buf: &mut [u8], at: usize, n: u32) -> usize
     buf[at + 3] = (n % 256) as u8;
     at + 4
 }
+
+// The eight bytes of a number, the highest first: those of its two halves.
+pub fn put_u64(buf: &mut [u8], at: usize, n: u64) -> usize
+    requires { ⌜ at + 8 ≤ length (now buf) ⌝ }
+    ensures { λ r. ⌜ Stored (now (buf .entry)) at (digits 8 n) (now (buf .exit)) r ⌝ }
+{
+    let next = put_u32(buf, at, (n / 4294967296) as u32);
+    put_u32(buf, next, (n % 4294967296) as u32)
+}

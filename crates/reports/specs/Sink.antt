@@ -73,9 +73,9 @@ pub record Sound (s : Sink) : Type 0 where
   pub within : s .state .used ≤ length (s .bytes)
 
 -- ---- what a function that may report does: from the bytes and the state before it to those after it, its breaches are put in one by one, and the buffer is fit
--- for the next
+-- for the next. (What is put in may be something else than a breach: f says how it is put in.)
 
-pub record Recorded (f : Sink → Breach → Sink) (fit : Sink → Type 0) (before : List ℕ) (st : State) (bs : List Breach) (after : List ℕ) (st′ : State) : Type 0 where
+pub record Recorded {B : Type 0} (f : Sink → B → Sink) (fit : Sink → Type 0) (before : List ℕ) (st : State) (bs : List B) (after : List ℕ) (st′ : State) : Type 0 where
   pub still : fit (sink after st′)
   pub is : sink after st′ ≡ fold f (sink before st) bs
 

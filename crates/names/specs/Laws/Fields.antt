@@ -32,6 +32,22 @@ four-digits n h =
     let e : n / 256 / 256 / 256 ≡ n / 256 / 256 / 256 % 256 = omega arith in
     ap (λ (d : ℕ). d ∷ n / 256 / 256 % 256 ∷ n / 256 % 256 ∷ n % 256 ∷ []) e
 
+-- eight digits are those of the two halves
+pub eight-digits : (n : ℕ) → digits 4 (n / 4294967296) ++ digits 4 (n % 4294967296) ≡ digits 8 n
+unfolding digits
+eight-digits n =
+    let h = n / 4294967296 in
+    let l = n % 4294967296 in
+    let a : h / 256 / 256 / 256 ≡ n / 256 / 256 / 256 / 256 / 256 / 256 / 256 = omega arith in
+    let b : h / 256 / 256 % 256 ≡ n / 256 / 256 / 256 / 256 / 256 / 256 % 256 = omega arith in
+    let c : h / 256 % 256 ≡ n / 256 / 256 / 256 / 256 / 256 % 256 = omega arith in
+    let d : h % 256 ≡ n / 256 / 256 / 256 / 256 % 256 = omega arith in
+    let e : l / 256 / 256 / 256 ≡ n / 256 / 256 / 256 % 256 = omega arith in
+    let f : l / 256 / 256 % 256 ≡ n / 256 / 256 % 256 = omega arith in
+    let g : l / 256 % 256 ≡ n / 256 % 256 = omega arith in
+    let z : l % 256 ≡ n % 256 = omega arith in
+    λ i. a i ∷ b i ∷ c i ∷ d i ∷ e i ∷ f i ∷ g i ∷ z i ∷ []
+
 pub length-digits : (k n : ℕ) → length (digits k n) ≡ k
 unfolding digits
 length-digits zero n = refl

@@ -119,19 +119,19 @@ pub sound-push : (s : Sink) (b : Breach) → Sound s → Sound (push s b)
 unfolding push
 sound-push s b p = elim (anyOf (samePair b) (held s)) as (λ t. Sound (cond t s (append s b))) [ true ↦ p | false ↦ sound-append s b p ]
 
--- ---- for a caller; f is `push` or `append`
+-- ---- for a caller; f is `push` or `append`, or puts in something else than breaches
 
 -- nothing is reported; one call behind the other
-module _ {f : Sink → Breach → Sink} {fit : Sink → Type 0} where
+module _ {B : Type 0} {f : Sink → B → Sink} {fit : Sink → Type 0} where
   pub recorded-none : (s : List ℕ) (st : State) → fit (sink s st) → Recorded f fit s st [] s st
   unfolding fold
   recorded-none s st p = record { still = p; is = refl }
 
-  module _ {s s′ : List ℕ} {st st′ : State} {xs : List Breach} (p : Recorded f fit s st xs s′ st′) where
-    pub recorded-more : (ys : List Breach) → fold f (sink s′ st′) ys ≡ fold f (sink s st) (xs ++ ys)
+  module _ {s s′ : List ℕ} {st st′ : State} {xs : List B} (p : Recorded f fit s st xs s′ st′) where
+    pub recorded-more : (ys : List B) → fold f (sink s′ st′) ys ≡ fold f (sink s st) (xs ++ ys)
     recorded-more ys = ap (λ (t : Sink). fold f t ys) (p .is) ∙ sym (fold-append f (sink s st) xs ys)
 
-    pub recorded-then : {next : Sink → Type 0} {s″ : List ℕ} {st″ : State} {ys : List Breach} → Recorded f next s′ st′ ys s″ st″ → Recorded f next s st (xs ++ ys) s″ st″
+    pub recorded-then : {next : Sink → Type 0} {s″ : List ℕ} {st″ : State} {ys : List B} → Recorded f next s′ st′ ys s″ st″ → Recorded f next s st (xs ++ ys) s″ st″
     recorded-then {ys = ys} q = record { still = q .still; is = q .is ∙ recorded-more ys }
 
 -- one breach
@@ -140,11 +140,11 @@ unfolding fold
 appended-one {s} {s′} {st} p b e = record { still = subst Sound (sym e) (sound-append (sink s st) b p); is = e }
 
 -- a loop that reports what g says of each of a list: what is left of the list, put in, makes the whole
-pub record Reporting {A : Type 0} (f : Sink → Breach → Sink) (fit : Sink → Type 0) (g : A → List Breach) (whole now : Sink) (left : List A) : Type 0 where
+pub record Reporting {A B : Type 0} (f : Sink → B → Sink) (fit : Sink → Type 0) (g : A → List B) (whole now : Sink) (left : List A) : Type 0 where
   pub still : fit now
   pub same : fold f now (gather g left) ≡ whole
 
-module _ {A : Type 0} (f : Sink → Breach → Sink) {fit : Sink → Type 0} (g : A → List Breach) where
+module _ {A B : Type 0} (f : Sink → B → Sink) {fit : Sink → Type 0} (g : A → List B) where
   pub reporting-begins : (s : Sink) (xs : List A) → fit s → Reporting f fit g (fold f s (gather g xs)) s xs
   reporting-begins s xs p = record { still = p; same = refl }
 
@@ -153,7 +153,7 @@ module _ {A : Type 0} (f : Sink → Breach → Sink) {fit : Sink → Type 0} (g 
   unfolding gather
   reporting-next {left = left} r p = record { still = p .still; same = recorded-more p (gather g left) ∙ r .same }
 
-  pub reporting-over : {s s′ : List ℕ} {st st′ : State} {bs : List Breach} → Reporting f fit g (fold f (sink s st) bs) (sink s′ st′) [] → Recorded f fit s st bs s′ st′
+  pub reporting-over : {s s′ : List ℕ} {st st′ : State} {bs : List B} → Reporting f fit g (fold f (sink s st) bs) (sink s′ st′) [] → Recorded f fit s st bs s′ st′
   unfolding fold gather
   reporting-over r = record { still = r .still; is = r .same }
 
