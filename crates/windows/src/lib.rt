@@ -1,0 +1,8 @@
+// The listing of a condition's windows, in sweeps of a period and the seconds left.
+//
+// | module | what it has |
+// |---|---|
+// | entries | an entry put into the lent buffer: nothing after one that did not fit, and only what fits |
+mod entries;
+
+pub use entries::enter;
