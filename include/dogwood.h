@@ -48,7 +48,7 @@ extern "C" {
  */
 #define DOGWOOD_STRICT 1
 
-/* Why there is no answer. The numbers 1 to 10 are met while a record is read, the first one from the left counts. */
+/* Why there is no answer. The numbers 1 to 10 and 13 are met while a record is read, the first one from the left counts. */
 enum dogwood_cause {
     DOGWOOD_ACCEPTED = 0,              /* no refusal */
     DOGWOOD_TOO_LONG = 1,              /* the record is above 32,768 bytes */
@@ -62,12 +62,14 @@ enum dogwood_cause {
     DOGWOOD_AGGREGATE_BELOW_ARRAY = 9, /* an aggregate anywhere below an array */
     DOGWOOD_BYTES_AFTER = 10,          /* bytes after the record's end */
     DOGWOOD_NO_SPACE = 11,             /* the output is longer than the lent buffer */
-    DOGWOOD_NO_SUCH_TARGET = 12        /* the path's position is not in the list of targets */
+    DOGWOOD_NO_SUCH_TARGET = 12,       /* the path's position is not in the list of targets */
+    DOGWOOD_WINDOW_OUT_OF_RANGE = 13,  /* a window that is negative or above 2^63 - 1 seconds */
+    DOGWOOD_NO_PERIOD = 14             /* the period of a listing is 0 */
 };
 
 /* The record that a refusal is about. */
 enum dogwood_record {
-    DOGWOOD_NO_RECORD = 0, /* success, or DOGWOOD_NO_SPACE */
+    DOGWOOD_NO_RECORD = 0, /* success, DOGWOOD_NO_SPACE or DOGWOOD_NO_PERIOD */
     DOGWOOD_SCHEMA = 1,
     DOGWOOD_CONDITION = 2,
     DOGWOOD_TARGETS = 3,
@@ -76,8 +78,8 @@ enum dogwood_record {
 
 /*
  * What a call answers: a number of enum dogwood_cause and one of enum dogwood_record, both 0 on success, and a count. The
- * count is of the reports (check, sums) or of the output's bytes (lookup); a refusal's is 0, but for DOGWOOD_NO_SPACE of
- * check and sums, which counts the reports that were kept.
+ * count is of the reports (check, sums), of the windows, or of the output's bytes (lookup); a refusal's is 0, but for
+ * DOGWOOD_NO_SPACE of check, sums and windows, which counts the reports or windows that were kept.
  */
 struct dogwood_answer {
     uint8_t number;
@@ -101,8 +103,8 @@ struct dogwood_check_answer {
 };
 
 /*
- * Whether bytes are a schema, condition, targets or path record: 0, or the number (1 to 10) of the first thing that is
- * wrong with them.
+ * Whether bytes are a schema, condition, targets or path record: 0, or the number (1 to 10, of a condition 13 too) of the
+ * first thing that is wrong with them.
  */
 uint8_t dogwood_read_schema(const uint8_t *bytes, size_t length);
 uint8_t dogwood_read_condition(const uint8_t *bytes, size_t length);
@@ -141,7 +143,7 @@ struct dogwood_check_answer dogwood_check(const uint8_t *schema, size_t schema_l
  * reports fall on the same slots, which then takes as long as one without workspace (docs/BENCHMARKS.md). A caller who
  * takes requests from strangers puts a random number into the first slot before each call. The answer is the same for every
  * key. The key of dogwood_check's own slots is 0.
- * Number 1 to 10 leaves the workspace as it was. Otherwise its contents afterwards mean nothing. It need not be cleared
+ * A refused record (1 to 10, 13) leaves the workspace as it was. Otherwise its contents afterwards mean nothing. It need not be cleared
  * before a call; a call clears it, so that more slots than are needed cost time.
  */
 struct dogwood_check_answer dogwood_check_with(uint8_t rules,
@@ -157,6 +159,20 @@ struct dogwood_check_answer dogwood_check_with(uint8_t rules,
  */
 struct dogwood_answer dogwood_sums(const uint8_t *condition, size_t condition_length,
                                    uint8_t *reports, size_t reports_length);
+
+/*
+ * Lists the windows of a condition in sweeps of a period of so many seconds: how many whole sweeps a window has, and how many
+ * seconds are left. It needs no schema and no targets. Windows come in the order in which a check visits the conditions;
+ * those that are a macro's parameter are left out, and so are those that no check visits, in an aggregate that is a
+ * predicate's argument. A condition of version 1 has none.
+ *
+ * Number 0: the buffer begins with `count` windows, one after the other (struct dogwood_window); bytes behind them are as
+ * they were. DOGWOOD_NO_SPACE: it begins with the `count` windows that fit, and bytes behind them are as they were.
+ * Any other number: the buffer is as it was. The condition is read to its end first; then comes DOGWOOD_NO_PERIOD, whether or
+ * not there is a window (record DOGWOOD_NO_RECORD), then DOGWOOD_NO_SPACE.
+ */
+struct dogwood_answer dogwood_windows(const uint8_t *condition, size_t condition_length, uint64_t period,
+                                      uint8_t *output, size_t output_length);
 
 /* The first byte of what dogwood_lookup writes. */
 enum dogwood_status {
@@ -210,6 +226,36 @@ static inline const uint8_t *dogwood_next_report(const uint8_t *at, struct dogwo
     report->length = (uint16_t)(at[8] << 8 | at[9]);
     report->message = (const char *)(at + DOGWOOD_REPORT_HEAD);
     return at + DOGWOOD_REPORT_HEAD + report->length;
+}
+
+/*
+ * One window: where its condition starts in the rule's text, its whole sweeps, and the seconds left. Sweeps times the period
+ * and the rest are the window's seconds, and the rest is below the period.
+ * In the buffer it has DOGWOOD_WINDOW_BYTES bytes: the start (32 bits), the sweeps and the rest (64 bits each), all
+ * big-endian.
+ */
+struct dogwood_window {
+    uint32_t start;
+    uint64_t sweeps;
+    uint64_t rest;
+};
+
+#define DOGWOOD_WINDOW_BYTES 20
+
+/* A big-endian number of 64 bits. */
+static inline uint64_t dogwood_number64(const uint8_t *at) {
+    return (uint64_t)dogwood_number32(at) << 32 | dogwood_number32(at + 4);
+}
+
+/*
+ * Takes a window apart, and gives the address of the next one. It is for the `count` windows at the beginning of a buffer
+ * that dogwood_windows has filled.
+ */
+static inline const uint8_t *dogwood_next_window(const uint8_t *at, struct dogwood_window *window) {
+    window->start = dogwood_number32(at);
+    window->sweeps = dogwood_number64(at + 4);
+    window->rest = dogwood_number64(at + 12);
+    return at + DOGWOOD_WINDOW_BYTES;
 }
 
 #ifdef __cplusplus

@@ -56,6 +56,21 @@ static void test(int holds, const char *claim, int line) {
 #define SUM "\13\1" "\0\0\0\3\0\0\1\2" "\0\1v" "\0" "\13" ZERO_SPAN
 #define WRONG_SUM "DWC\0\1" "\11" ZERO_SPAN "\0\1v\1\6String" "\10" ZERO_SPAN "\4" SUM "\2"
 
+/*
+ * `formerly within 90m ..` at 5 to 6, and in it `previous within 2d ..` at 7 to 8; the first alone with a parameter, with a
+ * negative amount, with 2^63 - 1 days, and in version 1.
+ */
+#define CALL "\13" ZERO_SPAN
+#define AT_FIVE "\0\0\0\5\0\0\0\6"
+#define MINUTES_90 "\0\1" "\0\0\0\0\0\0\0\132"
+#define INNER_WINDOW "\5" "\0\0\0\7\0\0\0\10" "\0\3" "\0\0\0\0\0\0\0\2" CALL
+#define TWO_WINDOWS "DWC\0\2" "\4" AT_FIVE MINUTES_90 INNER_WINDOW
+#define PARAMETER_WINDOW "DWC\0\2" "\4" AT_FIVE "\1" CALL
+#define NEGATIVE_WINDOW "DWC\0\2" "\4" AT_FIVE "\0\0" "\377\377\377\377\377\377\377\377" CALL
+#define LONG_WINDOW "DWC\0\2" "\4" AT_FIVE "\0\3" "\177\377\377\377\377\377\377\377" CALL
+#define LONGEST_WINDOW "DWC\0\2" "\4" AT_FIVE "\0\0" "\177\377\377\377\377\377\377\377" CALL
+#define NO_WINDOW "DWC\0\1" "\4" AT_FIVE CALL
+
 /* No narrowing, the target "view". */
 #define TARGETS "DWT\0\1" "\0\0" "\1" "\0\4view"
 
@@ -339,6 +354,42 @@ static void test_sums(void) {
     TEST(refuses(answer, DOGWOOD_NO_SPACE, DOGWOOD_NO_RECORD));
 }
 
+/* ─── Windows ─── */
+
+static int has_window(const struct dogwood_window *window, uint32_t start, uint64_t sweeps, uint64_t rest) {
+    return window->start == start && window->sweeps == sweeps && window->rest == rest;
+}
+
+static void test_windows(void) {
+    struct dogwood_answer answer = dogwood_windows(BYTES(TWO_WINDOWS), 3600, fresh(), SPACE);
+    struct dogwood_window first, second;
+
+    TEST(dogwood_next_window(dogwood_next_window(buffer, &first), &second) == buffer + 2 * DOGWOOD_WINDOW_BYTES);
+    TEST(answers(answer, DOGWOOD_ACCEPTED, DOGWOOD_NO_RECORD, 2) && untouched_from(2 * DOGWOOD_WINDOW_BYTES));
+    TEST(has_window(&first, 5, 1, 1800) && has_window(&second, 7, 48, 0));
+    answer = dogwood_windows(BYTES(LONGEST_WINDOW), UINT64_MAX, fresh(), SPACE);
+    dogwood_next_window(buffer, &first);
+    TEST(answers(answer, 0, 0, 1) && has_window(&first, 5, 0, INT64_MAX));
+
+    answer = dogwood_windows(BYTES(TWO_WINDOWS), 1, fresh(), 2 * DOGWOOD_WINDOW_BYTES - 1);
+    dogwood_next_window(buffer, &first);
+    TEST(answers(answer, DOGWOOD_NO_SPACE, DOGWOOD_NO_RECORD, 1) && has_window(&first, 5, 5400, 0));
+    TEST(untouched_from(DOGWOOD_WINDOW_BYTES));
+    TEST(answers(dogwood_windows(BYTES(TWO_WINDOWS), 1, fresh(), 2 * DOGWOOD_WINDOW_BYTES), 0, 0, 2));
+
+    TEST(answers(dogwood_windows(BYTES(PARAMETER_WINDOW), 1, fresh(), SPACE), 0, 0, 0) && untouched_from(0));
+    TEST(answers(dogwood_windows(BYTES(NO_WINDOW), 1, fresh(), SPACE), 0, 0, 0) && untouched_from(0));
+    answer = dogwood_windows(BYTES(TWO_WINDOWS), 0, fresh(), 0);
+    TEST(refuses(answer, DOGWOOD_NO_PERIOD, DOGWOOD_NO_RECORD));
+    TEST(refuses(dogwood_windows(BYTES(NO_WINDOW), 0, fresh(), SPACE), DOGWOOD_NO_PERIOD, DOGWOOD_NO_RECORD));
+    answer = dogwood_windows(BYTES(NEGATIVE_WINDOW), 0, fresh(), SPACE);
+    TEST(refuses(answer, DOGWOOD_WINDOW_OUT_OF_RANGE, DOGWOOD_CONDITION));
+    TEST(dogwood_read_condition(BYTES(LONG_WINDOW)) == DOGWOOD_WINDOW_OUT_OF_RANGE);
+    TEST(refuses(dogwood_sums(BYTES(LONG_WINDOW), fresh(), SPACE), DOGWOOD_WINDOW_OUT_OF_RANGE, DOGWOOD_CONDITION));
+    TEST(dogwood_read_condition(BYTES(PARAMETER_WINDOW)) == DOGWOOD_ACCEPTED);
+    TEST(dogwood_read_condition(BYTES("DWC\0\3" "\13" ZERO_SPAN)) == DOGWOOD_OTHER_VERSION);
+}
+
 /* ─── Lookup ─── */
 
 /* Whether the output is these bytes, and what is behind them as it was. */
@@ -378,6 +429,7 @@ int main(void) {
     test_strict();
     test_check_with_refusals();
     test_sums();
+    test_windows();
     test_lookup();
     printf("the library from C: %d tests, %d failed\n", tests, failures);
     return failures != 0;
