@@ -65,6 +65,25 @@ pub fn oracle_operand_types(
     Some([left, right].map(|t| term_type(t, &env, rule_sig.as_ref(), narrow)))
 }
 
+/// The concrete windows that `walk` reaches, in its order: where their condition starts, and the window. The closure is that
+/// of `check_windows` above, up to its tests.
+pub fn oracle_windows(c: &Condition) -> Vec<(usize, Interval)> {
+    let mut windows = Vec::new();
+    walk(c, &mut |node| {
+        let within = match &node.kind {
+            ConditionKind::Formerly { within, .. }
+            | ConditionKind::Previous { within, .. }
+            | ConditionKind::Since { within, .. } => within,
+            _ => return,
+        };
+        let WithinSpec::Concrete(interval) = within else {
+            return;
+        };
+        windows.push((node.span.start, *interval));
+    });
+    windows
+}
+
 fn oracle_narrowing(narrow: crate::Narrowing<'_>) -> ScopeNarrowing<'_> {
     ScopeNarrowing { principal: narrow.principal, resource: narrow.resource }
 }

@@ -1,4 +1,4 @@
-//! Check, Sums and Lookup: records in, an answer and the bytes of a lent buffer out.
+//! Check, Sums, the listing of windows and Lookup: records in, an answer and the bytes of a lent buffer out.
 
 use crate::records::{self, Refusal, Scope, TargetsRecord};
 use dogwood_rust::extension::temporal::schema_info::{RichType, SchemaInfo, ScopePath};
@@ -62,6 +62,24 @@ pub fn sums(condition: &[u8], reports: &mut [u8]) -> Answer {
         Ok(read) => write_reports(&validate::oracle_check_sum_summands(&read.condition), reports),
         Err(refusal) => Answer::refused(CONDITION, refusal),
     }
+}
+
+/// The listing of windows: 14 for no period, after the record and before 11.
+pub fn windows(condition: &[u8], period: u64, output: &mut [u8]) -> Answer {
+    match records::read_condition(condition) {
+        Ok(_) if period == 0 => Answer { number: 14, record: 0, count: 0 },
+        Ok(read) => {
+            let windows = validate::oracle_windows(&read.condition);
+            write_all(windows.iter().map(|(start, interval)| window_bytes(*start, interval.seconds(), period)), output)
+        }
+        Err(refusal) => Answer::refused(CONDITION, refusal),
+    }
+}
+
+/// Start in 32 bits, whole sweeps and the seconds left in 64 each.
+fn window_bytes(start: usize, seconds: i64, period: u64) -> Vec<u8> {
+    let seconds = u64::try_from(seconds).expect("a window that was read is not negative");
+    [&number32(start)[..], &(seconds / period).to_be_bytes(), &(seconds % period).to_be_bytes()].concat()
 }
 
 pub fn lookup(schema: &[u8], targets: &[u8], path: &[u8], output: &mut [u8]) -> Answer {

@@ -2,7 +2,7 @@
 //! say both.
 
 use crate::answers::{self, Answer};
-use crate::examples::strict;
+use crate::examples::{strict, windows};
 use crate::hex;
 use crate::pieces::Piece;
 use crate::records;
@@ -21,6 +21,8 @@ pub enum Operation {
     Check,
     Sums,
     Lookup,
+    /// The listing of windows; its second record is the period.
+    Windows,
     Terms,
     /// The strict check, of the examples alone.
     Strict,
@@ -28,7 +30,7 @@ pub enum Operation {
 
 impl Operation {
     /// Those that the Rust judges.
-    pub const ALL: [Operation; 8] = [
+    pub const ALL: [Operation; 9] = [
         Operation::ReadSchema,
         Operation::ReadCondition,
         Operation::ReadTargets,
@@ -36,6 +38,7 @@ impl Operation {
         Operation::Check,
         Operation::Sums,
         Operation::Lookup,
+        Operation::Windows,
         Operation::Terms,
     ];
 
@@ -49,6 +52,7 @@ impl Operation {
             Operation::Check => 'k',
             Operation::Sums => 'm',
             Operation::Lookup => 'l',
+            Operation::Windows => 'w',
             Operation::Terms => 'e',
             Operation::Strict => 'x',
         }
@@ -118,6 +122,7 @@ impl Case {
             }
             Operation::Sums => self.in_buffer(|buffer| answers::sums(&r[0], buffer)),
             Operation::Lookup => self.in_buffer(|buffer| answers::lookup(&r[0], &r[1], &r[2], buffer)),
+            Operation::Windows => self.in_buffer(|buffer| answers::windows(&r[0], windows::period_of(&r[1]), buffer)),
             Operation::Terms => Outcome::Types(answers::operand_types(&r[0], &r[1], &r[2], self.size)?),
             Operation::Strict => {
                 let mut buffer = vec![FILL; self.size];

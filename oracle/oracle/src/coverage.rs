@@ -50,6 +50,7 @@ impl Coverage {
         match operation {
             Operation::Lookup if number == 0 => self.add(format!("lookup     {}", LOOKUP_CASES[buffer[0] as usize]), 1),
             Operation::Check | Operation::Strict | Operation::Sums => self.note_reports(count, buffer),
+            Operation::Windows => self.add("windows    listed".to_string(), count),
             _ => {}
         }
     }

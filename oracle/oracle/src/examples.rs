@@ -4,3 +4,4 @@ pub mod bytes;
 pub mod rules;
 pub mod strict;
 pub mod visits;
+pub mod windows;

@@ -6,6 +6,7 @@ pub mod conditions;
 pub mod damage;
 pub mod large;
 pub mod mutations;
+pub mod windows;
 pub mod worlds;
 
 use crate::cases::{Draft, Operation};
@@ -28,8 +29,12 @@ pub fn scene(rng: &mut Rng, operation: Operation) -> Scene {
     let condition = match operation {
         Operation::Terms => conditions::comparison_record(rng, &world),
         Operation::Sums => conditions::summing_record(rng, &world),
+        Operation::Windows => conditions::looking_back_record(rng, &world),
         _ => conditions::condition_record(rng, &world),
     };
+    // every third condition is of version 2, with a window wherever one stands, and of a listing nearly all
+    let version_2 = if operation == Operation::Windows { !rng.chance(1, 12) } else { rng.chance(1, 3) };
+    let condition = if version_2 { windows::windowed(rng, &condition) } else { condition };
     scene_with(rng, world, condition)
 }
 
@@ -44,7 +49,8 @@ pub fn draft(rng: &mut Rng, operation: Operation) -> Draft {
     let scene = scene(rng, operation);
     let mut draft = draft_of(rng, operation, scene);
     if operation != Operation::Terms && rng.chance(1, 4) {
-        let which = rng.below(draft.records.len());
+        // a listing's second record is a number, which cannot be damaged
+        let which = if operation == Operation::Windows { 0 } else { rng.below(draft.records.len()) };
         draft.records[which] = Piece::Field(damage::damaged(rng, &draft.records[which]));
     }
     draft.size = draft.size_from(rng);
@@ -54,7 +60,10 @@ pub fn draft(rng: &mut Rng, operation: Operation) -> Draft {
 /// A fresh draft with a large condition, undamaged.
 pub fn large_draft(rng: &mut Rng, operation: Operation) -> Draft {
     let world = World::random(rng);
-    let condition = conditions::large_record(rng, &world);
+    let mut condition = conditions::large_record(rng, &world);
+    if rng.chance(1, 2) {
+        condition = windows::windowed(rng, &condition);
+    }
     let scene = scene_with(rng, world, condition);
     let mut draft = draft_of(rng, operation, scene);
     draft.size = draft.size_from(rng);
@@ -71,6 +80,7 @@ fn draft_of(rng: &mut Rng, operation: Operation, scene: Scene) -> Draft {
     let records = match operation {
         Operation::ReadSchema => vec![schema],
         Operation::ReadCondition | Operation::Sums => vec![condition],
+        Operation::Windows => vec![condition, Piece::Field(windows::period(rng))],
         Operation::ReadTargets => vec![targets],
         Operation::ReadPath => vec![path],
         Operation::Check | Operation::Terms | Operation::Strict => vec![schema, condition, targets],

@@ -3,6 +3,7 @@
 
 use oracle::answers::Answer;
 use oracle::cases::{Case, Operation, Outcome};
+use oracle::examples::windows::period_of;
 
 /// The struct as the library returns it.
 #[repr(C)]
@@ -70,6 +71,13 @@ extern "C" {
     ) -> ReturnedCheck;
     fn dogwood_sums(condition: *const u8, condition_length: usize, reports: *mut u8, reports_length: usize)
         -> Returned;
+    fn dogwood_windows(
+        condition: *const u8,
+        condition_length: usize,
+        period: u64,
+        output: *mut u8,
+        output_length: usize,
+    ) -> Returned;
     fn dogwood_lookup(
         schema: *const u8,
         schema_length: usize,
@@ -146,6 +154,21 @@ pub fn sums(condition: &[u8], reports: &mut [u8]) -> Option<Answer> {
     returned.map(Returned::answer)
 }
 
+#[allow(dead_code)]
+pub fn windows(condition: &[u8], period: u64, output: &mut [u8]) -> Option<Answer> {
+    #[cfg(has_dogwood_windows)]
+    {
+        let (at, length) = (condition.as_ptr(), condition.len());
+        // SAFETY: each address and length is that of a slice that lives through the call, and the lent one is ours alone.
+        Some(unsafe { dogwood_windows(at, length, period, output.as_mut_ptr(), output.len()) }.answer())
+    }
+    #[cfg(not(has_dogwood_windows))]
+    {
+        let _ = (condition, period, output);
+        None
+    }
+}
+
 pub fn lookup(schema: &[u8], targets: &[u8], path: &[u8], output: &mut [u8]) -> Option<Answer> {
     let returned: Option<Returned> = called!(has_dogwood_lookup, dogwood_lookup, [schema, targets, path], [output]);
     returned.map(Returned::answer)
@@ -160,6 +183,7 @@ pub fn outcome(case: &Case) -> Option<Outcome> {
         Operation::Check => case.in_buffer(|buffer| noted(&mut answer, check(&r[0], &r[1], &r[2], buffer))),
         Operation::Sums => case.in_buffer(|buffer| noted(&mut answer, sums(&r[0], buffer))),
         Operation::Lookup => case.in_buffer(|buffer| noted(&mut answer, lookup(&r[0], &r[1], &r[2], buffer))),
+        Operation::Windows => case.in_buffer(|buffer| noted(&mut answer, windows(&r[0], period_of(&r[1]), buffer))),
         Operation::Strict => {
             case.in_buffer(|buffer| noted(&mut answer, check_with(STRICT, [&r[0], &r[1], &r[2]], buffer, &mut [0; 8])))
         }

@@ -2,9 +2,9 @@
 
 use crate::cases::{self, Case, Operation, Outcome};
 use crate::coverage::Coverage;
-use crate::examples::{bytes, rules, strict, visits};
+use crate::examples::{bytes, rules, strict, visits, windows};
 use crate::generate::{self, boundaries, compared};
-use crate::pieces::Piece;
+use crate::pieces::{self, Piece};
 use crate::rng::Rng;
 
 /// The seed of the stored lists.
@@ -43,6 +43,11 @@ pub fn all() -> Vec<List> {
             file: "lookup.cases",
             form: "l (schema, targets, path). SIZE and OUTPUT as for k in check.cases.",
             cases: lookups(),
+        },
+        List {
+            file: "windows.cases",
+            form: "w (condition, and the period in eight bytes). SIZE and OUTPUT as for k in check.cases.",
+            cases: listings(),
         },
         List {
             file: "terms.cases",
@@ -153,6 +158,11 @@ fn checks() -> Vec<Case> {
         let records = [&e.schema, &e.condition, &e.targets].map(Piece::bytes).to_vec();
         cases.extend(at_three_sizes(Operation::Check, records, &e.reports));
     }
+    for e in windowed('k') {
+        let schema = pieces::schema(vec![], vec![]).bytes();
+        let targets = pieces::targets(pieces::byte(0), pieces::byte(0), vec![pieces::target("", "view")]).bytes();
+        cases.push(case(Operation::Check, vec![schema, e.condition, targets], e.size.min(300)));
+    }
     cases.extend(compared::equal());
     cases.extend(visits::all().iter().map(visits::Visited::case));
     cases.extend(random(SEED, Operation::Check, 520));
@@ -171,6 +181,7 @@ fn sums() -> Vec<Case> {
     for e in rules::summed() {
         cases.extend(at_three_sizes(Operation::Sums, vec![e.condition.bytes()], &e.reports));
     }
+    cases.extend(windowed('m').map(|e| case(Operation::Sums, vec![e.condition], e.size.min(300))));
     cases.push(long_annotation());
     cases.extend(random(SEED, Operation::Sums, 330));
     once(cases)
@@ -196,6 +207,23 @@ fn lookups() -> Vec<Case> {
         cases.extend([200, needed, needed - 1, 0].map(|size| case(Operation::Lookup, records.clone(), size)));
     }
     cases.extend(random(SEED, Operation::Lookup, 340));
+    once(cases)
+}
+
+/// The examples of windows of one operation.
+fn windowed(letter: char) -> impl Iterator<Item = windows::Windowed> {
+    windows::all().into_iter().filter(move |e| e.letter == letter)
+}
+
+fn listings() -> Vec<Case> {
+    let mut cases = Vec::new();
+    for e in windowed('w') {
+        cases.push(case(Operation::Windows, vec![e.condition, windows::period_bytes(e.period)], e.size.min(300)));
+    }
+    for e in bytes::all() {
+        cases.push(case(Operation::Windows, vec![e.condition, windows::period_bytes(60)], 100));
+    }
+    cases.extend(random(SEED, Operation::Windows, 300));
     once(cases)
 }
 

@@ -187,6 +187,21 @@ pub fn condition(kind: u8, at: Span, parts: Vec<Piece>) -> Piece {
     Piece::Node(Sort::Condition, [vec![byte(kind)], span(at), parts].concat())
 }
 
+/// The window behind a span in version 2: so many of a unit.
+pub fn window(unit: u8, amount: i64) -> Piece {
+    Piece::Seq(vec![byte(0), byte(unit), Piece::Field(amount.to_be_bytes().to_vec())])
+}
+
+/// The window that is a macro's parameter.
+pub fn parameter_window() -> Piece {
+    byte(1)
+}
+
+/// A record of version 2.
+pub fn windowed_record(root: Piece) -> Piece {
+    Piece::Seq(vec![Piece::Field(b"DWC".to_vec()), Piece::Field(vec![0, 2]), root])
+}
+
 pub fn comparison(at: Span, operator: u8, left: Piece, right: Piece) -> Piece {
     condition(8, at, vec![byte(operator), left, right])
 }

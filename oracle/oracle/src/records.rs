@@ -25,6 +25,7 @@ pub const TOO_DEEP: Refusal = Refusal(7);
 pub const NOT_ASCENDING: Refusal = Refusal(8);
 pub const AGGREGATE_BELOW_ARRAY: Refusal = Refusal(9);
 pub const BYTES_AFTER: Refusal = Refusal(10);
+pub const WINDOW_OUT_OF_RANGE: Refusal = Refusal(13);
 
 /// The longest record that is read.
 pub const LONGEST: usize = 32_768;

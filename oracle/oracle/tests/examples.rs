@@ -1,8 +1,8 @@
 //! Each example of the tables, answered by the oracle.
 
-use oracle::answers::{check, lookup, sums, Answer};
+use oracle::answers::{check, lookup, sums, windows, Answer};
 use oracle::cases::Outcome;
-use oracle::examples::{bytes, rules, visits};
+use oracle::examples::{bytes, rules, visits, windows as windowed};
 use oracle::pieces::Piece;
 
 const FILL: u8 = 0xA5;
@@ -81,6 +81,31 @@ fn examples_of_sums() {
     for e in rules::summed() {
         let condition = e.condition.bytes();
         expect_reports(e.shows, &e.reports, |buffer| sums(&condition, buffer));
+    }
+}
+
+/// Each line's answer; where it says which windows are written, they stand in front and nothing else is changed.
+#[test]
+fn examples_of_windows() {
+    let schema = b"DWS\0\x01\0\0\0\0";
+    let targets = b"DWT\0\x01\0\0\x01\0\x04view";
+    for e in windowed::all() {
+        let mut buffer = filled(e.size);
+        let answer = match e.letter {
+            'k' => check(schema, &e.condition, targets, &mut buffer),
+            'm' => sums(&e.condition, &mut buffer),
+            _ => windows(&e.condition, e.period, &mut buffer),
+        };
+        assert_eq!([answer.number.into(), answer.record.into(), answer.count], e.answer, "{}", e.shows);
+        let mut expected: Vec<u8> = Vec::new();
+        for [start, sweeps, rest] in &e.entries {
+            expected.extend((*start as u32).to_be_bytes());
+            expected.extend([sweeps.to_be_bytes(), rest.to_be_bytes()].concat());
+        }
+        if !e.entries.is_empty() || answer.count == 0 {
+            assert_eq!(buffer[..expected.len()], expected, "{}", e.shows);
+            assert!(buffer[expected.len()..].iter().all(|b| *b == FILL), "{}", e.shows);
+        }
     }
 }
 

@@ -40,6 +40,7 @@ pub fn samples() -> Vec<Record> {
     vec![
         (Operation::ReadSchema, sample_schema()),
         (Operation::ReadCondition, sample_condition()),
+        (Operation::ReadCondition, sample_windows()),
         (Operation::ReadTargets, sample_targets()),
         (Operation::ReadPath, path(0, &["age", "zip"], 3)),
     ]
@@ -74,6 +75,13 @@ fn sample_condition() -> Piece {
     condition_record(condition(6, (11, 12), vec![exists((13, 14), named("t", &NONE), tp), compared]))
 }
 
+/// A condition of version 2 with each sort of window.
+fn sample_windows() -> Piece {
+    let previous = condition(5, (5, 6), vec![parameter_window(), call()]);
+    let former = condition(4, (3, 4), vec![window(2, 24), call()]);
+    windowed_record(condition(6, (1, 2), vec![window(1, 90), former, previous]))
+}
+
 fn sample_targets() -> Piece {
     targets(narrowing(4, "App::Group"), narrowing(2, "Doc"), vec![target("App", "view"), target("", "edit")])
 }
@@ -97,7 +105,7 @@ fn call() -> Piece {
 }
 
 fn kinds() -> Vec<Record> {
-    [condition_kinds(), term_kinds(), type_kinds(), target_kinds()].concat()
+    [condition_kinds(), window_kinds(), term_kinds(), type_kinds(), target_kinds()].concat()
 }
 
 fn condition_kinds() -> Vec<Record> {
@@ -110,6 +118,25 @@ fn condition_kinds() -> Vec<Record> {
     all.push(exists((0, 1), named("v", &NONE), call()));
     all.push(exists((0, 1), binder(slot(None, 1), &["A", "Long"]), call()));
     all.into_iter().map(in_condition).collect()
+}
+
+/// Each kind that looks back with each unit, and the amounts at the ends of what the unit holds; the other kinds have none.
+fn window_kinds() -> Vec<Record> {
+    let most = |seconds: i64| i64::MAX / seconds;
+    let mut windows = vec![parameter_window()];
+    for (unit, seconds) in [1, 60, 3_600, 86_400].into_iter().enumerate() {
+        let amounts = [0, 1, most(seconds), most(seconds).saturating_add(1), i64::MAX, -1, -most(seconds), i64::MIN];
+        windows.extend(amounts.map(|amount| window(unit as u8, amount)));
+    }
+    let behind = |w: &Piece, parts: Vec<Piece>| [vec![w.clone()], parts].concat();
+    let mut all: Vec<Piece> = windows.iter().map(|w| condition(4, (0, 1), behind(w, vec![call()]))).collect();
+    all.extend(windows[..2].iter().map(|w| condition(5, (0, 1), behind(w, vec![call()]))));
+    all.extend(windows[..2].iter().map(|w| condition(6, (0, 1), behind(w, vec![call(), call()]))));
+    all.extend([1, 2].map(|kind| condition(kind, (0, 1), vec![call(), call()])));
+    all.extend([3, 13].map(|kind| condition(kind, (0, 1), vec![call()])));
+    all.extend([2, 4, 255].map(|byte_| condition(4, (0, 1), vec![byte(byte_), call()])));
+    all.extend([4, 255].map(|unit| condition(4, (0, 1), vec![window(unit, 1), call()])));
+    all.into_iter().map(|root| (Operation::ReadCondition, windowed_record(root))).collect()
 }
 
 fn term_kinds() -> Vec<Record> {

@@ -39,6 +39,21 @@ pub fn summing_record(rng: &mut Rng, world: &World) -> Piece {
     pieces::condition_record(root)
 }
 
+/// A condition in which much looks back.
+pub fn looking_back_record(rng: &mut Rng, world: &World) -> Piece {
+    let mut maker = Maker { budget: 4 + rng.below(12), rng, world, summing: true };
+    let root = maker.conjunction(3);
+    let deeper = (0..maker.rng.below(6)).fold(root, |inner, _| {
+        let at = maker.span();
+        match maker.rng.below(3) {
+            0 => condition(6, at, vec![inner, maker.condition(1)]),
+            1 => condition(6, at, vec![maker.condition(1), inner]),
+            _ => condition(maker.rng.one(&[4, 5]), at, vec![inner]),
+        }
+    });
+    pieces::condition_record(deeper)
+}
+
 /// A condition of many nodes, often deep enough to pass the last level.
 pub fn large_record(rng: &mut Rng, world: &World) -> Piece {
     let mut maker = Maker { budget: 100 + rng.below(400), rng, world, summing: false };

@@ -6,6 +6,9 @@ use dogwood_rust::error::Span;
 use dogwood_rust::extension::temporal::ast::*;
 use dogwood_rust::field_paths::FieldPaths;
 
+/// The newest version of a condition that is read: 2 has the windows.
+const NEWEST: u16 = 2;
+
 /// A condition, and the field paths of its arguments.
 pub struct ConditionRecord {
     pub condition: Condition,
@@ -23,7 +26,7 @@ pub fn read_numbered(bytes: &[u8]) -> Result<ConditionRecord, Refusal> {
 }
 
 fn read(bytes: &[u8], numbers: Option<usize>) -> Result<ConditionRecord, Refusal> {
-    let fields = Fields::open(bytes, b"DWC")?;
+    let fields = Fields::open(bytes, b"DWC", NEWEST)?;
     let mut reader = Reader { fields, field_paths: FieldPaths::default(), numbers };
     let condition = reader.condition(1)?;
     reader.fields.close()?;
@@ -58,11 +61,6 @@ impl Place {
     }
 }
 
-/// The record holds no window; the check of types looks at none.
-fn some_window() -> WithinSpec {
-    WithinSpec::Concrete(Interval { amount: 1, unit: TimeUnit::Hours })
-}
-
 fn some_call(span: Span) -> Call {
     Call { span, name: "macro".to_string(), args: Vec::new() }
 }
@@ -85,6 +83,20 @@ impl Reader<'_> {
         Ok(self.numbers.map_or(span, |n| Span { start: n, end: n }))
     }
 
+    /// The window behind a span. Version 1 holds none: then it is one that no listing has, and a check looks at none.
+    fn window(&mut self) -> Result<WithinSpec, Refusal> {
+        const UNITS: [TimeUnit; 4] = [TimeUnit::Seconds, TimeUnit::Minutes, TimeUnit::Hours, TimeUnit::Days];
+        if self.fields.version == 1 || self.fields.choice(0, 1)? == 1 {
+            return Ok(WithinSpec::ParamRef("p".to_string()));
+        }
+        let unit = UNITS[self.fields.choice(0, 3)? as usize];
+        let interval = Interval { amount: self.fields.signed64()?, unit };
+        if interval.amount < 0 || interval.checked_seconds().is_none() {
+            return Err(WINDOW_OUT_OF_RANGE);
+        }
+        Ok(WithinSpec::Concrete(interval))
+    }
+
     fn boxed(&mut self, level: u32) -> Result<Box<Condition>, Refusal> {
         Ok(Box::new(self.condition(level)?))
     }
@@ -97,9 +109,12 @@ impl Reader<'_> {
             1 => ConditionKind::And { left: self.boxed(inner)?, right: self.boxed(inner)? },
             2 => ConditionKind::Or { left: self.boxed(inner)?, right: self.boxed(inner)? },
             3 => ConditionKind::Not { inner: self.boxed(inner)? },
-            4 => ConditionKind::Formerly { within: some_window(), body: self.boxed(inner)? },
-            5 => ConditionKind::Previous { within: some_window(), body: self.boxed(inner)? },
-            6 => ConditionKind::Since { left: self.boxed(inner)?, within: some_window(), right: self.boxed(inner)? },
+            4 => ConditionKind::Formerly { within: self.window()?, body: self.boxed(inner)? },
+            5 => ConditionKind::Previous { within: self.window()?, body: self.boxed(inner)? },
+            6 => {
+                let within = self.window()?;
+                ConditionKind::Since { left: self.boxed(inner)?, within, right: self.boxed(inner)? }
+            }
             7 => ConditionKind::Predicate(self.predicate(level)?),
             8 => self.comparison(level)?,
             9 => ConditionKind::Exists { var: self.binder()?, body: self.boxed(inner)? },

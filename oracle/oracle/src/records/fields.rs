@@ -49,19 +49,22 @@ fn is_path_name(bytes: &[u8]) -> bool {
 pub struct Fields<'a> {
     bytes: &'a [u8],
     at: usize,
+    /// The version that the record says.
+    pub version: u16,
 }
 
 impl<'a> Fields<'a> {
-    /// The record's size, its mark and its version.
-    pub fn open(bytes: &'a [u8], mark: &[u8; 3]) -> Result<Fields<'a>, Refusal> {
+    /// The record's size, its mark and its version, 1 to the newest that is known.
+    pub fn open(bytes: &'a [u8], mark: &[u8; 3], newest: u16) -> Result<Fields<'a>, Refusal> {
         if bytes.len() > LONGEST {
             return Err(TOO_LONG);
         }
-        let mut fields = Fields { bytes, at: 0 };
+        let mut fields = Fields { bytes, at: 0, version: 0 };
         if fields.take(3)? != mark {
             return Err(OTHER_MARK);
         }
-        if fields.number16()? != 1 {
+        fields.version = fields.number16()?;
+        if fields.version < 1 || fields.version > newest {
             return Err(OTHER_VERSION);
         }
         Ok(fields)
@@ -93,6 +96,12 @@ impl<'a> Fields<'a> {
     pub fn number32(&mut self) -> Result<u32, Refusal> {
         let b = self.take(4)?;
         Ok(u32::from_be_bytes([b[0], b[1], b[2], b[3]]))
+    }
+
+    /// A signed number of eight bytes.
+    pub fn signed64(&mut self) -> Result<i64, Refusal> {
+        let b = self.take(8)?;
+        Ok(i64::from_be_bytes(b.try_into().expect("eight bytes were taken")))
     }
 
     /// A byte that chooses among cases.

@@ -26,7 +26,7 @@ pub struct PathRecord {
 }
 
 pub fn read_path(bytes: &[u8]) -> Result<PathRecord, Refusal> {
-    let mut fields = Fields::open(bytes, b"DWP")?;
+    let mut fields = Fields::open(bytes, b"DWP", 1)?;
     let scope = match fields.choice(0, 1)? {
         0 => Scope::Principal,
         _ => Scope::Resource,

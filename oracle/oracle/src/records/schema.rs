@@ -8,7 +8,7 @@ use cedar_policy_core::validator::{ValidatorActionId, ValidatorEntityType, Valid
 use std::sync::Arc;
 
 pub fn read_schema(bytes: &[u8]) -> Result<ValidatorSchema, Refusal> {
-    let mut fields = Fields::open(bytes, b"DWS")?;
+    let mut fields = Fields::open(bytes, b"DWS", 1)?;
     let entity_types = read_entity_types(&mut fields)?;
     let actions = read_actions(&mut fields)?;
     fields.close()?;

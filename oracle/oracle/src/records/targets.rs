@@ -18,7 +18,7 @@ impl TargetsRecord {
 }
 
 pub fn read_targets(bytes: &[u8]) -> Result<TargetsRecord, Refusal> {
-    let mut fields = Fields::open(bytes, b"DWT")?;
+    let mut fields = Fields::open(bytes, b"DWT", 1)?;
     let principal = read_narrowing(&mut fields)?;
     let resource = read_narrowing(&mut fields)?;
     let count = fields.byte()?;
