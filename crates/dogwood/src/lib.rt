@@ -10,6 +10,7 @@ ghost use Rattle.targets.specs.Targets.{targetRecord};
 ghost use Rattle.targets.specs.PathRecord.{pathRecord};
 ghost use Rattle.reports.specs.Answers.{outcomeOf};
 ghost use Rattle.sums.specs.Sums.{sums};
+ghost use Rattle.sweeps.specs.Windows.{windows};
 ghost use Rattle.lookup.specs.Lookup.{lookup};
 ghost use Rattle.typecheck.specs.Check.{checkWith, check};
 ghost use Rattle.typecheck.specs.Answers.{checkOutcomeOf, Spared};
@@ -96,4 +97,12 @@ pub extern "C" fn dogwood_sums(condition: &[u8], reports: &mut [u8]) -> Answer
     ensures { λ r. ⌜ outcomeOf r (now (reports .exit)) ≡ sums (now (condition .entry)) (now (reports .entry)) ⌝ }
 {
     sums::sums(condition, reports)
+}
+
+// The windows of a condition in sweeps of a period of so many seconds: the answer, and an entry for each that the walk reaches.
+#[no_mangle]
+pub extern "C" fn dogwood_windows(condition: &[u8], period: u64, output: &mut [u8]) -> Answer
+    ensures { λ r. ⌜ outcomeOf r (now (output .exit)) ≡ windows (now (condition .entry)) period (now (output .entry)) ⌝ }
+{
+    sweeps::windows(condition, period, output)
 }

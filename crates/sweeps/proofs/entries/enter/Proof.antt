@@ -1,4 +1,4 @@
--- `windows::entries::enter` meets its contract. Assumes nothing.
+-- `sweeps::entries::enter` meets its contract. Assumes nothing.
 use mathlib.Core.Path.{_≡_, ap, _∙_}
 use mathlib.Core.Bool.{true, false}
 use mathlib.Core.List.{List, [], _∷_}
@@ -11,11 +11,11 @@ use borrow.Author.Tests.{le-leb, lt-leb}
 use Rattle.names.specs.Writer.{Stored}
 use Rattle.reports.specs.declared.State.{State}
 use Rattle.reports.specs.Sink.{sink, more, stopped}
-use Rattle.windows.specs.Entries.{Entry, encoded}
-use Rattle.windows.specs.Entering.{enter, Fit, Entered}
-use Rattle.windows.specs.Laws.Entries.{length-encoded, entered-one}
-use Rattle.windows.proofs.entries.enter.Statement.{statement}
-use Rattle.windows.proofs.entries.enter.Tie as tie
+use Rattle.sweeps.specs.Entries.{Entry, encoded}
+use Rattle.sweeps.specs.Entering.{enter, Fit, Entered}
+use Rattle.sweeps.specs.Laws.Entries.{length-encoded, entered-one}
+use Rattle.sweeps.proofs.entries.enter.Statement.{statement}
+use Rattle.sweeps.proofs.entries.enter.Tie as tie
 
 module _ (s : List ℕ) (st : State) (p : Fit (sink s st)) (e : Entry) where
   over : st .full ≡ true → Entered s st (e ∷ []) s st

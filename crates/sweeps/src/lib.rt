@@ -3,6 +3,8 @@
 // | module | what it has |
 // |---|---|
 // | entries | an entry put into the lent buffer: nothing after one that did not fit, and only what fits |
+// | run | `windows(condition, period, output)`: record 2 read, indexed once, the window of each reached condition |
 mod entries;
+mod run;
 
-pub use entries::enter;
+pub use run::windows;

@@ -8,8 +8,8 @@ ghost use Prim.Native.Nat.{_+_, _≤_};
 ghost use lib.ListN.{length};
 ghost use Rattle.names.specs.Writer.{Stored};
 ghost use Rattle.reports.specs.Sink.{sink};
-ghost use Rattle.windows.specs.Entries.{encoded};
-ghost use Rattle.windows.specs.Entering.{Fit, Entered};
+ghost use Rattle.sweeps.specs.Entries.{encoded};
+ghost use Rattle.sweeps.specs.Entering.{Fit, Entered};
 
 // The 20 bytes of an entry.
 fn put_entry(out: &mut [u8], at: usize, start: u32, sweeps: u64, rest: u64) -> usize

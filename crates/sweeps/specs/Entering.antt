@@ -9,7 +9,7 @@ use lib.Dec.{leb}
 use Rattle.names.specs.Writer.{store}
 use Rattle.reports.specs.declared.State.{State}
 use Rattle.reports.specs.Sink.{Sink, sink, more, stopped, Recorded}
-use Rattle.windows.specs.Entries.{Entry, encoded}
+use Rattle.sweeps.specs.Entries.{Entry, encoded}
 
 -- nothing after one that did not fit, and only what fits
 unfoldable pub enter : Sink → Entry → Sink

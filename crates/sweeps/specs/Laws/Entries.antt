@@ -19,8 +19,8 @@ use Rattle.names.specs.Writer.{store}
 use Rattle.reports.specs.declared.State.{State}
 use Rattle.reports.specs.Kept.{fold}
 use Rattle.reports.specs.Sink.{Sink, sink, more, stopped, start, outcome, Recorded}
-use Rattle.windows.specs.Entries.{Entry, encoded, room, listed}
-use Rattle.windows.specs.Entering.{enter, Fit, Entered}
+use Rattle.sweeps.specs.Entries.{Entry, encoded, room, listed}
+use Rattle.sweeps.specs.Entering.{enter, Fit, Entered}
 
 pub length-encoded : (e : Entry) → length (encoded e) ≡ 20
 unfolding encoded

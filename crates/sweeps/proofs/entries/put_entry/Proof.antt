@@ -1,4 +1,4 @@
--- `windows::entries::put_entry` meets its contract: three numbers, one behind the other. Assumes nothing.
+-- `sweeps::entries::put_entry` meets its contract: three numbers, one behind the other. Assumes nothing.
 use mathlib.Core.List.{List}
 use Prim.Native.Nat.{ℕ, _+_, _≤_}
 use native.Mathlib.Omega.{arith}
@@ -8,9 +8,9 @@ use Rattle.names.specs.Fields.{digits}
 use Rattle.names.specs.Writer.{Stored}
 use Rattle.names.specs.Laws.Fields.{length-digits}
 use Rattle.names.specs.Laws.Writers.{stored-length, stored-more}
-use Rattle.windows.specs.Entries.{encoded}
-use Rattle.windows.proofs.entries.put_entry.Statement.{statement}
-use Rattle.windows.proofs.entries.put_entry.Tie as tie
+use Rattle.sweeps.specs.Entries.{encoded}
+use Rattle.sweeps.proofs.entries.put_entry.Statement.{statement}
+use Rattle.sweeps.proofs.entries.put_entry.Tie as tie
 
 module _ (s : List ℕ) (at start : ℕ) (s₁ : List ℕ) (n₁ : ℕ) (h : Stored s at (digits 4 start) s₁ n₁) where
   sweeps-room : at + 20 ≤ length s → n₁ + 8 ≤ length s₁
