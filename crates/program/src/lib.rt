@@ -7,7 +7,7 @@ pub use printed::print_run;
 pub use printed::report_space;
 ghost use mathlib.Core.Path.{_≡_};
 ghost use lib.ListN.{length};
-ghost use Rattle.program.specs.Program.{Within, zeros, contented};
+ghost use Rattle.program.specs.Program.{Within, zeros, contented, numberAt};
 
 // How many bytes of a file were put at the front of a buffer, or that it could not be read.
 pub enum Loaded {
@@ -107,7 +107,9 @@ pub fn print_u32(s: &[u8], at: usize) {
 }
 
 // The 64-bit number at a place; 0 where there are not so many bytes.
-pub fn u64_at(s: &[u8], at: usize) -> u64 {
+pub fn u64_at(s: &[u8], at: usize) -> u64
+    ensures { λ r. ⌜ r ≡ numberAt (now (s .entry)) at ⌝ }
+{
     if s.len() <= at {
         return 0;
     }

@@ -133,6 +133,9 @@ fn exported<'a>(
     if letter == b'l' {
         return unvisited(dogwood::dogwood_lookup(a, b, c, buffer));
     }
+    if letter == b'w' {
+        return unvisited(dogwood::dogwood_windows(a, program::u64_at(b, 0), buffer));
+    }
     numbered(number(letter, a))
 }
 
@@ -323,5 +326,6 @@ fn main() {
     replay(b"strict.cases");
     replay(b"sums.cases");
     replay(b"lookup.cases");
+    replay(b"windows.cases");
     replay(b"terms.cases");
 }

@@ -63,6 +63,10 @@ fn given_period() -> Period {
     }
     let mut word = [0u8; 32];
     let n = os::arg(2, &mut word);
+    // an argument that fills the space may be longer than it
+    if 31 < n {
+        return Period::Malformed;
+    }
     number(names::part_of(&word, 0, n))
 }
 
@@ -132,27 +136,14 @@ fn print_entries<'a>(listed: &'a [u8], seconds: &'a [u8], count: usize) {
 
 // The line of an entry.
 fn print_entry<'a>(entry: &'a [u8], seconds: &'a [u8]) {
-    let rest = number_at(entry, 12);
+    let rest = program::u64_at(entry, 12) as usize;
     program::print_u32(entry, 0);
-    print_between(b" ", number_at(entry, 4), b" ");
+    print_between(b" ", program::u64_at(entry, 4) as usize, b" ");
     print_between(b"", rest, b": ");
-    print_time(number_at(seconds, 4));
+    print_time(program::u64_at(seconds, 4) as usize);
     print(b", left ");
     print_time(rest);
     print(b"\n");
-}
-
-// The 64-bit number at a place; 0 where there are not so many bytes.
-fn number_at(s: &[u8], at: usize) -> usize {
-    if s.len() <= at {
-        return 0;
-    }
-    if s.len() - at < 8 {
-        return 0;
-    }
-    let high = names::u32_at(s, at) as usize;
-    let low = names::u32_at(s, at + 4) as usize;
-    high * 4294967296 + low
 }
 
 // ---- times
