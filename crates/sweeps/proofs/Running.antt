@@ -6,8 +6,8 @@ use Prim.Native.Nat.{ℕ, _+_, _≤_, _<_}
 use native.Mathlib.Omega.{arith}
 use borrow.Author.Needs.{needs}
 use borrow.Author.Tests.{eq-eqb, ne-eqb}
-use lib.ListN.{length, drop}
-use lib.Seq.{drop-of-length-le, length-take-le}
+use lib.ListN.{length, drop, drop-of-length-le}
+use lib.Seq.{length-take-le}
 use Rattle.names.specs.Lists.{gather}
 use Rattle.names.specs.declared.Read.{Read}
 use Rattle.names.specs.declared.Read.the-variants.{Next, Refused}

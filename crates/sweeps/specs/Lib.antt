@@ -1,4 +1,5 @@
 pub mod Entries
 pub mod Windows
 pub mod Entering
+pub mod Listing
 pub mod Laws

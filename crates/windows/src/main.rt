@@ -128,7 +128,10 @@ fn print_entries<'a>(listed: &'a [u8], seconds: &'a [u8], count: usize) {
     let mut at = 0;
     let mut left = count;
     while 0 < left {
-        print_entry(names::part_of(listed, at, 20), names::part_of(seconds, at, 20));
+        print_entry(
+            names::part_of(listed, at, 20),
+            names::part_of(seconds, at, 20),
+        );
         at = std::num::wrapping_add_usize(at, 20);
         left -= 1;
     }

@@ -21,4 +21,16 @@ abbrev μ-loop : tie.MeasureT-loop
 μ-loop s places period out₀ now₀ i₀ out now i = length places - i
 
 pub in-places-spec : {M : Type 1} → statement M
-in-places-spec = tie.close (tie.spec (λ c. search steps))
+in-places-spec =
+    tie.close
+    (tie.spec
+    Inv-loop
+    μ-loop
+    (λ c. search steps)
+    (λ c κs. search steps)
+    (λ c. search steps)
+    (λ c κs. search steps)
+    (λ c. search steps)
+    (λ c. search steps)
+    (λ c. search steps)
+    (λ c. search steps))

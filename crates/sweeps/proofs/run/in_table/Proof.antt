@@ -6,4 +6,4 @@ use Rattle.sweeps.proofs.run.in_table.Tie as tie
 ruleset steps = (recording)
 
 pub in-table-spec : {M : Type 1} → statement M
-in-table-spec = tie.close (tie.spec (λ c. search steps))
+in-table-spec = tie.close (tie.spec (λ c. search steps) (λ c κs. search steps) (λ c. search steps) (λ c. search steps))

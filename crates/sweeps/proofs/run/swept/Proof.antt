@@ -6,4 +6,4 @@ use Rattle.sweeps.proofs.run.swept.Tie as tie
 ruleset steps = (sweeping)
 
 pub swept-spec : {M : Type 1} → statement M
-swept-spec = tie.close (tie.spec (λ c. search steps))
+swept-spec = tie.close (tie.spec (λ c κs. search steps) (λ c. search steps) (λ c κs. search steps) (λ c. search steps) (λ c. search steps))

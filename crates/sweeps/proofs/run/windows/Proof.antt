@@ -6,4 +6,14 @@ use Rattle.sweeps.proofs.run.windows.Tie as tie
 ruleset steps = (running)
 
 pub windows-spec : {M : Type 1} → statement M
-windows-spec = tie.close (tie.spec (λ c. search steps))
+windows-spec =
+    tie.close
+    (tie.spec
+    (λ c κs. search steps)
+    (λ c. search steps)
+    (λ c κs. search steps)
+    (λ c. search steps)
+    (λ c κs. search steps)
+    (λ c. search steps)
+    (λ c. search steps)
+    (λ c. search steps))
