@@ -34,4 +34,4 @@ module _ (s : List ℕ) (at : ℕ) where
 ruleset steps = (needs, behind, near, room, there)
 
 pub u64-at-spec : {M : Type 1} → statement M
-u64-at-spec = tie.close (tie.spec (λ c. search steps))
+u64-at-spec = tie.close (tie.spec (λ c. search steps) (λ c. search steps) (λ c. search steps) (λ c κs. search steps) (λ c. search steps))
