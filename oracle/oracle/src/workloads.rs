@@ -80,6 +80,18 @@ pub fn all() -> Vec<Workload> {
     all
 }
 
+/// Conditions of version 2 for the listing: the everyday one, and as many windows as fit, one beside the other.
+pub fn windowed() -> Vec<Workload> {
+    let looks = |_: usize| condition(4, (0, 9), vec![window(1, 90), condition(11, (0, 0), vec![])]);
+    let of = |count: usize| windowed_record(joined((0..count).map(looks).collect()));
+    let own =
+        |name: &str, condition: Piece| workload(name, false, shop(2, 4), condition, view_targets(1), path(0, &NONE, 0));
+    vec![
+        own("everyday, with a window", windowed_record(everyday_within())),
+        own("32 KB of windows", of(most(LONGEST, of))),
+    ]
+}
+
 /// Conditions of growing size under one target.
 pub fn sizes() -> Vec<Workload> {
     let sized = |power: u32| {
@@ -371,13 +383,23 @@ fn view(arguments: Vec<Piece>) -> Piece {
 
 /// `exists (n: Long). view{ amount: n, who: principal } && n < 1000 && principal.profile.age >= 18 && ...`
 fn everyday() -> Piece {
+    everyday_with(vec![])
+}
+
+/// The same in version 2: its Formerly looks back a day.
+fn everyday_within() -> Piece {
+    everyday_with(vec![window(2, 24)])
+}
+
+fn everyday_with(within: Vec<Piece>) -> Piece {
     let seen = view(vec![
         argument("input.amount", &["input", "amount"], var("n")),
         argument("input.who", &["input", "who"], scope_field(&["principal"])),
     ]);
     let cheap = comparison((31, 40), 1, var("n"), integer());
     let adult = comparison((41, 60), 2, scope_field(&["principal", "profile", "age"]), integer());
-    let rows = both(condition(10, (61, 65), vec![slot(Some("t"), 0)]), condition(4, (66, 80), vec![seen.clone()]));
+    let former = condition(4, (66, 80), [within, vec![seen.clone()]].concat());
+    let rows = both(condition(10, (61, 65), vec![slot(Some("t"), 0)]), former);
     let few = comparison((81, 99), 1, count((82, 90), vec![named("t", &NONE)], rows), integer());
     exists((0, 99), named("n", &["Long"]), joined(vec![seen, cheap, adult, few]))
 }

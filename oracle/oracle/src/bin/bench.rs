@@ -62,6 +62,9 @@ fn table(text: &str) -> String {
     for (input, operation, times) in naming(text) {
         out += &row(&input, operation, &times);
     }
+    for w in workloads::windowed().iter().filter(|w| w.name.contains(text)) {
+        out += &row(&w.name, "windows", &windows(w));
+    }
     let all = workloads::all().into_iter().chain(workloads::crowded()).chain(workloads::searching());
     for w in all.filter(|w| w.name.contains(text)) {
         for (input, operation, times) in rows_of(&w) {
@@ -166,6 +169,18 @@ fn sums(w: &Workload) -> Times {
     Times { alone: Some(alone), with_reading, ours }
 }
 
+/// The listing in sweeps of an hour.
+fn windows(w: &Workload) -> Times {
+    const HOUR: u64 = 3_600;
+    let mut output = vec![0; 65_536];
+    let read = records::read_condition(&w.condition).ok().unwrap();
+    let alone = time(|| used(validate::oracle_windows(&read.condition)));
+    let with_reading = time(|| used(answers::windows(black_box(&w.condition), HOUR, &mut output)));
+    let ours = library::windows(&w.condition, HOUR, &mut output)
+        .map(|_| time(|| used(library::windows(black_box(&w.condition), HOUR, &mut output))));
+    Times { alone: Some(alone), with_reading, ours }
+}
+
 fn lookup(w: &Workload) -> Times {
     let mut output = vec![0; 4_096];
     let (s, t, p) = (&w.schema[..], &w.targets[..], &w.path[..]);
@@ -208,7 +223,7 @@ fn stacks() -> String {
     out
 }
 
-fn stacks_of(w: &Workload) -> [(&'static str, usize); 4] {
+fn stacks_of(w: &Workload) -> [(&'static str, usize); 5] {
     let (mut buffer, mut workspace) = (vec![0; 65_536], vec![0; workspace_for(65_536)]);
     let (s, c, t, p) = (&w.schema[..], &w.condition[..], &w.targets[..], &w.path[..]);
     [
@@ -218,6 +233,7 @@ fn stacks_of(w: &Workload) -> [(&'static str, usize); 4] {
             stack::taken(|| used(library::check_with(0, [s, c, t], &mut buffer, &mut workspace))),
         ),
         ("sums", stack::taken(|| used(library::sums(c, &mut buffer)))),
+        ("windows", stack::taken(|| used(library::windows(c, 60, &mut buffer)))),
         ("lookup", stack::taken(|| used(library::lookup(s, t, p, &mut buffer)))),
     ]
 }
