@@ -1,7 +1,7 @@
 -- A record of version 1 says no window. Assumes nothing.
 use mathlib.Core.Path.{_≡_, refl, sym, ap, ap₂, _∙_}
 use mathlib.Core.Bool.{Bool, true, false, cond, _&&_}
-use mathlib.Core.List.{List, [], _∷_}
+use mathlib.Core.List.{List, [], _∷_, map}
 use Prim.Native.Nat.{ℕ, zero, suc, _≤_}
 use native.Mathlib.Omega.{arith}
 use borrow.Author.Tests.{le-leb}
@@ -15,7 +15,11 @@ use Rattle.condition.specs.Condition.{Window, unsaid, window, One, Two, Conditi
 use Rattle.condition.specs.Places.{isRecord, recordIn, versionIn}
 use Rattle.condition.specs.Laws.Tables.{_also_}
 use Rattle.condition.specs.Laws.Records.{record-read}
-use Rattle.claims.specs.Windows.{windowed, windowedTwo, withWindow, inArguments, inTerm, inTerms, inAggregate, NoneInFirst}
+use Rattle.condition.specs.Walk.{reached}
+use Rattle.names.specs.Lists.{gather}
+use Rattle.sweeps.specs.Windows.{Concrete, concreteOf, concreteIn, concreteWindows, inSweeps, entries}
+use Rattle.claims.specs.Windows.{windowed, windowedTwo, withWindow, inArguments, inTerm, inTerms, inAggregate, NoneInFirst, NoneListed}
+use Rattle.claims.proofs.Windows.{gathered}
 
 -- what a reader gives has a property
 record Gives {A : Type 0} (P : A → Type 0) (f : Reader A) : Type 0 where
@@ -191,3 +195,33 @@ module _ (v : ℕ) (first : v ≤ 1) where
 
 pub none-in-first : NoneInFirst
 none-in-first s acc first = at-level (versionIn s) (omega arith) levels .conditions .on s 5 (record-read s acc)
+
+-- ---- so nothing is listed
+
+unsaid-none : (c : Condition) → concreteIn (withWindow unsaid c) ≡ []
+unfolding withWindow concreteIn concreteOf
+unsaid-none (one tree.negation at c) = refl
+unsaid-none (one tree.refine at c) = refl
+unsaid-none (one (tree.formerly w) at c) = refl
+unsaid-none (one (tree.previous w) at c) = refl
+unsaid-none (two tree.and at l r) = refl
+unsaid-none (two tree.or at l r) = refl
+unsaid-none (two (tree.since w) at l r) = refl
+unsaid-none (predicate at own ns act args) = refl
+unsaid-none (comparison at op l r) = refl
+unsaid-none (exists at b c) = refl
+unsaid-none (tp at s) = refl
+unsaid-none (opaque at) = refl
+
+none-gathered : (cs : List Condition) → gather {B = Concrete} (λ c. []) cs ≡ []
+unfolding gather
+none-gathered [] = refl
+none-gathered (c ∷ cs) = none-gathered cs
+
+pub none-listed : NoneListed
+unfolding entries concreteWindows
+none-listed period s acc first =
+    ap (map (inSweeps period))
+    (ap (λ c. gather concreteIn (reached c)) (sym (none-in-first s acc first))
+    ∙ gathered unsaid concreteIn (λ c. []) unsaid-none (recordIn s)
+    ∙ none-gathered (reached (recordIn s)))

@@ -1,7 +1,7 @@
 -- Windows change no answer. Assumes nothing.
 use mathlib.Core.Path.{_≡_, refl, sym, ap, ap₂, _∙_}
 use mathlib.Core.Bool.{true, cond}
-use mathlib.Core.List.{List, [], _∷_, _++_}
+use mathlib.Core.List.{List, [], _∷_, _++_, map}
 use mathlib.Core.Option.{Option, none, some}
 use Prim.Native.Nat.{ℕ}
 use Rattle.names.specs.Lists.{maybe, gather}
@@ -19,9 +19,9 @@ use Rattle.condition.specs.Walk.{declaredBy, operandAggregates, operandBinders,
 use Rattle.condition.specs.Places.{isRecord, recordIn}
 use Rattle.terms.specs.Terms.{Facts, factsOf, termType, elementTypes, arrayOf}
 use Rattle.reports.specs.Reports as reports
-use Rattle.reports.specs.Reports.{Breach, Outcome, once, refusal, reported}
+use Rattle.reports.specs.Reports.{Breach, once, reported}
 use Rattle.rules.specs.Rules.{both, ordering, operandsBy, notLongHere, argumentBreach, argumentBreaches, leafBreaches, arithmeticBreaches, nodeBreaches}
-use Rattle.typecheck.specs.Check.{profileOf, breachesUnder, checked, checkWith}
+use Rattle.typecheck.specs.Check.{profileOf, breachesUnder, isChecked, visitsUnder, begun, CheckOutcome, unvisited, checked, checkWith}
 use Rattle.sums.specs.Sums.{aggregateBreaches, termBreaches, termsBreaches, argumentsBreaches, conditionBreaches, breaches, sums}
 use Rattle.claims.specs.Windows.{withWindow, inArguments, inTerm, inTerms, inAggregate, Alike, AnyWindows, FirstAndSecond}
 
@@ -32,6 +32,12 @@ gather-same e (x ∷ xs) = ap₂ _++_ (e x) (gather-same e xs)
 
 joined : {A B : Type 0} (f : A → List B) (xs ys : List A) {us vs : List B} → gather f xs ≡ us → gather f ys ≡ vs → gather f (xs ++ ys) ≡ us ++ vs
 joined f xs ys e h = gather-append f xs ys ∙ ap₂ _++_ e h
+
+-- a list of one thing for each is gathered by lists of one
+map-gathered : {A B : Type 0} (f : A → B) (xs : List A) → map f xs ≡ gather (λ x. f x ∷ []) xs
+unfolding gather
+map-gathered f [] = refl
+map-gathered f (x ∷ xs) = ap (λ ys. f x ∷ ys) (map-gathered f xs)
 
 module _ (w : Window) where
   -- ---- what a walk gathers of the reached conditions
@@ -184,9 +190,24 @@ module _ (w : Window) where
         go none = same-reached none
         go (some a) = ap (λ bs. cond (admitsAnyEnv s scope a) bs []) (same-reached (some a))
 
+    same-made : (a : Option Action) → map (nodeBreaches (factsOf p s (withWindow w c) scope a)) (reached (withWindow w c)) ≡ map (nodeBreaches (factsOf p s c scope a)) (reached c)
+    same-made a =
+        ap (λ bs. map (nodeBreaches (record { profile = p; schema = s; scope = scope; action = a; binders = bs })) (reached (withWindow w c))) (same-binders c)
+        ∙ map-gathered (nodeBreaches (factsOf p s c scope a)) (reached (withWindow w c))
+        ∙ gathered (λ x. nodeBreaches (factsOf p s c scope a) x ∷ []) (λ x. nodeBreaches (factsOf p s c scope a) x ∷ []) (λ x. ap (λ bs. bs ∷ []) (same-node (factsOf p s c scope a) x)) c
+        ∙ sym (map-gathered (nodeBreaches (factsOf p s c scope a)) (reached c))
+
+    same-visits : (t : Target) → visitsUnder p s (withWindow w c) scope t ≡ visitsUnder p s c scope t
+    unfolding visitsUnder
+    same-visits t = ap (λ visits. cond (isChecked s scope t) visits []) (same-made (findAction s (t .namespace) (t .id)))
+
   same-checked : (p : Profile) (s : Schema) (c : Condition) (ts : Targets) (buffer : List ℕ) → checked p s (withWindow w c) ts buffer ≡ checked p s c ts buffer
   unfolding checked
-  same-checked p s c ts buffer = ap (λ bs. reported (once [] bs) buffer) (gather-same (same-under p s c (ts .scope)) (ts .list))
+  same-checked p s c ts buffer =
+      λ i. record {
+        outcome = ap (λ bs. reported (once [] bs) buffer) (gather-same (same-under p s c (ts .scope)) (ts .list)) i;
+        visits = ap (begun buffer []) (gather-same (same-visits p s c (ts .scope)) (ts .list)) i;
+      }
 
   -- ---- the summand rule
 
@@ -242,9 +263,9 @@ module _ (w : Window) where
 -- ---- records
 
 -- the answer of a check by what the three records give
-answered : ℕ → List ℕ → Got Schema → Got Condition → Got Targets → Outcome
+answered : ℕ → List ℕ → Got Schema → Got Condition → Got Targets → CheckOutcome
 answered rules buffer g h i =
-    either (λ r. refusal r 1 buffer) (λ s. either (λ r. refusal r 2 buffer) (λ c. either (λ r. refusal r 3 buffer) (λ ts. checked (profileOf rules) s c ts buffer) i) h) g
+    either (λ r. unvisited r 1 buffer) (λ s. either (λ r. unvisited r 2 buffer) (λ c. either (λ r. unvisited r 3 buffer) (λ ts. checked (profileOf rules) s c ts buffer) i) h) g
 
 module _ (c d : Condition) (n m : ℕ) where
   module _ (equal : (p : Profile) (s : Schema) (ts : Targets) (buffer : List ℕ) → checked p s c ts buffer ≡ checked p s d ts buffer) where

@@ -32,7 +32,7 @@ ofVersion version bytes = 0x44 ∷ 0x57 ∷ 0x43 ∷ 0 ∷ version ∷ bytes
 
 -- what a check, and Sums, answers to a condition in a version
 abbrev pub checks : ℕ → List ℕ → Answered → Row
-checks version bytes answer = ofAll (Unit {0}) (λ x. answered (check schemaBytes (ofVersion version bytes) targetBytes [])) answer
+checks version bytes answer = ofAll (Unit {0}) (λ x. answered (check schemaBytes (ofVersion version bytes) targetBytes [] .outcome)) answer
 
 abbrev pub adds : ℕ → List ℕ → Answered → Row
 adds version bytes answer = ofAll (Unit {0}) (λ x. answered (sums (ofVersion version bytes) [])) answer
@@ -84,6 +84,8 @@ lines =
     ∷ checks 2 (node 4 (within minusOne 4 call)) (refused 5)
     ∷ checks 2 (node 4 (0 ∷ 0 ∷ 255 ∷ 255 ∷ 255 ∷ 255 ∷ 255 ∷ 255 ∷ 255 ∷ [])) (refused 2)
     ∷ checks 2 (node 4 (within minusOne 0 [])) (refused 13)
+    -- and then no visit is begun
+    ∷ ofAll (Unit {0}) (λ x. check schemaBytes (ofVersion 2 (node 4 (within minusOne 0 call))) targetBytes [] .visits) 0
     ∷ checks 2 (node 4 (1 ∷ call)) accepted
     -- its seconds, exactly
     ∷ checks 2 (node 4 (within 0 3 call)) accepted

@@ -4,11 +4,12 @@
 use Prim.Native.Nat.{ℕ}
 use mathlib.Core.Path.{_≡_}
 use mathlib.Core.Bool.{true}
-use mathlib.Core.List.{List}
+use mathlib.Core.List.{List, []}
 use Rattle.condition.specs.Condition.{Window, unsaid, parameter, Condition, One, negation, refine, formerly, previous, Two, and, or, since, Arguments, Term, Terms, Aggregate, one, two, predicate, comparison, exists, tp, opaque, noArgument, argument, entity, literal, contextField, scopeField, var, wildcard, array, aggregate, arith, sigil, nil, cons, sum, count, call}
 use Rattle.condition.specs.Places.{isRecord, recordIn, versionIn}
 use Rattle.typecheck.specs.Check.{checkWith}
 use Rattle.sums.specs.Sums.{sums}
+use Rattle.sweeps.specs.Windows.{entries}
 
 -- a condition with this window in place of each of its own, also where the walk does not go
 module _ (w : Window) where
@@ -62,7 +63,11 @@ module _ (w : Window) where
 abbrev pub NoneInFirst : Type 0
 NoneInFirst = (s : List ℕ) → isRecord s ≡ true → versionIn s ≡ 1 → withWindow unsaid (recordIn s) ≡ recordIn s
 
--- two condition records answer alike: the same outcome, which is the answer and each byte of the buffer, whatever else is asked
+-- so it has no entry in a listing
+abbrev pub NoneListed : Type 0
+NoneListed = (period : ℕ) (s : List ℕ) → isRecord s ≡ true → versionIn s ≡ 1 → entries period (recordIn s) ≡ []
+
+-- two condition records answer alike: the same outcome, which is the answer with its visits and each byte of the buffer, whatever else is asked
 pub record Alike (a b : List ℕ) : Type 0 where
   pub checks : (rules : ℕ) (schemaBytes targetBytes buffer : List ℕ) → checkWith rules schemaBytes a targetBytes buffer ≡ checkWith rules schemaBytes b targetBytes buffer
   pub sums : (buffer : List ℕ) → sums a buffer ≡ sums b buffer

@@ -1,10 +1,8 @@
 -- What is claimed of a listing, beyond its definition. Proved in Laws/Listing.
 use Prim.Native.Nat.{ℕ, _+_, _*_, _<_}
 use mathlib.Core.Path.{_≡_}
-use mathlib.Core.Bool.{true}
 use mathlib.Core.List.{List, [], _∷_}
 use Rattle.condition.specs.Condition.{Condition}
-use Rattle.condition.specs.Places.{isRecord, recordIn, versionIn}
 use Rattle.sweeps.specs.Entries.{Entry}
 use Rattle.sweeps.specs.Windows.{Concrete, concreteWindows, entries}
 
@@ -24,5 +22,3 @@ Pairwise R (x ∷ xs) (y ∷ ys) = R x y × Pairwise R xs ys
 pub record Listing : Type 0 where
   -- the entries are exactly the reached concrete windows in order
   pub each : (period : ℕ) → 0 < period → (c : Condition) → Pairwise (Swept period) (concreteWindows c) (entries period c)
-  -- a record of version 1 has none
-  pub first : (period : ℕ) (s : List ℕ) → isRecord s ≡ true → versionIn s ≡ 1 → entries period (recordIn s) ≡ []

@@ -1,12 +1,11 @@
 -- What is claimed of a listing holds. Assumes nothing.
 use Prim.Native.Nat.{ℕ, _+_, _*_, _/_, _%_, _<_}
-use mathlib.Core.Path.{_≡_, refl, sym, ap}
+use mathlib.Core.Path.{_≡_, refl, sym}
 use mathlib.Core.List.{List, [], _∷_, map}
 use native.Mathlib.Nat.{div-add-mod', mod-lt}
 use Rattle.condition.specs.Condition.{Condition}
 use Rattle.sweeps.specs.Windows.{Concrete, concreteWindows, inSweeps, entries}
 use Rattle.sweeps.specs.Listing.{Swept, Pairwise, Listing}
-use Rattle.sweeps.specs.Laws.First.{first-has-none}
 
 module _ (period : ℕ) (h : 0 < period) where
   swept : (w : Concrete) → Swept period w (inSweeps period w)
@@ -18,7 +17,4 @@ module _ (period : ℕ) (h : 0 < period) where
 
 pub listing : Listing
 unfolding entries
-listing = record {
-  each = λ period h c. pairs period h (concreteWindows c);
-  first = λ period s acc e. ap (map (inSweeps period)) (first-has-none s acc e);
-}
+listing = record { each = λ period h c. pairs period h (concreteWindows c) }
