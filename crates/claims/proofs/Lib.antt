@@ -11,3 +11,4 @@ pub mod Versions
 pub mod FirstVersion
 pub mod Windows
 pub mod WindowExamples
+pub mod SweepExamples

@@ -11,3 +11,4 @@ pub mod VisitsExamples
 pub mod Versions
 pub mod Windows
 pub mod WindowExamples
+pub mod SweepExamples
