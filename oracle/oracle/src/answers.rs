@@ -67,7 +67,7 @@ pub fn sums(condition: &[u8], reports: &mut [u8]) -> Answer {
 /// The listing of windows: 14 for no period, after the record and before 11.
 pub fn windows(condition: &[u8], period: u64, output: &mut [u8]) -> Answer {
     match records::read_condition(condition) {
-        Ok(_) if period == 0 => Answer { number: 14, record: 0, count: 0 },
+        Ok(_) if period == 0 => Answer { number: 14, record: 0, count: 0, visits: 0 },
         Ok(read) => {
             let windows = validate::oracle_windows(&read.condition);
             write_all(windows.iter().map(|(start, interval)| window_bytes(*start, interval.seconds(), period)), output)
