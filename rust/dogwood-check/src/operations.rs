@@ -3,7 +3,9 @@
 use std::collections::hash_map::RandomState;
 use std::hash::{BuildHasher, Hasher};
 
-use crate::{ffi, Answer, Cause, CheckAnswer, Findings, Refusal, Reports, Rules, ScopePath, ListedWindow, ListedWindows};
+use crate::{
+    ffi, Answer, Cause, CheckAnswer, Findings, ListedWindow, ListedWindows, Refusal, Reports, Rules, ScopePath,
+};
 
 /// The space that [`check`], [`sums`] and [`lookup`] begin with: 64 KiB, which hold hundreds of reports.
 const FIRST_SPACE: usize = 64 << 10;

@@ -47,7 +47,7 @@ fn offending(record: RecordKind, cause: Cause) -> Option<Vec<u8>> {
         (Cause::OtherMark, _) => front(record, b"DWX"),
         (Cause::OtherVersion, _) => front(record, &[&good(record)[..3], &[0, 9]].concat()),
         (Cause::WindowOutOfRange, Condition) => {
-            front(record, b"DWC\0\x02\x04\0\0\0\0\0\0\0\0\0\x03\xFF\xFF\xFF\xFF\xFF\xFF\xFF\xFF")
+            Some(b"DWC\0\x02\x04\0\0\0\0\0\0\0\0\0\x03\xFF\xFF\xFF\xFF\xFF\xFF\xFF\xFF".to_vec())
         }
         (Cause::UndefinedChoice, Schema) => fields(record, b"\0\0\0\x01\x01A\0\0\0\x0B"),
         (Cause::UndefinedChoice, Condition) => fields(record, &[14]),

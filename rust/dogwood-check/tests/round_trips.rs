@@ -346,7 +346,7 @@ fn damaged_conditions_are_errors() {
         Damage::OtherWindow,
         Damage::OneWindow,
     ];
-    CONDITIONS.finds(&wanted, 100);
+    CONDITIONS.finds(&wanted, 80);
 }
 
 #[test]
