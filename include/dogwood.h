@@ -143,8 +143,8 @@ struct dogwood_check_answer dogwood_check(const uint8_t *schema, size_t schema_l
  * reports fall on the same slots, which then takes as long as one without workspace (docs/BENCHMARKS.md). A caller who
  * takes requests from strangers puts a random number into the first slot before each call. The answer is the same for every
  * key. The key of dogwood_check's own slots is 0.
- * A refused record (1 to 10, 13) leaves the workspace as it was. Otherwise its contents afterwards mean nothing. It need not be cleared
- * before a call; a call clears it, so that more slots than are needed cost time.
+ * A refused record (1 to 10, 13) leaves the workspace as it was. Otherwise its contents afterwards mean nothing. It need
+ * not be cleared before a call; a call clears it, so that more slots than are needed cost time.
  */
 struct dogwood_check_answer dogwood_check_with(uint8_t rules,
                                                const uint8_t *schema, size_t schema_length,
