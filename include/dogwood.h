@@ -78,8 +78,8 @@ enum dogwood_record {
 
 /*
  * What a call answers: a number of enum dogwood_cause and one of enum dogwood_record, both 0 on success, and a count. The
- * count is of the reports (check, sums), of the windows, or of the output's bytes (lookup); a refusal's is 0, but for
- * DOGWOOD_NO_SPACE of check, sums and windows, which counts the reports or windows that were kept.
+ * count is of the reports (check, sums), of the windows, or of the output's bytes (lookup, write_decimal); a refusal's is
+ * 0, but for DOGWOOD_NO_SPACE of check, sums and windows, which counts the reports or windows that were kept.
  */
 struct dogwood_answer {
     uint8_t number;
@@ -195,6 +195,18 @@ struct dogwood_answer dogwood_lookup(const uint8_t *schema, size_t schema_length
                                      const uint8_t *targets, size_t targets_length,
                                      const uint8_t *path, size_t path_length,
                                      uint8_t *output, size_t output_length);
+
+/* The longest text that dogwood_write_decimal writes has so many bytes. */
+#define DOGWOOD_MOST_DECIMAL 21
+
+/*
+ * Writes a number of ten-thousandths as Cedar's decimals are written: a minus only below zero, the whole part without
+ * leading zeros (`0` below one), a point, four digits.
+ *
+ * Number 0: the buffer begins with the `count` bytes of the text, which is not ended by 0; bytes behind them are as they
+ * were. DOGWOOD_NO_SPACE: the buffer is as it was. There is no other number.
+ */
+struct dogwood_answer dogwood_write_decimal(int64_t value, uint8_t *output, size_t output_length);
 
 /*
  * One report: the span in the rule's text and a message in UTF-8 that is not ended by 0. The span is the condition record's,

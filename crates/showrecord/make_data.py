@@ -119,6 +119,7 @@ OPERATORS = ["<=", "<", ">=", ">", "==", "!="]
 TERMS = {1: "entity", 2: "integer", 3: "decimal", 4: "string", 5: "boolean", 6: "context field", 7: "scope field", 8: "variable", 9: "wildcard", 10: "array", 11: "aggregate", 12: "arithmetic", 13: "ParamRef", 14: "BinderRef"}
 AGGREGATES = {1: "sum", 2: "count", 3: "call"}
 UNITS = ["second", "minute", "hour", "day"]
+ARITH_OPS = ["+", "-", "*"]
 
 
 def slot(r, depth, what, s):
@@ -189,11 +190,24 @@ def condition(r, depth, c):
         slot(r, depth + 1, "slot", rest)
 
 
+def valued(kind, value):
+    """The bytes of what version 3 brought to a term of a kind, and its words."""
+    if kind == 2:
+        return value.to_bytes(8, "big", signed=True), f" {value}"
+    if kind == 5:
+        return bytes([value]), " true" if value else " false"
+    if kind == 12:
+        return bytes([value]), f" {ARITH_OPS[value]}"
+    return bytes([len(value)]) + value.encode(), f" {value}" if kind == 3 else f" `{value}`"
+
+
 def term(r, depth, t):
-    kind, rest = (t, None) if isinstance(t, int) else t
+    kind, rest, *value = (t, None) if isinstance(t, int) else t
     text = TERMS[kind]
     if kind in (1, 8):
         text += f" `{rest}`"
+    data, words = valued(kind, *value) if r.version > 2 and kind in (1, 2, 3, 4, 5, 12) else (b"", "")
+    text += words
     if kind in (6, 7):
         text += " " + row(rest)
     if kind == 10:
@@ -205,6 +219,7 @@ def term(r, depth, t):
     r.u8(kind)
     if kind in (1, 8):
         r.string(rest)
+    r.bytes += data
     if kind in (6, 7):
         r.strings(rest)
     if kind == 10:
@@ -314,6 +329,25 @@ WINDOWS = (6, (0, 90), [
     ]))], (3, 1))], None),
 ], (2, 36))
 
+# Values: the least and the largest number, both booleans, each operator, an empty id, and the literals below an array and in an argument.
+VALUES = (1, (0, 99), [
+    (8, (1, 40), (0, (12, (
+        (12, ((2, None, -9223372036854775808), (2, None, 9223372036854775807)), 0),
+        (12, ((2, None, -1), (2, None, 0)), 1),
+    ), 2), (10, [(3, None, "1.5"), (3, None, "-0.0001"), (5, None, 0), (5, None, 1)]))),
+    (4, (41, 90), [(7, (42, 80), ((43, 79), [], "view", [
+        ("who", [], (1, "Archive::Clerk", "anna")),
+        ("what", [], (1, "Bot", "")),
+        ("note", [], (4, None, "in part")),
+    ]))], None),
+])
+
+
+def literal(t):
+    """A comparison of version 3 between a term and a wildcard."""
+    return bytes(condition_record((8, (0, 8), (4, t, 9)), 3).bytes)
+
+
 ACCEPTED = {
     "schema.dws": schema([], []),
     "cond.dwc": condition_record((8, (0, 8), (1, 5, 2))),
@@ -344,6 +378,7 @@ ACCEPTED = {
     "other.dwt": targets(1, (3, "Bot"), []),
     "every.dwp": path(1, ["by", "born", ""], 2),
     "windows.dwc": condition_record(WINDOWS, 2),
+    "values.dwc": condition_record(VALUES, 3),
 }
 
 
@@ -379,6 +414,8 @@ def refused():
         "refused9.dwc": bytes(array.bytes),
         "refused10.dwp": bytes(ACCEPTED["every.dwp"].bytes) + b"\x00\x07",
         "refused13.dwc": bytes(condition_record((4, (0, 8), [leaf(0)], (0, -1)), 2).bytes),
+        "refused15.dwc": literal((3, None, "1.00000")),
+        "refused16.dwc": literal((3, None, "922337203685477.5808")),
         "empty": b"",
     }
 

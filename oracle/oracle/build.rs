@@ -16,6 +16,7 @@ const FUNCTIONS: [&str; 9] = [
     "dogwood_sums",
     "dogwood_windows",
     "dogwood_lookup",
+    "dogwood_write_decimal",
 ];
 
 fn main() {

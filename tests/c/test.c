@@ -419,6 +419,36 @@ static void test_lookup(void) {
     TEST(refuses(answer, DOGWOOD_NO_SPACE, DOGWOOD_NO_RECORD));
 }
 
+/* ─── Decimals ─── */
+
+/* Whether a number is written as this text, in all of the space and in just enough of it, and not in less. */
+static int shows(int64_t value, const char *text) {
+    const uint8_t *bytes = (const uint8_t *)text;
+    size_t length = strlen(text);
+    struct dogwood_answer answer = dogwood_write_decimal(value, fresh(), SPACE);
+
+    if (!writes(answer, bytes, length)) {
+        return 0;
+    }
+    answer = dogwood_write_decimal(value, fresh(), length);
+    if (!writes(answer, bytes, length)) {
+        return 0;
+    }
+    answer = dogwood_write_decimal(value, fresh(), length - 1);
+    return refuses(answer, DOGWOOD_NO_SPACE, DOGWOOD_NO_RECORD);
+}
+
+static void test_write_decimal(void) {
+    TEST(shows(0, "0.0000"));
+    TEST(shows(1, "0.0001"));
+    TEST(shows(-1, "-0.0001"));
+    TEST(shows(15000, "1.5000"));
+    TEST(shows(INT64_MIN, "-922337203685477.5808"));
+    TEST(shows(INT64_MAX, "922337203685477.5807"));
+    TEST(strlen("-922337203685477.5808") == DOGWOOD_MOST_DECIMAL);
+    TEST(answers(dogwood_write_decimal(0, NULL, 0), DOGWOOD_NO_SPACE, 0, 0));
+}
+
 int main(void) {
     test_readers();
     test_levels();
@@ -431,6 +461,7 @@ int main(void) {
     test_sums();
     test_windows();
     test_lookup();
+    test_write_decimal();
     printf("the library from C: %d tests, %d failed\n", tests, failures);
     return failures != 0;
 }

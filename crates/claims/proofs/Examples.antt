@@ -61,7 +61,7 @@ plain f at (var v) ty e h = record { atoms = refl; inner = refl }
 plain f at wildcard ty e h = record { atoms = refl; inner = refl }
 plain f at (array ts) ty e h = record { atoms = refl; inner = refl }
 plain f at (aggregate a) ty e h = let same : scalar types.long ≡ ty = cc in absurd (false≢true (sym h ∙ sym (ap isNumeric same)))
-plain f at (condition.arith l r) ty e h = let same : scalar types.long ≡ ty = cc in absurd (false≢true (sym h ∙ sym (ap isNumeric same)))
+plain f at (condition.arith op l r) ty e h = let same : scalar types.long ≡ ty = cc in absurd (false≢true (sym h ∙ sym (ap isNumeric same)))
 plain f at sigil ty e h = record { atoms = refl; inner = refl }
 
 -- a comparison of such terms is judged by their types alone

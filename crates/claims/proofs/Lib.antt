@@ -8,7 +8,10 @@ pub mod StrictExamples
 pub mod Visits
 pub mod VisitsExamples
 pub mod Versions
-pub mod FirstVersion
+pub mod Unsaid
+pub mod Changes
 pub mod Windows
+pub mod Values
 pub mod WindowExamples
 pub mod SweepExamples
+pub mod ValueExamples

@@ -58,7 +58,7 @@ module _ (s : Schema) (c : Condition) (scope : Scope) (a : Option Action) where
     type-same wildcard = refl
     type-same (array ts) = refl
     type-same (aggregate g) = refl
-    type-same (condition.arith l r) = refl
+    type-same (condition.arith op l r) = refl
     type-same sigil = refl
 
     arguments-same : (name : List ℕ) (action : Option Action) (args : Arguments) (own : Span) → argumentBreaches (facts p) name action args own ≡ argumentBreaches (facts plain) name action args own
@@ -69,7 +69,7 @@ module _ (s : Schema) (c : Condition) (scope : Scope) (a : Option Action) where
 
     leaves-same : (t : Term) (at : Span) → leafBreaches (facts p) t at ≡ leafBreaches (facts plain) t at
     unfolding leafBreaches
-    leaves-same (condition.arith l r) at = ap₂ (λ (x y : List Breach). x ++ y) (leaves-same l at) (leaves-same r at)
+    leaves-same (condition.arith op l r) at = ap₂ (λ (x y : List Breach). x ++ y) (leaves-same l at) (leaves-same r at)
     leaves-same wildcard at = refl
     leaves-same sigil at = refl
     leaves-same (entity n) at = ap (λ (o : Option Ty). notLongHere o at) (type-same (entity n))
@@ -82,7 +82,7 @@ module _ (s : Schema) (c : Condition) (scope : Scope) (a : Option Action) where
 
     arithmetic-same : (t : Term) (at : Span) → arithmeticBreaches (facts p) t at ≡ arithmeticBreaches (facts plain) t at
     unfolding arithmeticBreaches
-    arithmetic-same (condition.arith l r) at = leaves-same (condition.arith l r) at
+    arithmetic-same (condition.arith op l r) at = leaves-same (condition.arith op l r) at
     arithmetic-same wildcard at = refl
     arithmetic-same sigil at = refl
     arithmetic-same (entity n) at = refl

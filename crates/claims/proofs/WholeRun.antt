@@ -5,7 +5,7 @@ use Rattle.names.specs.Names.{pathOrNone, plain, plainByte, same}
 use Rattle.names.specs.Lists.{gather, anyOf, first, every}
 use Rattle.schema.specs.Schema.{schemaRecord}
 use Rattle.schema.specs.Find.{findAction, actionType}
-use Rattle.condition.specs.Condition.{conditionRecordUpTo, conditionRecord, conditionAt, termAt, conditionKinds, comparisonOf, termKinds, span, operator, operators}
+use Rattle.condition.specs.Condition.{conditionRecordUpTo, conditionRecord, conditionAt, termAt, conditionKinds, comparisonOf, termKinds, given, span, operator, operators}
 use Rattle.condition.specs.Walk.{reached, reachedIn}
 use Rattle.targets.specs.Targets.{targetRecord, narrowing, narrowings, target}
 use Rattle.terms.specs.Terms.{termType}
@@ -18,5 +18,5 @@ use Rattle.typecheck.specs.Check.{profileOf, check, checkWith, checked, breache
 use Rattle.claims.specs.WholeRun.{Runs}
 
 pub whole-run : Runs
-unfolding text whole heading bytes u8 number u16 u32 stringOf many counted finished choose digits pathOrNone plain plainByte same gather anyOf first every schemaRecord findAction actionType conditionRecord conditionAt termAt conditionKinds comparisonOf termKinds span operator operators reached reachedIn targetRecord narrowing narrowings target termType display fits once encoded fitting reported parts filled from check checkWith profileOf checked breachesUnder isChecked visitsUnder begun nodeBreaches arithmeticBreaches numericBreaches conditionRecordUpTo
+unfolding text whole heading bytes u8 number u16 u32 stringOf many counted finished choose digits pathOrNone plain plainByte same gather anyOf first every schemaRecord findAction actionType conditionRecord conditionAt termAt conditionKinds comparisonOf termKinds span operator operators reached reachedIn targetRecord narrowing narrowings target termType display fits once encoded fitting reported parts filled from check checkWith profileOf checked breachesUnder isChecked visitsUnder begun nodeBreaches arithmeticBreaches numericBreaches conditionRecordUpTo given
 whole-run = (refl, refl)

@@ -48,13 +48,13 @@ reports x c = length (breachesUnder plain (x .schema) c (x .scope) (x .target))
 
 -- `1`, `1.0`, `"s"`, `[t]`
 abbrev pub integer : Term
-integer = literal condition.integer
+integer = literal (condition.integer none)
 
 abbrev pub decimal : Term
-decimal = literal condition.decimal
+decimal = literal (condition.decimal none)
 
 abbrev pub string : Term
-string = literal condition.string
+string = literal (condition.string none)
 
 abbrev pub only : Term → Term
 only t = array (cons t nil)
@@ -217,7 +217,7 @@ edges =
     ∷ ofAll NoPrincipals (λ x. length (breachesUnder plain (x .schema) (comparison (x .at) lt decimal decimal) (narrowedTo none x) (x .target))) 1
     -- `* == 1` none; `* + 1 == 2` one
     ∷ ofAll Checked (λ x. reports x (comparison (x .at) eq wildcard integer)) 0
-    ∷ ofAll Checked (λ x. reports x (comparison (x .at) eq (condition.arith wildcard integer) integer)) 1
+    ∷ ofAll Checked (λ x. reports x (comparison (x .at) eq (condition.arith none wildcard integer) integer)) 1
     -- binders `v: Long`, then `v: String`: String everywhere
     ∷ ofAll Rebound (λ x. typeIn (x .under) (x .whole) (var (x .name))) (some (scalar types.string))
     ∷ ofAll AnyName (λ x. reports (x .under) (twice x)) 1

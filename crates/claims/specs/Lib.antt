@@ -9,6 +9,9 @@ pub mod StrictExamples
 pub mod Visits
 pub mod VisitsExamples
 pub mod Versions
+pub mod Changes
 pub mod Windows
+pub mod Values
 pub mod WindowExamples
 pub mod SweepExamples
+pub mod ValueExamples

@@ -1,5 +1,5 @@
--- The examples of the strict check, from the bytes of the records to the reports, under one statement, `Hold lines`: `told rules schema condition` is what a
--- check with these rules reports under the target `view`. Rules 0 is the plain check and 1 the strict one.
+-- The examples of the strict check, from the bytes of the records to the reports, under one statement, `Hold lines`: `told version rules schema condition` is
+-- what a check of a condition in a version with these rules reports under the target `view`. Rules 0 is the plain check and 1 the strict one.
 use Prim.Native.Nat.{ℕ}
 use mathlib.Core.List.{List, [], _∷_, _++_}
 use lib.ListN.{length}
@@ -20,9 +20,9 @@ pub record Told : Type 0 where
 abbrev pub lent : List ℕ
 lent = text "............................................................................................................"
 
-abbrev pub told : ℕ → List ℕ → List ℕ → Told
-told rules schema condition =
-    let o = checkWith rules schema (0x44 ∷ 0x57 ∷ 0x43 ∷ 0 ∷ 1 ∷ condition) targetBytes lent .outcome in
+abbrev pub told : ℕ → ℕ → List ℕ → List ℕ → Told
+told version rules schema condition =
+    let o = checkWith rules schema (0x44 ∷ 0x57 ∷ 0x43 ∷ 0 ∷ version ∷ condition) targetBytes lent in
     record { number = o .answer .number; recordNumber = o .answer .recordNumber; says = reports (o .answer .count) (o .buffer) }
 
 abbrev pub clean : Told
@@ -69,25 +69,25 @@ endsLater = (1 ∷ 0 ∷ 0 ∷ 0 ∷ 0 ∷ 0 ∷ 0 ∷ 0 ∷ 0 ∷ between 3 4 4
 abbrev pub lines : List Row
 lines =
     -- known and different tags, in both equalities; the plain check passes them
-    ofAll (Unit {0}) (λ x. told 0 schemaBytes (compares 4 (entity (text "U")) (entity (text "G")))) clean
-    ∷ ofAll (Unit {0}) (λ x. told 1 schemaBytes (compares 4 (entity (text "U")) (entity (text "G")))) (one 0 0 (text "equality requires both sides to have the same type, got `U` and `G`"))
-    ∷ ofAll (Unit {0}) (λ x. told 1 schemaBytes (compares 5 (entity (text "U")) (entity (text "G")))) (one 0 0 (text "equality requires both sides to have the same type, got `U` and `G`"))
+    ofAll (Unit {0}) (λ x. told 1 0 schemaBytes (compares 4 (entity (text "U")) (entity (text "G")))) clean
+    ∷ ofAll (Unit {0}) (λ x. told 1 1 schemaBytes (compares 4 (entity (text "U")) (entity (text "G")))) (one 0 0 (text "equality requires both sides to have the same type, got `U` and `G`"))
+    ∷ ofAll (Unit {0}) (λ x. told 1 1 schemaBytes (compares 5 (entity (text "U")) (entity (text "G")))) (one 0 0 (text "equality requires both sides to have the same type, got `U` and `G`"))
     -- a tag is the simple name
-    ∷ ofAll (Unit {0}) (λ x. told 1 schemaBytes (compares 4 (entity (text "A::U")) (entity (text "B::U")))) clean
+    ∷ ofAll (Unit {0}) (λ x. told 1 1 schemaBytes (compares 4 (entity (text "A::U")) (entity (text "B::U")))) clean
     -- of two principals the type is untagged, and compatible with every entity
-    ∷ ofAll (Unit {0}) (λ x. told 1 twoPrincipals (compares 4 principal (entity (text "D")))) clean
+    ∷ ofAll (Unit {0}) (λ x. told 1 1 twoPrincipals (compares 4 principal (entity (text "D")))) clean
     -- inside arrays also
-    ∷ ofAll (Unit {0}) (λ x. told 1 schemaBytes (compares 4 (only (entity (text "U"))) (only (entity (text "G"))))) (one 0 0 (text "equality requires both sides to have the same type, got `array<U>` and `array<G>`"))
-    ∷ ofAll (Unit {0}) (λ x. told 0 schemaBytes (compares 4 (only (entity (text "U"))) (only (entity (text "G"))))) clean
+    ∷ ofAll (Unit {0}) (λ x. told 1 1 schemaBytes (compares 4 (only (entity (text "U"))) (only (entity (text "G"))))) (one 0 0 (text "equality requires both sides to have the same type, got `array<U>` and `array<G>`"))
+    ∷ ofAll (Unit {0}) (λ x. told 1 0 schemaBytes (compares 4 (only (entity (text "U"))) (only (entity (text "G"))))) clean
     -- and differs in nothing else: the empty array, mixed arrays, and order
-    ∷ ofAll (Unit {0}) (λ x. told 1 schemaBytes (compares 4 (only (entity (text "U"))) empty)) clean
-    ∷ ofAll (Unit {0}) (λ x. told 1 schemaBytes (compares 4 (pair (entity (text "U")) (entity (text "G"))) (pair (entity (text "G")) (entity (text "U"))))) clean
-    ∷ ofAll (Unit {0}) (λ x. told 1 schemaBytes (compares 4 (pair (entity (text "U")) (entity (text "G"))) (only (entity (text "U"))))) (one 0 0 (text "equality requires both sides to have the same type, got `mixed-type array` and `array<U>`"))
-    ∷ ofAll (Unit {0}) (λ x. told 1 schemaBytes (compares 1 (entity (text "U")) (entity (text "G")))) (one 0 0 (text "comparison requires numeric operands on both sides, got `U` and `G`"))
+    ∷ ofAll (Unit {0}) (λ x. told 1 1 schemaBytes (compares 4 (only (entity (text "U"))) empty)) clean
+    ∷ ofAll (Unit {0}) (λ x. told 1 1 schemaBytes (compares 4 (pair (entity (text "U")) (entity (text "G"))) (pair (entity (text "G")) (entity (text "U"))))) clean
+    ∷ ofAll (Unit {0}) (λ x. told 1 1 schemaBytes (compares 4 (pair (entity (text "U")) (entity (text "G"))) (only (entity (text "U"))))) (one 0 0 (text "equality requires both sides to have the same type, got `mixed-type array` and `array<U>`"))
+    ∷ ofAll (Unit {0}) (λ x. told 1 1 schemaBytes (compares 1 (entity (text "U")) (entity (text "G")))) (one 0 0 (text "comparison requires numeric operands on both sides, got `U` and `G`"))
     -- an entity `string` is shown like a string, so that a strict breach comes first under the same message and start, and its end stays
-    ∷ ofAll (Unit {0}) (λ x. told 0 schemaBytes endsLater) (one 3 9 (text "equality requires both sides to have the same type, got `U` and `string`"))
-    ∷ ofAll (Unit {0}) (λ x. told 1 schemaBytes endsLater) (one 3 4 (text "equality requires both sides to have the same type, got `U` and `string`"))
+    ∷ ofAll (Unit {0}) (λ x. told 1 0 schemaBytes endsLater) (one 3 9 (text "equality requires both sides to have the same type, got `U` and `string`"))
+    ∷ ofAll (Unit {0}) (λ x. told 1 1 schemaBytes endsLater) (one 3 4 (text "equality requires both sides to have the same type, got `U` and `string`"))
     -- the other bits of the rules have no effect
-    ∷ ofAll (Unit {0}) (λ x. told 254 schemaBytes (compares 4 (entity (text "U")) (entity (text "G")))) clean
-    ∷ ofAll (Unit {0}) (λ x. told 255 schemaBytes (compares 4 (entity (text "U")) (entity (text "G")))) (one 0 0 (text "equality requires both sides to have the same type, got `U` and `G`"))
+    ∷ ofAll (Unit {0}) (λ x. told 1 254 schemaBytes (compares 4 (entity (text "U")) (entity (text "G")))) clean
+    ∷ ofAll (Unit {0}) (λ x. told 1 255 schemaBytes (compares 4 (entity (text "U")) (entity (text "G")))) (one 0 0 (text "equality requires both sides to have the same type, got `U` and `G`"))
     ∷ []

@@ -110,5 +110,5 @@ lines =
     ∷ reads 2 2 0
     ∷ reads 2 3 4
     ∷ reads 2 0 4
-    ∷ checks 3 call (refused 4)
+    ∷ checks 4 call (refused 4)
     ∷ []

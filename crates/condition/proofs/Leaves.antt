@@ -16,9 +16,9 @@ use Rattle.names.specs.declared.Class.the-variants.{Plain, Identifier}
 use Rattle.names.specs.Read.{ending}
 use Rattle.names.specs.declared.Read.{Read}
 use Rattle.names.specs.declared.Read.the-variants.{Next, Refused}
-use Rattle.names.specs.Laws.Readers.{u8-end, u8-got, bytes-end, bytes-got, via, last, stops, goes, alike, choice, choose-beyond, keysUpTo, Each, each-below, each-in}
+use Rattle.names.specs.Laws.Readers.{u8-end, u8-got, bytes-end, bytes-got, via, last, stops, goes, alike, choice, choose-beyond, keysUpTo, Each, each-in}
 use Rattle.names.specs.Laws.Rows.{counted-end, counted-start, each-done, each-stops, each-turn}
-use Rattle.condition.specs.Condition.{Slot, Operator, timepoint, path, span, slotKinds, slot, annotation, binder, operators, operator, timepointOf}
+use Rattle.condition.specs.Condition.{Slot, timepoint, path, span, slotKinds, slot, annotation, binder, timepointOf}
 
 module _ (s : List ℕ) (at : ℕ) where
   u32-end : length s < at + 4 → u32 s at ≡ bad 2
@@ -52,10 +52,6 @@ module _ (s : List ℕ) (at : ℕ) where
   unfolding slot ending
   slot-end h = rw (u8-end s at h)
 
-  pub operator-end : length s ≤ at → Refused 2 ≡ ending (operator s at)
-  unfolding operator ending
-  operator-end h = rw (u8-end s at h)
-
   module _ (h : at < length s) where
     slot-kind : (k : ℕ) → getD s at 0 ≡ k → slot s at ≡ choose k slotKinds s (at + 1)
     unfolding slot
@@ -72,18 +68,6 @@ module _ (s : List ℕ) (at : ℕ) where
     pub slot-sigil : (getD s at 0 ≡ 0 → ⊥) → getD s at 0 ≤ 2 → Next (at + 1) ≡ ending (slot s at)
     unfolding choose slotKinds ending Each
     slot-sigil z k = via (slot-kind _ refl) (each-in (λ j. Next (at + 1) ≡ ending (choose j slotKinds s (at + 1))) 1 2 ((tt, refl), refl) (getD s at 0) (omega arith) (omega arith))
-
-    operator-kind : (k : ℕ) → getD s at 0 ≡ k → operator s at ≡ choose k operators s (at + 1)
-    unfolding operator
-    operator-kind = choice s at operators h
-
-    pub operator-undefined : 5 < getD s at 0 → Refused 5 ≡ ending (operator s at)
-    unfolding ending keysUpTo operators
-    operator-undefined k = via (operator-kind _ refl) (rw (choose-beyond s (at + 1) 5 (getD s at 0) k operators refl))
-
-    pub operator-got : getD s at 0 ≤ 5 → Next (at + 1) ≡ ending (operator s at)
-    unfolding choose operators ending Each
-    operator-got k = via (operator-kind _ refl) (each-below (λ j. Next (at + 1) ≡ ending (choose j operators s (at + 1))) 6 ((((((tt, refl), refl), refl), refl), refl), refl) (getD s at 0) (omega arith))
 
   none-counted : (m : ℕ) → ending (many (λ w. w) (each (stringOf identifier)) 0 none s m) ≡ ending (pure timepoint s m)
   unfolding many ending
@@ -115,6 +99,6 @@ module _ (s : List ℕ) (at : ℕ) where
     unfolding timepointOf
     timepoint-read n e y is′ = goes _ _ e is λ a d. is′ ∙ last _ _
 
-pub ruleset leaves = (needs, span-none, span-short, span-got, slot-end, slot-named, slot-undefined, slot-sigil, operator-end, operator-undefined, operator-got, annotation-read, binder-stops, binder-read, timepoint-stops, timepoint-read)
+pub ruleset leaves = (needs, span-none, span-short, span-got, slot-end, slot-named, slot-undefined, slot-sigil, annotation-read, binder-stops, binder-read, timepoint-stops, timepoint-read)
 
 pub ruleset rows = (needs, counted-end, counted-start, each-done, each-stops, each-turn)

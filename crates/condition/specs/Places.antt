@@ -2,10 +2,11 @@
 -- position alone denotes a condition, a term, a list of arguments; where none stands there, any. Its version is the one that stands in the record.
 use Prim.Native.Nat.{ℕ, _<_}
 use mathlib.Core.Path.{_≡_}
-use mathlib.Core.Bool.{Bool, false}
+use mathlib.Core.Bool.{Bool, false, cond}
 use mathlib.Core.List.{List, []}
+use lib.Dec.{leb}
 use lib.ListN.{take, drop}
-use Rattle.names.specs.Fields.{got, Reader, choose, levels, number, whole}
+use Rattle.names.specs.Fields.{got, Reader, _>>=_, pure, refuse, u8, choose, levels, number, whole}
 use Rattle.names.specs.Paths.{pathOf}
 use Rattle.names.specs.Read.{accepted, valueOr}
 use Rattle.condition.specs.Condition.{Span, Condition, Term, Terms, Arguments, Aggregate, Slot, Annotation, Binder, opaque, wildcard, noArgument, nil, call, paramRef, timepoint, conditionAt, termAt, arguments, elements, aggregateOf, unsaid, Window, slot, annotation, binder, units, window, conditionRecord}
@@ -106,6 +107,12 @@ isWindow s at = accepted (window (versionIn s) s at)
 
 unfoldable pub windowIn : List ℕ → ℕ → Window
 windowIn s at = valueOr unsaid (window (versionIn s) s at)
+
+-- a choice byte behind which nothing belongs to the choice: 0 to the last
+unfoldable pub choiceUpTo : ℕ → Reader ℕ
+choiceUpTo last = do
+  k ← u8
+  cond (leb k last) (pure k) (refuse 5)
 
 -- the seconds of the unit that a choice byte stands for
 pub record UnitOf (k seconds : ℕ) : Type 0 where

@@ -23,7 +23,7 @@ operandAggregates (var v) = []
 operandAggregates wildcard = []
 operandAggregates (array ts) = []
 operandAggregates (aggregate a) = a ∷ []
-operandAggregates (arith l r) = operandAggregates l ++ operandAggregates r
+operandAggregates (arith op l r) = operandAggregates l ++ operandAggregates r
 operandAggregates sigil = []
 
 -- the binders of an operand's aggregates
@@ -50,7 +50,7 @@ unfoldable mutual
   reachedIn wildcard = []
   reachedIn (array ts) = []
   reachedIn (aggregate a) = reachedBody a
-  reachedIn (arith l r) = reachedIn l ++ reachedIn r
+  reachedIn (arith op l r) = reachedIn l ++ reachedIn r
   reachedIn sigil = []
 
   pub reachedBody : Aggregate → List Condition

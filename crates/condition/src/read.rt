@@ -1,4 +1,7 @@
 // The condition record: which bytes are one.
+use crate::choice::read_choice;
+use crate::values::read_arith_op;
+use crate::values::read_value;
 use crate::window::read_window;
 use names::Class;
 use names::Read;
@@ -78,13 +81,7 @@ pub fn read_binders(s: &[u8], start: usize) -> Read
 fn read_operator(s: &[u8], at: usize) -> Read
     ensures { λ r. ⌜ r ≡ ending (operator (now (s .entry)) at) ⌝ }
 {
-    if s.len() <= at {
-        return Read::Refused(2);
-    }
-    if 5 < s[at] {
-        return Read::Refused(5);
-    }
-    Read::Next(at + 1)
+    read_choice(s, at, 5)
 }
 
 // A timepoint: a span and a slot.
@@ -288,11 +285,8 @@ pub fn read_term(s: &[u8], at: usize, version: usize, left: usize, in_array: boo
     if 12 < kind {
         return Read::Next(at + 1);
     }
-    if kind == 1 {
-        return names::read_string(s, at + 1, Class::PathName);
-    }
     if kind <= 5 {
-        return Read::Next(at + 1);
+        return read_value(s, at + 1, kind, version);
     }
     if kind <= 7 {
         return names::read_path(s, at + 1);
@@ -318,11 +312,15 @@ pub fn read_term(s: &[u8], at: usize, version: usize, left: usize, in_array: boo
 fn read_arith(s: &[u8], at: usize, version: usize, left: usize, in_array: bool) -> Read
     ensures { λ r. ⌜ r ≡ ending (arithOf version (conditionAt version left) (termAt version left) in_array (now (s .entry)) at) ⌝ }
 {
-    let first = read_term(s, at, version, left, in_array);
-    let Read::Next(n) = first else {
+    let op = read_arith_op(s, at, version);
+    let Read::Next(n) = op else {
+        return op;
+    };
+    let first = read_term(s, n, version, left, in_array);
+    let Read::Next(m) = first else {
         return first;
     };
-    read_term(s, n, version, left, in_array)
+    read_term(s, m, version, left, in_array)
 }
 
 // A count of an array's elements and the elements.
@@ -400,7 +398,7 @@ fn read_count(s: &[u8], at: usize, version: usize, left: usize) -> Read
 pub fn read_condition(s: &[u8]) -> Read
     ensures { λ r. ⌜ r ≡ ending (whole conditionRecord (now (s .entry))) ⌝ }
 {
-    let heading = names::read_start(s, b"DWC", 2);
+    let heading = names::read_start(s, b"DWC", 3);
     let Read::Next(at) = heading else {
         return heading;
     };

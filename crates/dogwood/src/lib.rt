@@ -9,6 +9,8 @@ ghost use Rattle.condition.specs.Condition.{conditionRecord};
 ghost use Rattle.targets.specs.Targets.{targetRecord};
 ghost use Rattle.targets.specs.PathRecord.{pathRecord};
 ghost use Rattle.reports.specs.Answers.{outcomeOf};
+ghost use Rattle.reports.specs.Placed.{placed};
+ghost use Rattle.decimal.specs.Decimal.{written};
 ghost use Rattle.sums.specs.Sums.{sums};
 ghost use Rattle.sweeps.specs.Windows.{windows};
 ghost use Rattle.lookup.specs.Lookup.{lookup};
@@ -105,4 +107,12 @@ pub extern "C" fn dogwood_windows(condition: &[u8], period: u64, output: &mut [u
     ensures { λ r. ⌜ outcomeOf r (now (output .exit)) ≡ windows (now (condition .entry)) period (now (output .entry)) ⌝ }
 {
     sweeps::windows(condition, period, output)
+}
+
+// A number of ten-thousandths as the text of a decimal: the answer, and the text in the lent buffer.
+#[no_mangle]
+pub extern "C" fn dogwood_write_decimal(value: i64, output: &mut [u8]) -> Answer
+    ensures { λ r. ⌜ outcomeOf r (now (output .exit)) ≡ placed (written value) (now (output .entry)) ⌝ }
+{
+    decimal::write_decimal(value, output)
 }

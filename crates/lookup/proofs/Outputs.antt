@@ -28,8 +28,9 @@ use Rattle.resolution.specs.Passes.{scopeNumber, scopeOf, briefly, listed, with
 use Rattle.resolution.specs.declared.ScopePath.{ScopePath}
 use Rattle.resolution.specs.declared.ScopePath.the-variants as ScopePath
 use Rattle.resolution.specs.Laws.Listed.{with-its-list, missing-listed, ambiguous-listed}
-use Rattle.lookup.specs.Lookup.{sized, block, output, placed}
-use Rattle.lookup.specs.Places.{answerTo, entitiesOf, renderedOf, stringsOf, Long, Measures, Writes}
+use Rattle.reports.specs.Placed.{placed, Writes, placed-fits, placed-not}
+use Rattle.lookup.specs.Lookup.{sized, block, output}
+use Rattle.lookup.specs.Places.{answerTo, entitiesOf, renderedOf, stringsOf, Long, Measures}
 use Rattle.lookup.specs.declared.Question.{Question}
 use Rattle.lookup.specs.declared.Measured.{Measured}
 use Rattle.lookup.proofs.Parts.{length-sized}
@@ -118,18 +119,6 @@ pub ruleset putting = (needs, resolved-small, resolved-room, resolved-put, missi
 length-block : (status : ℕ) (ws : List (List ℕ)) → length (block status ws) ≡ 3 + length (gather sized ws)
 unfolding block
 length-block status ws = omega (arith, length-append (digits 2 (length ws)) (gather sized ws), length-digits 2 (length ws))
-
-placed-fits : (out b : List ℕ) (t : List ℕ) (r : ℕ) → Stored b 0 out t r → (a : Answer) → Writes r a → outcomeOf a t ≡ placed out b
-unfolding placed store outcomeOf
-placed-fits out b t r i a w =
-    let h : length out ≤ length b = omega (arith, i .room) in
-    let e : r ≡ length out = omega (arith, i .next) in
-    let k : t ≡ out ++ drop (length out) b = i .bytes ∙ rw zero-add in
-    w .is t ∙ rw (le-leb (length out) (length b) h, k, e)
-
-placed-not : (out b : List ℕ) → length b < length out → (a : Answer) → Refuses 11 0 a → outcomeOf a b ≡ placed out b
-unfolding placed
-placed-not out b h a i = i .is b ∙ rw (lt-leb (length out) (length b) h)
 
 module _ (status : ℕ) (ws : List (List ℕ)) (b : List ℕ) (m : Measured) (is : Measures ws m) where
   pub place-not : length b < 3 + m .size → (a : Answer) → Refuses 11 0 a → outcomeOf a b ≡ placed (block status ws) b

@@ -28,7 +28,8 @@ use Rattle.targets.specs.Places.{targetsIn, isTarget, targetIn, queryIn, sideOf
 use Rattle.targets.specs.declared.Side.{Side}
 use Rattle.targets.specs.declared.Side.the-variants as Side
 use Rattle.resolution.specs.Resolution.{scopePath, unknown}
-use Rattle.lookup.specs.Lookup.{onSide, found, output, placed, answered, lookup}
+use Rattle.reports.specs.Placed.{placed}
+use Rattle.lookup.specs.Lookup.{onSide, found, output, answered, lookup}
 use Rattle.lookup.specs.Places.{Records, PathOf, SideOf, Asks, answerTo, QuestionOf}
 use Rattle.lookup.specs.declared.Question.{Question}
 

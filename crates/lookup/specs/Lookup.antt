@@ -1,9 +1,7 @@
 -- The lookup of a scope path for one target.
 use Prim.Native.Nat.{ℕ}
-use mathlib.Core.Bool.{cond}
 use mathlib.Core.List.{List, [], _∷_, _++_}
-use lib.ListN.{length, drop}
-use lib.Dec.{leb}
+use lib.ListN.{length}
 use Rattle.names.specs.Lists.{maybe, gather}
 use Rattle.names.specs.Fields.{either, whole, digits}
 use Rattle.types.specs.Types.{render}
@@ -13,6 +11,7 @@ use Rattle.targets.specs.Targets.{Target, Targets, targetRecord}
 use Rattle.targets.specs.PathRecord.{Side, principal, resource, Query, pathRecord, targetAt}
 use Rattle.resolution.specs.Resolution.{ScopePath, resolved, missing, nonRecord, ambiguous, unknown, scopePath}
 use Rattle.reports.specs.Reports.{Outcome, refusal}
+use Rattle.reports.specs.Placed.{placed}
 
 -- the asked side's narrowing applies, to the entity types that the action names on that side
 unfoldable pub onSide : Schema → Targets → Query → Action → Side → ScopePath
@@ -38,16 +37,6 @@ output (missing seg entities) = block 1 (seg ∷ entities)
 output (nonRecord seg) = block 2 (seg ∷ [])
 output (ambiguous types) = block 3 types
 output unknown = block 4 []
-
--- the output at the front of the buffer and how many bytes it has, or 11 and the buffer as it was
-unfoldable pub placed : List ℕ → List ℕ → Outcome
-placed out buffer =
-    cond (leb (length out) (length buffer))
-    (record {
-      answer = record { number = 0; recordNumber = 0; count = length out };
-      buffer = out ++ drop (length out) buffer;
-    })
-    (refusal 11 0 buffer)
 
 -- the lookup of three records that were read: 12 where the list has no such position
 unfoldable pub answered : Schema → Targets → Query → List ℕ → Outcome

@@ -21,8 +21,6 @@ use Rattle.resolution.specs.Places.{areTypes, typesIn, areSegments, segmentsIn}
 use Rattle.resolution.specs.Passes.{failing, renderingsOn}
 use Rattle.resolution.specs.declared.ScopePath.{ScopePath}
 use Rattle.resolution.specs.declared.ScopePath.the-variants as ScopePath
-use Rattle.reports.specs.Answers.{outcomeOf}
-use Rattle.reports.specs.declared.Answer.{Answer}
 use Rattle.lookup.specs.Lookup.{onSide, sized}
 use Rattle.lookup.specs.declared.Question.{Question}
 use Rattle.lookup.specs.declared.Measured.{Measured}
@@ -74,10 +72,6 @@ stringsOf s n c q (ScopePath.Missing p) = wordAt c p ∷ entitiesOf s n c q p
 stringsOf s n c q (ScopePath.NonRecord p) = wordAt c p ∷ []
 stringsOf s n c q ScopePath.Ambiguous = renderedOf s n c q
 stringsOf s n c q ScopePath.Unknown = []
-
--- the code's answer where so many bytes were written
-pub record Writes (count : ℕ) (r : Answer) : Type 0 where
-  pub is : (s : List ℕ) → outcomeOf r s ≡ record { answer = record { number = 0; recordNumber = 0; count = count }; buffer = s }
 
 -- the length of a string that is short: a name, or the text of a small type
 pub record Long (w : List ℕ) (long : ℕ) : Type 0 where

@@ -12,9 +12,10 @@ use targets::Side;
 ghost use mathlib.Core.Path.{_≡_};
 ghost use mathlib.Core.Bool.{true};
 ghost use Rattle.reports.specs.Answers.{outcomeOf};
+ghost use Rattle.reports.specs.Placed.{placed};
 ghost use Rattle.schema.specs.Places.{isAction, actionIn, schemaIn};
 ghost use Rattle.targets.specs.Places.{areTargets, targetsIn, isTarget, targetIn, isQuery, queryIn};
-ghost use Rattle.lookup.specs.Lookup.{output, found, placed, answered, lookup};
+ghost use Rattle.lookup.specs.Lookup.{output, found, answered, lookup};
 ghost use Rattle.lookup.specs.Places.{Records, PathOf, SideOf, QuestionOf};
 
 // The segments of the path record.

@@ -13,6 +13,7 @@ use crate::strings::type_length;
 use crate::strings::word_length;
 use reports::Answer;
 use reports::refused;
+use reports::written;
 use resolution::ScopePath;
 use resolution::resolve_scope_path;
 use resolution::scope_number;
@@ -22,11 +23,12 @@ ghost use lib.ListN.{length};
 ghost use Rattle.names.specs.Lists.{gather};
 ghost use Rattle.names.specs.Writer.{Stored};
 ghost use Rattle.reports.specs.Answers.{outcomeOf};
+ghost use Rattle.reports.specs.Placed.{placed};
 ghost use Rattle.resolution.specs.Resolution.{unknown};
 ghost use Rattle.resolution.specs.Places.{smallPath};
 ghost use Rattle.resolution.specs.Passes.{scopeNumber, scopeOf};
-ghost use Rattle.lookup.specs.Lookup.{sized, block, output, placed};
-ghost use Rattle.lookup.specs.Places.{Asks, answerTo, stringsOf, Measures, Writes};
+ghost use Rattle.lookup.specs.Lookup.{sized, block, output};
+ghost use Rattle.lookup.specs.Places.{Asks, answerTo, stringsOf, Measures};
 
 // How many strings an answer has, and how many bytes they take.
 fn measure<'a>(s: &'a [u8], n: &[u8], c: &'a [u8], q: Question, answer: ScopePath) -> Measured
@@ -64,17 +66,6 @@ fn put_strings<'a>(
         ScopePath::NonRecord(p) => put_word(out, at, c, p),
         ScopePath::Ambiguous => put_types(out, at, s, n, c, q),
         ScopePath::Unknown => at,
-    }
-}
-
-// The answer of a lookup that wrote so many bytes.
-fn written(count: usize) -> Answer
-    ensures { λ r. ⌜ Writes count r ⌝ }
-{
-    Answer {
-        number: 0,
-        record: 0,
-        count,
     }
 }
 

@@ -6,6 +6,7 @@ use Prim.Native.Nat.{ℕ, zero, suc, _+_, _-_, _≤_, _<_}
 use native.Mathlib.Numerals.{sub-one}
 use native.Mathlib.Omega.{arith}
 use borrow.Author.Needs.{needs}
+use borrow.Author.Tests.{le-leb, lt-leb}
 use lib.ListN.{length, getD}
 use Rattle.names.specs.declared.Read.{Read}
 use Rattle.names.specs.declared.Read.the-variants.{Next}
@@ -15,13 +16,16 @@ use Rattle.names.specs.Paths.{pathOf}
 use Rattle.names.specs.Read.{ending, accepted, row, isRow}
 use Rattle.names.specs.Laws.Readers.{Keeps, u8-got, string-got, string-view, StringView, accept, Accepted, is-accepted, passes}
 use Rattle.names.specs.Laws.Rows.{Opens, opens, row-cons, counted-view, counted-start, each-done, each-turn}
-use Rattle.condition.specs.Places.{versionIn, termHere, isTerm, isPath}
+use Rattle.condition.specs.Places.{versionIn, termHere, isTerm, termIn, isPath}
 use Rattle.nodes.specs.Offsets.{termPart}
-use Rattle.nodes.specs.Laws.Inside.{term-place}
+use Rattle.nodes.specs.Laws.Inside.{term-place, same-end}
 use Rattle.nodes.specs.Looked.{Skipped, TermKindHere}
 use Rattle.nodes.specs.Parts.{stringsAt}
-use Rattle.condition.specs.Laws.ByKind.{entity-read, var-read, path-read}
-use Rattle.nodes.specs.Laws.Opens.{term-stands, raw-term, skipped-term}
+use Rattle.condition.specs.Condition.{Entity, entity, given, entityFields}
+use Rattle.condition.specs.Laws.ByKind.{var-read, path-read}
+use Rattle.nodes.specs.Laws.Views.{PartView, entity-view}
+use Rattle.nodes.specs.Laws.Given.{not-given, Said, is-given, EntityView, entity-parts}
+use Rattle.nodes.specs.Laws.Opens.{Stands, term-stands, raw-term, skipped-term}
 use Rattle.nodes.specs.Laws.Pieces.{skipped-names, skipped-path, context-path, scope-path}
 
 ended : {A : Type 0} {g : Got A} {a : A} {n : ℕ} → g ≡ got a n → ending g ≡ Next n
@@ -117,6 +121,42 @@ module _ (s : List ℕ) (at : ℕ) where
 
 pub ruleset by-strings = (needs, names-strings, names-past, path-strings, path-past)
 
+-- ---- entities
+
+module _ (s : List ℕ) (at : ℕ) (acc : accepted (entityFields (versionIn s) s at) ≡ true) where
+  stood : Accepted (entityFields (versionIn s) s at)
+  stood = accept _ acc
+
+  parts : EntityView (versionIn s) s at (stood .value) (stood .place)
+  parts = entity-parts (versionIn s) s at (stood .read)
+
+  pub name-inside : at + 1 + getD s at 0 ≤ length s
+  name-inside = let v = string-view pathName s at (parts .reads) in rw (← v .place) (v .inside)
+
+  module _ (m : ℕ) (e : m ≡ at + 1 + getD s at 0) (v : ℕ) (is : v ≡ versionIn s) where
+    middle-is : parts .middle ≡ m
+    middle-is = string-view pathName s at (parts .reads) .place ∙ sym e
+
+    pub name-past : v ≤ 2 → Skipped (entityFields (versionIn s) s at) at m
+    name-past h =
+        let i = not-given (versionIn s) (stringOf plain) s (parts .middle) (rw (← is) (le-leb v 2 h)) (parts .further) in
+        record { ends = ended (stood .read) ∙ ap Next (i ∙ middle-is); ahead = omega arith }
+
+    module _ (h : 2 < v) where
+      said : Said (stringOf plain) s (parts .middle) (parts .id) (stood .place)
+      said = is-given (versionIn s) (stringOf plain) s (parts .middle) (rw (← is) (lt-leb v 2 h)) (parts .further)
+
+      id-view : StringView plain s m (said .value) (stood .place)
+      id-view = string-view plain s m (ap (stringOf plain s) (sym middle-is) ∙ said .reads)
+
+      pub id-inside : m + 1 + getD s m 0 ≤ length s
+      id-inside = rw (← id-view .place) (id-view .inside)
+
+      pub id-past : (n : ℕ) → n ≡ m + 1 + getD s m 0 → Skipped (entityFields (versionIn s) s at) at n
+      id-past n i = record { ends = ended (stood .read) ∙ ap Next (id-view .place ∙ sym i); ahead = omega arith }
+
+pub ruleset past-entities = (needs, name-inside, name-past, id-inside, id-past)
+
 -- ---- terms that are a word or a path
 
 module _ (s : List ℕ) (at : ℕ) (acc : isTerm s at ≡ true) (k : ℕ) (o : TermKindHere s at k) (p : ℕ) (place : p ≡ termPart s at) where
@@ -134,14 +174,17 @@ module _ (s : List ℕ) (at : ℕ) (acc : isTerm s at ≡ true) (k : ℕ) (o : T
     word-past n e = record { ends = sym i ∙ ended (own .read) ∙ ap Next (view .place ∙ sym e); ahead = omega (arith, term-place s at p place) }
 
   module _ (is : k ≡ 1) where
-    entity-ends : ending (stringOf pathName s p) ≡ ending (termHere s at)
-    entity-ends = ap (λ j. ending (stringOf pathName s j)) (term-place s at p place) ∙ entity-read (versionIn s) s at levels false (o .inside) (λ z. omega arith) _ (raw-term s at acc 1 (λ z. omega arith) (sym (o .kind) ∙ is)) refl
+    named : PartView (entityFields (versionIn s)) entity s at (termIn s at) (term-stands s at acc .end)
+    named = entity-view (versionIn s) s at (term-stands s at acc .read) (raw-term s at acc 1 (λ z. omega arith) (sym (o .kind) ∙ is))
 
-    pub entity-inside : p + 1 + getD s p 0 ≤ length s
-    entity-inside = word-inside pathName entity-ends
+    entity-read : entityFields (versionIn s) s p ≡ got (named .part) (term-stands s at acc .end)
+    entity-read = ap (entityFields (versionIn s) s) (term-place s at p place) ∙ named .reads
 
-    pub entity-past : (n : ℕ) → n ≡ p + 1 + getD s p 0 → Skipped (termHere s at) at n
-    entity-past = word-past pathName entity-ends
+    pub entity-stands : accepted (entityFields (versionIn s) s p) ≡ true
+    entity-stands = is-accepted entity-read
+
+    pub entity-past : (n : ℕ) → Skipped (entityFields (versionIn s) s p) p n → Skipped (termHere s at) at n
+    entity-past n z = record { ends = same-end (term-stands s at acc .read) entity-read ∙ z .ends; ahead = omega (arith, z .ahead, term-place s at p place) }
 
   module _ (is : k ≡ 8) where
     var-ends : ending (stringOf plain s p) ≡ ending (termHere s at)
@@ -174,4 +217,4 @@ module _ (s : List ℕ) (at : ℕ) (acc : isTerm s at ≡ true) (k : ℕ) (o : T
     pub scope-past : (n : ℕ) → Skipped (pathOf s p) p n → Skipped (termHere s at) at n
     scope-past = path-over (omega (arith, seven)) (omega (arith, seven))
 
-pub ruleset past-terms = (needs, entity-inside, entity-past, var-inside, var-past, context-path, context-past, scope-path, scope-past, skipped-term)
+pub ruleset past-terms = (needs, entity-stands, entity-past, var-inside, var-past, context-path, context-past, scope-path, scope-past, skipped-term)

@@ -2,6 +2,7 @@
 use mathlib.Core.Path.{_≡_, refl, sym, ap, _∙_}
 use mathlib.Core.Bool.{true, false}
 use mathlib.Core.List.{List, [], _∷_, _++_, append-assoc, append-nil}
+use mathlib.Core.Option.{Option}
 use Prim.Native.Nat.{ℕ, zero, suc, _+_, _-_, _≤_, _<_}
 use native.Mathlib.Numerals.{add-one, sub-one}
 use native.Mathlib.Omega.{arith}
@@ -12,13 +13,13 @@ use Rattle.names.specs.Fields.{Got, got, many}
 use Rattle.names.specs.Read.{row, rowIn}
 use Rattle.names.specs.Laws.Readers.{is-accepted, has-value}
 use Rattle.names.specs.Laws.Rows.{Opens, opens, row-cons, row-empty}
-use Rattle.condition.specs.Condition.{Span, Operator, Condition, Term, Aggregate, comparison, entity, literal, contextField, scopeField, var, wildcard, array, aggregate, sigil}
+use Rattle.condition.specs.Condition.{Span, Operator, Condition, Term, ArithOp, Aggregate, comparison, entity, literal, contextField, scopeField, var, wildcard, array, aggregate, sigil}
 use Rattle.condition.specs.Condition as tree
 use Rattle.condition.specs.Walk.{operandAggregates}
 use Rattle.condition.specs.Places.{termHere, isCondition, conditionIn, isTerm, termIn, aggregateIn}
 use Rattle.nodes.specs.Kinds.{kindOf, spanOf, termKindOf}
-use Rattle.nodes.specs.Offsets.{firstPart, termPart}
-use Rattle.nodes.specs.Laws.Inside.{place-compared, term-place, aggregate-inside}
+use Rattle.nodes.specs.Offsets.{firstPart, termPart, leftPart}
+use Rattle.nodes.specs.Laws.Inside.{place-compared, left-place, aggregate-inside}
 use Rattle.nodes.specs.Looked.{Skipped, TermKindHere}
 use Rattle.nodes.specs.Parts.{isTerms, aggregatesIn, AggregateNext, OperandsHere, operandLeaves, leavesIn, LeafNext}
 use Rattle.nodes.specs.Laws.Opens.{term-there, Stands, stood, ends-at, term-stands, term-index, arith-here, comparison-here}
@@ -36,7 +37,7 @@ no-aggregates (var v) a b = refl
 no-aggregates wildcard a b = refl
 no-aggregates (array ts) a b = refl
 no-aggregates (aggregate x) a b = absurd (b refl)
-no-aggregates (tree.arith l r) a b = absurd (a refl)
+no-aggregates (tree.arith op l r) a b = absurd (a refl)
 no-aggregates sigil a b = refl
 
 -- terms in a row
@@ -54,10 +55,10 @@ row-room s (suc n) at h =
     omega arith
 
 -- two more in place of the first
-two-more : (s : List ℕ) (n at : ℕ) {l r : Term} {others : List Term} {m p e : ℕ} → 0 < n → termHere s (at + 1) ≡ got l m → termHere s m ≡ got r p → row termHere (n - 1) s p ≡ got others e
-    → row termHere (n + 1) s (at + 1) ≡ got (l ∷ r ∷ others) e
+two-more : (s : List ℕ) (n at : ℕ) {l r : Term} {others : List Term} {m p e : ℕ} → 0 < n → termHere s at ≡ got l m → termHere s m ≡ got r p → row termHere (n - 1) s p ≡ got others e
+    → row termHere (n + 1) s at ≡ got (l ∷ r ∷ others) e
 two-more s zero at h i j k = absurd (omega arith)
-two-more s (suc n) at {l} {r} {others} {m} {p} {e} h i j k = rw add-one (row-cons termHere s (suc n) (at + 1) i (row-cons termHere s n m j (rw sub-one at k)))
+two-more s (suc n) at {l} {r} {others} {m} {p} {e} h i j k = rw add-one (row-cons termHere s (suc n) at i (row-cons termHere s n m j (rw sub-one at k)))
 
 same-place : {A : Type 0} {g : Got A} {a b : A} {n m : ℕ} → g ≡ got a n → g ≡ got b m → n ≡ m
 same-place e f = cc
@@ -109,20 +110,20 @@ module _ {A : Type 0} (g : Term → List A) where
         others-are : list ≡ g (termIn s at) ++ partsIn s (n - 1) m
         others-are = parted ∙ ap (λ l. g (termIn s at) ++ gather g l) (sym (has-value [] others-read))
 
-      turned : ((l r : Term) → g (tree.arith l r) ≡ g l ++ g r) → (k : ℕ) → TermKindHere s at k → k ≡ 12 → (p : ℕ) → p ≡ termPart s at → TermsLeft s list (n + 1) p
+      turned : ((op : Option ArithOp) (l r : Term) → g (tree.arith op l r) ≡ g l ++ g r) → (k : ℕ) → TermKindHere s at k → k ≡ 12 → (p : ℕ) → p ≡ leftPart s at → TermsLeft s list (n + 1) p
       unfolding gather
       turned splits k o is p place =
           let v = arith-here s at first-stands (sym (o .kind) ∙ is) in
           let e = same-place (term-stands s at first-stands .read) (first .here) in
-          let r = two-more s n at h (v .reads) (v .further) (ap (row termHere (n - 1) s) e ∙ first .rest) in
-          rw (term-place s at p place)
+          let r = two-more s n _ h (v .reads) (v .further) (ap (row termHere (n - 1) s) e ∙ first .rest) in
+          rw (left-place s at p place)
           (record {
             stands = is-accepted r;
-            small = few s (n + 1) (at + 1) (is-accepted r);
+            small = few s (n + 1) _ (is-accepted r);
             value =
                 ap (gather g) (has-value [] r)
                 ∙ sym (append-assoc (g (v .left)) (g (v .right)) (gather g (first .others)))
-                ∙ sym (parted ∙ ap (λ t. g t ++ gather g (first .others)) (v .whole) ∙ ap (λ l. l ++ gather g (first .others)) (splits (v .left) (v .right)));
+                ∙ sym (parted ∙ ap (λ t. g t ++ gather g (first .others)) (v .whole) ∙ ap (λ l. l ++ gather g (first .others)) (splits (v .op) (v .left) (v .right)));
           })
 
 -- The aggregates.
@@ -149,9 +150,9 @@ module _ (s : List ℕ) (list : List Aggregate) (n at : ℕ) (inv : TermsLeft op
           value = sym (others-are operandAggregates s list n at inv h m z ∙ ap (λ l. l ++ partsIn operandAggregates s (n - 1) m) (no-aggregates (termIn s at) (λ e. j (o .kind ∙ e)) (λ e. i (o .kind ∙ e))));
         }
 
-  pub arith-turn : k ≡ 12 → (p : ℕ) → p ≡ termPart s at → TermsLeft operandAggregates s list (n + 1) p
+  pub arith-turn : k ≡ 12 → (p : ℕ) → p ≡ leftPart s at → TermsLeft operandAggregates s list (n + 1) p
   unfolding operandAggregates
-  arith-turn is p place = turned operandAggregates s list n at inv h (λ l r. refl) k o is p place
+  arith-turn is p place = turned operandAggregates s list n at inv h (λ op l r. refl) k o is p place
 
 -- The leaves.
 pub leaves-left : (s : List ℕ) (n at : ℕ) → isTerms s n at ≡ true → TermsLeft operandLeaves s (leavesIn s n at) n at
@@ -168,9 +169,9 @@ module _ (s : List ℕ) (list : List Term) (n at : ℕ) (inv : TermsLeft operand
     value = others-are operandLeaves s list n at inv h m z ∙ ap (λ l. l ++ partsIn operandLeaves s (n - 1) m) (leaf-itself (termIn s at) (λ e. i (o .kind ∙ e)));
   }
 
-  pub leaf-turn : k ≡ 12 → (p : ℕ) → p ≡ termPart s at → TermsLeft operandLeaves s list (n + 1) p
+  pub leaf-turn : k ≡ 12 → (p : ℕ) → p ≡ leftPart s at → TermsLeft operandLeaves s list (n + 1) p
   unfolding operandLeaves
-  leaf-turn is p place = turned operandLeaves s list n at inv h (λ l r. refl) k o is p place
+  leaf-turn is p place = turned operandLeaves s list n at inv h (λ op l r. refl) k o is p place
 
 -- The operands of a comparison.
 pub operands-here : (s : List ℕ) (at : ℕ) → isCondition s at ≡ true → kindOf (conditionIn s at) ≡ 8 → (p : ℕ) → p ≡ firstPart s at → OperandsHere s at (record { count = 2; first = p })

@@ -66,10 +66,10 @@ ownSpanOf (tp span s) = span
 ownSpanOf (opaque span) = span
 
 abbrev pub literalNumber : Literal → ℕ
-literalNumber integer = 2
-literalNumber decimal = 3
-literalNumber string = 4
-literalNumber bool = 5
+literalNumber (integer n) = 2
+literalNumber (decimal n) = 3
+literalNumber (string w) = 4
+literalNumber (bool b) = 5
 
 -- 13 ParamRef and BinderRef (14); the others each their own
 abbrev pub termKindOf : Term → ℕ
@@ -81,7 +81,7 @@ termKindOf (var v) = 8
 termKindOf wildcard = 9
 termKindOf (array ts) = 10
 termKindOf (aggregate a) = 11
-termKindOf (arith l r) = 12
+termKindOf (arith op l r) = 12
 termKindOf sigil = 13
 
 abbrev pub aggregateKindOf : Aggregate → ℕ

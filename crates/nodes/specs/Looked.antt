@@ -2,13 +2,14 @@
 use mathlib.Core.Path.{_≡_}
 use mathlib.Core.Bool.{true, false}
 use mathlib.Core.List.{List, [], _∷_, _++_}
+use mathlib.Core.Option.{Option}
 use Prim.Native.Nat.{ℕ, _+_, _≤_, _<_}
 use lib.ListN.{length}
 use Rattle.names.specs.Fields.{Got}
 use Rattle.names.specs.Read.{ending}
 use Rattle.names.specs.declared.Read.{Read}
 use Rattle.names.specs.declared.Read.the-variants.{Next, Refused}
-use Rattle.condition.specs.Condition.{aggregate, arith, binder}
+use Rattle.condition.specs.Condition.{ArithOp, aggregate, arith, binder}
 use Rattle.condition.specs.Places.{conditionHere, termHere, isCondition, conditionIn, isTerm, termIn, aggregateAt, isAggregate, aggregateIn, isBinder, binderIn}
 use Rattle.nodes.specs.Kinds.{kindOf, termKindOf, aggregateKindOf}
 use Rattle.condition.specs.Walk.{reached, reachedIn, reachedBody, declares}
@@ -76,12 +77,13 @@ pub record QuantifiedHere (s : List ℕ) (at p : ℕ) : Type 0 where
 
 -- the operands of an arithmetic
 pub record AddedHere (s : List ℕ) (at p : ℕ) : Type 0 where
+  pub op : Option ArithOp
   pub second : ℕ
   pub stands : isTerm s p ≡ true
   pub ahead : at < p
   pub between : ending (termHere s p) ≡ Next second
   pub behind : isTerm s second ≡ true
-  pub value : termIn s at ≡ arith (termIn s p) (termIn s second)
+  pub value : termIn s at ≡ arith op (termIn s p) (termIn s second)
   pub ends : ending (termHere s at) ≡ ending (termHere s second)
 
 -- the aggregate that a term is

@@ -27,6 +27,14 @@ firstPart s at = at + 9 + behindSpan (versionIn s) (getD s at 0) s at
 unfoldable pub termPart : List ℕ → ℕ → ℕ
 termPart s at = at + 1
 
+-- the bytes of an Arith's operator in a version: none below version 3
+unfoldable pub opLength : ℕ → ℕ
+opLength version = cond (leb version 2) 0 1
+
+-- in an Arith: its left term, behind the kind byte and the operator
+unfoldable pub leftPart : List ℕ → ℕ → ℕ
+leftPart s at = at + 1 + opLength (versionIn s)
+
 -- in an aggregate: behind the kind byte and the span
 unfoldable pub aggregatePart : List ℕ → ℕ → ℕ
 aggregatePart s at = at + 9

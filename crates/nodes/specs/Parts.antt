@@ -26,7 +26,7 @@ use Rattle.nodes.specs.declared.NextAggregate.{NextAggregate}
 use Rattle.nodes.specs.declared.NextAggregate.the-variants.{At, Done}
 use Rattle.nodes.specs.declared.NextLeaf.{NextLeaf}
 use Rattle.nodes.specs.declared.NextLeaf.the-variants as NextLeaf
-use Rattle.condition.specs.Condition.{Span, Window, unsaid, seconds, parameter, Slot, named, paramRef, binderRef, Annotation, timepoint, path, Binder, Operator, Condition, Term, Aggregate, predicate, comparison, tp, argument, entity, literal, contextField, scopeField, var, wildcard, array, aggregate, arith, sigil, cons, sum, binder}
+use Rattle.condition.specs.Condition.{Span, ArithOp, Window, unsaid, seconds, parameter, Slot, named, paramRef, binderRef, Annotation, timepoint, path, Binder, Operator, Condition, Term, Aggregate, predicate, comparison, tp, argument, entity, literal, contextField, scopeField, var, wildcard, array, aggregate, arith, sigil, cons, sum, binder}
 use Rattle.condition.specs.Walk.{reached, reachedBody, operandAggregates, declaredBy}
 use Rattle.condition.specs.Places.{conditionHere, termHere, isCondition, conditionIn, isTerm, termIn, aggregateAt, isAggregate, aggregateIn, isArguments, argumentsIn, isElements, elementsIn, isPath, pathIn, isSlot, slotIn}
 use Rattle.nodes.specs.Kinds.{spanOf, windowOf, ownSpanOf, termKindOf, aggregateSpanOf, operatorNumber}
@@ -60,11 +60,12 @@ pub record ComparisonHere (s : List ℕ) (at : ℕ) (p : ComparisonAt) : Type 0 
   pub value : conditionIn s at ≡ comparison (spanOf (conditionIn s at)) op (termIn s (p .left)) (termIn s (p .right))
 
 pub record ArithHere (s : List ℕ) (at : ℕ) (p : Operands) : Type 0 where
+  pub op : Option ArithOp
   pub left : isTerm s (p .left) ≡ true
   pub right : isTerm s (p .right) ≡ true
   pub ahead : at < p .left
   pub further : p .left < p .right
-  pub value : termIn s at ≡ arith (termIn s (p .left)) (termIn s (p .right))
+  pub value : termIn s at ≡ arith op (termIn s (p .left)) (termIn s (p .right))
 
 pub record PredicateHere (s : List ℕ) (at : ℕ) (p : PredicateAt) : Type 0 where
   pub namespace : List (List ℕ)
@@ -217,7 +218,7 @@ operandLeaves (var v) = var v ∷ []
 operandLeaves wildcard = wildcard ∷ []
 operandLeaves (array ts) = array ts ∷ []
 operandLeaves (aggregate a) = aggregate a ∷ []
-operandLeaves (arith l r) = operandLeaves l ++ operandLeaves r
+operandLeaves (arith op l r) = operandLeaves l ++ operandLeaves r
 operandLeaves sigil = sigil ∷ []
 
 -- the leaves of so many terms in a row, in order

@@ -2,6 +2,7 @@
 use crate::NextAggregate;
 use crate::Several;
 use crate::offsets::first_part;
+use crate::offsets::left_part;
 use crate::offsets::term_part;
 use crate::parts::past_term;
 use crate::parts::term_kind_at;
@@ -42,7 +43,7 @@ pub fn next_aggregate(s: &[u8], count: usize, first: usize) -> NextAggregate
             return NextAggregate::At(place, others);
         }
         if kind == 12 {
-            at = term_part(s, at);
+            at = left_part(s, at);
             rest += 1;
             continue;
         }

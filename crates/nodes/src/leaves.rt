@@ -1,7 +1,7 @@
 // The leaves of terms, one after another. In the bytes of an Arith they simply follow each other, so that no place is read twice.
 use crate::NextLeaf;
 use crate::Several;
-use crate::offsets::term_part;
+use crate::offsets::left_part;
 use crate::parts::past_term;
 use crate::parts::term_kind_at;
 ghost use mathlib.Core.Path.{_≡_};
@@ -18,7 +18,7 @@ pub fn next_leaf(s: &[u8], count: usize, first: usize) -> NextLeaf
     while 0 < rest {
         let kind = term_kind_at(s, at);
         if kind == 12 {
-            at = term_part(s, at);
+            at = left_part(s, at);
             rest += 1;
             continue;
         }

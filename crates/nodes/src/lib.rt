@@ -2,7 +2,7 @@
 //
 // `s` is an accepted record; a position `at` denotes a condition (`conditionIn`), a term (`termIn`), .. of `condition`'s `specs/Places`, and `is..` says that one
 // stands there. Kinds are document 01's numbers (`specs/Kinds`). What a function tells of its answer is the record of `specs/Looked` or `specs/Parts` beside it.
-// This crate alone knows at which byte of a node its parts stand: `first_part`, `term_part`, `aggregate_part`, of which the laws of `specs/Laws/Inside` say what is there.
+// This crate alone knows at which byte of a node its parts stand: `first_part`, `term_part`, `left_part`, `aggregate_part`, of which the laws of `specs/Laws/Inside` say what is there.
 //
 // | module | what it has |
 // |---|---|
@@ -22,6 +22,7 @@ pub use aggregates::operands_at;
 pub use leaves::next_leaf;
 pub use offsets::aggregate_part;
 pub use offsets::first_part;
+pub use offsets::left_part;
 pub use offsets::term_part;
 pub use parts::aggregate_kind_at;
 pub use parts::aggregate_span_at;

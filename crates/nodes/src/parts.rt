@@ -26,6 +26,7 @@ use crate::Several;
 use crate::SlotAt;
 use crate::offsets::aggregate_part;
 use crate::offsets::first_part;
+use crate::offsets::left_part;
 use crate::offsets::term_part;
 use condition::read_binder;
 use condition::read_binders;
@@ -43,9 +44,9 @@ ghost use Rattle.names.specs.Names.{plain, pathName, identifier, lastOf};
 ghost use Rattle.names.specs.Paths.{pathOf};
 ghost use Rattle.names.specs.Read.{accepted, ending, wordAt, Listed};
 ghost use Rattle.names.specs.declared.Read.the-variants.{Next};
-ghost use Rattle.condition.specs.Condition.{slot, binder};
+ghost use Rattle.condition.specs.Condition.{slot, binder, entityFields};
 ghost use Rattle.condition.specs.Walk.{hasName};
-ghost use Rattle.condition.specs.Places.{conditionHere, termHere, isCondition, conditionIn, isTerm, termIn, isAggregate, aggregateIn, isArguments, isElements, isPath, pathIn, isSlot, slotIn, isAnnotation, annotationIn, isBinder, binderIn};
+ghost use Rattle.condition.specs.Places.{versionIn, conditionHere, termHere, isCondition, conditionIn, isTerm, termIn, isAggregate, aggregateIn, isArguments, isElements, isPath, pathIn, isSlot, slotIn, isAnnotation, annotationIn, isBinder, binderIn};
 ghost use Rattle.nodes.specs.Kinds.{kindOf, spanOf, ownSpanOf, oneKind, twoKind, termKindOf, aggregateKindOf, aggregateSpanOf};
 ghost use Rattle.nodes.specs.Looked.{placeOf, Skipped, KindHere, TermKindHere, AggregateKindHere, BodyHere};
 ghost use Rattle.nodes.specs.Parts.{EndsHere, Spans, ComparisonHere, ArithHere, PredicateHere, ArgumentHere, ElementsHere, ElementHere, BindersHere, isBinders, SlotHere, segmentsIn, SegmentsHere, BoundBy, stringsAt, nameIn};
@@ -117,6 +118,18 @@ pub fn past_condition(s: &[u8], at: usize) -> usize
     place_of(read_subcondition(s, at, condition::version(s), 32), at)
 }
 
+// The place behind an entity's name, and from version 3 on behind its id.
+fn past_entity(s: &[u8], at: usize) -> usize
+    requires { ⌜ accepted (entityFields (versionIn (now s)) (now s) at) ≡ true ⌝ }
+    ensures { λ n. ⌜ Skipped (entityFields (versionIn (now (s .entry))) (now (s .entry)) at) at n ⌝ }
+{
+    let name = names::past_word(s, at);
+    if condition::version(s) <= 2 {
+        return name;
+    }
+    names::past_word(s, name)
+}
+
 pub fn past_term(s: &[u8], at: usize) -> usize
     requires { ⌜ isTerm (now s) at ≡ true ⌝ }
     ensures { λ n. ⌜ Skipped (termHere (now (s .entry)) at) at n ⌝ }
@@ -127,7 +140,7 @@ pub fn past_term(s: &[u8], at: usize) -> usize
         return names::past_word(s, next);
     }
     if kind == 1 {
-        return names::past_word(s, next);
+        return past_entity(s, next);
     }
     if kind == 6 {
         return past_path(s, next);
@@ -280,7 +293,7 @@ pub fn arith_at(s: &[u8], at: usize) -> Operands
     requires { ⌜ termKindOf (termIn (now s) at) ≡ 12 ⌝ }
     ensures { λ r. ⌜ ArithHere (now (s .entry)) at r ⌝ }
 {
-    let left = term_part(s, at);
+    let left = left_part(s, at);
     let right = past_term(s, left);
     Operands {
         left: left,

@@ -1,12 +1,14 @@
 -- The place computes: small records. Assumes nothing.
 use mathlib.Core.Path.{_≡_, refl}
 use mathlib.Core.List.{[], _∷_}
-use Rattle.names.specs.Fields.{bytes, u8, u16, u32, u64, number, many, counted, heading, finished, whole, choose}
-use Rattle.names.specs.Names.{same}
+use Rattle.names.specs.Fields.{bytes, u8, u16, u32, u64, number, stringOf, many, counted, heading, finished, whole, choose}
+use Rattle.names.specs.Lists.{every}
+use Rattle.names.specs.Names.{same, plain, plainByte}
 use Rattle.names.specs.Paths.{pathOf}
 use Rattle.names.specs.Read.{refusalNumber}
 use Rattle.targets.specs.PathRecord.{sides, scopeSide, pathRecord}
-use Rattle.condition.specs.Condition.{span, units, fits, amountOf, secondsOf, windowKinds, window, unary, conditionKinds, conditionAt, conditionRecordUpTo, conditionRecord}
+use Rattle.condition.specs.Condition.{span, operators, operator, comparisonOf, given, termKinds, termAt, units, fits, amountOf, secondsOf, windowKinds, window, unary, conditionKinds, conditionAt, conditionRecordUpTo, conditionRecord}
+use Rattle.decimal.specs.Decimal.{digit, unsigned, behindDigit, beginsWithDigit, wellFormed, decimalOf, judged, decimalText}
 use Rattle.offence.specs.declared.Kind.the-variants.{Condition, Path}
 use Rattle.offence.specs.Offence.{numberOf, place, placeFrom}
 
@@ -29,3 +31,8 @@ one-more = refl
 below-zero : place (numberOf Condition) (68 ∷ 87 ∷ 67 ∷ 0 ∷ 2 ∷ 4 ∷ 0 ∷ 0 ∷ 0 ∷ 0 ∷ 0 ∷ 0 ∷ 0 ∷ 0 ∷ 0 ∷ 0 ∷ 255 ∷ 255 ∷ 255 ∷ 255 ∷ 255 ∷ 255 ∷ 255 ∷ 255 ∷ 11 ∷ []) ≡ 24
 unfolding bytes u8 u16 u32 u64 number heading whole choose same refusalNumber span units fits amountOf secondsOf windowKinds window unary conditionKinds conditionAt conditionRecordUpTo conditionRecord place placeFrom
 below-zero = refl
+
+-- `DWC`, version 3: a decimal whose text `5` is malformed, which ends with the 18th byte
+malformed : place (numberOf Condition) (68 ∷ 87 ∷ 67 ∷ 0 ∷ 3 ∷ 8 ∷ 0 ∷ 0 ∷ 0 ∷ 0 ∷ 0 ∷ 0 ∷ 0 ∷ 0 ∷ 4 ∷ 3 ∷ 1 ∷ 53 ∷ 9 ∷ []) ≡ 18
+unfolding bytes u8 u16 u32 number stringOf heading whole choose every same plain plainByte refusalNumber span operators operator comparisonOf given conditionKinds termKinds conditionAt termAt conditionRecordUpTo conditionRecord digit unsigned behindDigit beginsWithDigit wellFormed decimalOf judged decimalText place placeFrom
+malformed = refl

@@ -53,7 +53,7 @@ module _ (k : Kind) (s : List ℕ) where
           let i : place (numberOf k) s ≡ length s = omega (arith, ltb-false (place (numberOf k) s) (length s) h, least (numberOf k) s .upto) in
           ap (λ (n : ℕ). take n s) i ∙ take-length s
 
-  -- 3 to 9 and 13: the front of the place is refused by the number of the whole
+  -- 3 to 9, 13, 15 and 16: the front of the place is refused by the number of the whole
   pub there : length s ≤ 32768 → (numberOf k s ≡ 0 → ⊥) → (numberOf k s ≡ 10 → ⊥) → numberOf k (take (place (numberOf k) s) s) ≡ numberOf k s
   there h refused inside = go (judged h)
     where
@@ -102,6 +102,6 @@ module _ {A : Type 0} (mark : List ℕ) (newest : ℕ) (s : List ℕ) (rest : �
 pub unmarked : (k : Kind) (s : List ℕ) → begins (markOf k) s ≡ false → numberOf k s ≡ cond (leb (length s) 32768) (cond (leb 3 (length s)) 3 2) 1
 unfolding schemaRecord conditionRecordUpTo conditionRecord targetRecord pathRecord
 unmarked Schema s e = unmarked-front (markOf Schema) 1 s _ e
-unmarked Condition s e = unmarked-front (markOf Condition) 2 s _ e
+unmarked Condition s e = unmarked-front (markOf Condition) 3 s _ e
 unmarked Targets s e = unmarked-front (markOf Targets) 1 s _ e
 unmarked Path s e = unmarked-front (markOf Path) 1 s _ e

@@ -4,9 +4,12 @@ use mathlib.Core.Bool.{Bool, true, false, _&&_}
 use mathlib.Core.Option.{none}
 use Prim.Native.Nat.{ℕ, zero, suc, _*_}
 use lib.Dec.{leb, eqb}
-use Rattle.names.specs.Fields.{Reader, _<$>_, pure, choose, counted, each, levels}
+use Rattle.names.specs.Fields.{Reader, _<$>_, pure, i64, twosComplement, choose, counted, each, levels}
 use Rattle.names.specs.Names.{identifier, pathName, plain}
-use Rattle.condition.specs.Condition.{Condition, Term, Window, One, Two, seconds, units, fits, amountOf, secondsOf, windowKinds, window, span, slotKinds, slot, annotation, binder, operators, operator, timepointOf, arguments, argumentList, elements, elementList, unary, binary, predicateOf, comparisonOf, existsOf, conditionKinds, sumOf, countOf, aggregateKinds, aggregateOf, arithOf, termKinds, tooDeep, conditionAt, termAt, conditionRecordUpTo, conditionRecord}
+use Rattle.decimal.specs.Decimal.{decimalOf, judged, decimalText}
+use Rattle.decimal.specs.declared.Decimal.{Decimal}
+use Rattle.decimal.specs.declared.Decimal.the-variants.{Value, Malformed, Beyond}
+use Rattle.condition.specs.Condition.{Condition, Term, Window, One, Two, seconds, units, fits, amountOf, secondsOf, windowKinds, window, given, truths, truth, arithOps, arithOp, entityFields, span, slotKinds, slot, annotation, binder, operators, operator, timepointOf, arguments, argumentList, elements, elementList, unary, binary, predicateOf, comparisonOf, existsOf, conditionKinds, sumOf, countOf, aggregateKinds, aggregateOf, arithOf, termKinds, tooDeep, conditionAt, termAt, conditionRecordUpTo, conditionRecord}
 use Rattle.offence.proofs.Steady.{Steady, Ends, pure-steady, refuse-steady, cond-steady, then-steady, map-steady, u8-steady, u32-steady, u64-steady, holds-steady, string-steady, many-steady, counted-steady, path-steady, heading-steady, then-ends, finished-ends}
 
 span-steady : Steady span
@@ -59,6 +62,37 @@ unfolding window windowKinds choose
 window-steady version =
     cond-steady (leb version 1) pure-steady
     (then-steady u8-steady (λ k. cond-steady (eqb k 0) seconds-steady (cond-steady (eqb k 1) pure-steady (refuse-steady 5 refl))))
+
+-- what version 3 brought
+given-steady : {A : Type 0} (version : ℕ) {f : Reader A} → Steady f → Steady (given version f)
+unfolding given
+given-steady version f = cond-steady (leb version 2) pure-steady (map-steady _ f)
+
+i64-steady : Steady i64
+unfolding i64
+i64-steady = map-steady twosComplement u64-steady
+
+judged-steady : (d : Decimal) → Steady (judged d)
+unfolding judged
+judged-steady (Value z) = pure-steady
+judged-steady Malformed = refuse-steady 15 refl
+judged-steady Beyond = refuse-steady 16 refl
+
+decimal-steady : Steady decimalText
+unfolding decimalText
+decimal-steady = then-steady (string-steady plain) (λ w. judged-steady (decimalOf w))
+
+truth-steady : Steady truth
+unfolding truth truths choose
+truth-steady = then-steady u8-steady (λ k. cond-steady (eqb k 0) pure-steady (cond-steady (eqb k 1) pure-steady (refuse-steady 5 refl)))
+
+arith-op-steady : Steady arithOp
+unfolding arithOp arithOps choose
+arith-op-steady = then-steady u8-steady (λ k. cond-steady (eqb k 0) pure-steady (cond-steady (eqb k 1) pure-steady (cond-steady (eqb k 2) pure-steady (refuse-steady 5 refl))))
+
+entity-steady : (version : ℕ) → Steady (entityFields version)
+unfolding entityFields
+entity-steady version = then-steady (string-steady pathName) (λ name. then-steady (given-steady version (string-steady plain)) (λ id. pure-steady))
 
 timepoint-steady : Steady timepointOf
 unfolding timepointOf
@@ -145,16 +179,16 @@ module _ (version : ℕ) (f : Reader Condition) (t : Bool → Reader Term) (inne
 
   arith-steady : (b : Bool) → Steady (arithOf version f t b)
   unfolding arithOf
-  arith-steady b = then-steady (term b) (λ left. then-steady (term b) (λ right. pure-steady))
+  arith-steady b = then-steady (given-steady version arith-op-steady) (λ op. then-steady (term b) (λ left. then-steady (term b) (λ right. pure-steady)))
 
   term-kinds-steady : (b : Bool) (k : ℕ) → Steady (choose k (termKinds version f t b))
   unfolding choose termKinds
   term-kinds-steady b k =
-      cond-steady (eqb k 1) (map-steady _ (string-steady pathName))
-      (cond-steady (eqb k 2) pure-steady
-      (cond-steady (eqb k 3) pure-steady
-      (cond-steady (eqb k 4) pure-steady
-      (cond-steady (eqb k 5) pure-steady
+      cond-steady (eqb k 1) (map-steady _ (entity-steady version))
+      (cond-steady (eqb k 2) (map-steady _ (given-steady version i64-steady))
+      (cond-steady (eqb k 3) (map-steady _ (given-steady version decimal-steady))
+      (cond-steady (eqb k 4) (map-steady _ (given-steady version (string-steady plain)))
+      (cond-steady (eqb k 5) (map-steady _ (given-steady version truth-steady))
       (cond-steady (eqb k 6) (map-steady _ path-steady)
       (cond-steady (eqb k 7) (map-steady _ path-steady)
       (cond-steady (eqb k 8) (map-steady _ (string-steady plain))

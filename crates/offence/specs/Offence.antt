@@ -52,8 +52,8 @@ placeFrom number s zero n = n
 placeFrom number s (suc left) n = cond (eqb (number (take n s)) 2) (placeFrom number s left (suc n)) n
 
 -- Where bytes show what their number says: the least n whose first n bytes do not just end before a field does (2); the length where there is no such n.
--- What that means is proved in proofs/Meaning: every shorter front is refused by 2 (`before`); for 3 to 9 and 13 the front of the place is refused by the
--- number of the whole, so that it ends with the field that is refused (`there`); for 10 it is the record itself (`ended`); for 2 it is all bytes (`at-the-end`). 1 is a matter of
+-- What that means is proved in proofs/Meaning: every shorter front is refused by 2 (`before`); for 3 to 9, 13, 15 and 16 the front of the place is refused by
+-- the number of the whole, so that it ends with the field that is refused (`there`); for 10 it is the record itself (`ended`); for 2 it is all bytes (`at-the-end`). 1 is a matter of
 -- the length alone, and the place says nothing of it.
 unfoldable pub place : (List ℕ → ℕ) → List ℕ → ℕ
 place number s = placeFrom number s (length s) zero

@@ -11,7 +11,7 @@ use Rattle.schema.specs.Schema.{schemaRecord}
 use Rattle.schema.specs.Find.{findAction}
 use Rattle.targets.specs.Targets.{narrowings, narrowing, target, targetRecord}
 use Rattle.targets.specs.PathRecord.{targetAt}
-use Rattle.condition.specs.Condition.{span, operators, operator, comparisonOf, conditionKinds, termKinds, conditionAt, termAt, conditionRecordUpTo, conditionRecord}
+use Rattle.condition.specs.Condition.{span, operators, operator, comparisonOf, conditionKinds, termKinds, given, conditionAt, termAt, conditionRecordUpTo, conditionRecord}
 use Rattle.terms.specs.Terms.{termType}
 use Rattle.operands.specs.Operands.{Outcome, written, refused, operandIn, placed, answered, underTarget, atPosition, operandType}
 use Rattle.operands.specs.declared.Operand.{Operand}
@@ -33,5 +33,5 @@ pub record Rows : Type 0 where
   pub absent : asked 1 Left (text "_______") ≡ record { answer = refused 12 3; buffer = text "_______" }
 
 pub examples : Rows
-unfolding bytes u8 u16 u32 number stringOf many counted heading finished whole choose first every same plain plainByte pathOrNone text render schemaRecord findAction narrowings narrowing target targetRecord targetAt span operators operator comparisonOf conditionKinds termKinds conditionAt termAt conditionRecordUpTo conditionRecord termType operandIn placed answered underTarget atPosition operandType
+unfolding bytes u8 u16 u32 number stringOf many counted heading finished whole choose first every same plain plainByte pathOrNone text render schemaRecord findAction narrowings narrowing target targetRecord targetAt span operators operator comparisonOf conditionKinds termKinds given conditionAt termAt conditionRecordUpTo conditionRecord termType operandIn placed answered underTarget atPosition operandType
 examples = record { left = refl; right = refl; short = refl; absent = refl }

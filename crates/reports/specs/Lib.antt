@@ -5,6 +5,7 @@ pub mod Sink
 pub mod Slots
 pub mod Pairs
 pub mod Answers
+pub mod Placed
 pub mod Messages
 pub mod Examples
 pub mod Laws

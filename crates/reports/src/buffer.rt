@@ -11,6 +11,7 @@ ghost use Rattle.names.specs.Writer.{Stored};
 ghost use Rattle.reports.specs.Decode.{header};
 ghost use Rattle.reports.specs.Sink.{sink, Sound, roomFor, more, stopped, append};
 ghost use Rattle.reports.specs.Answers.{Answers, Refuses};
+ghost use Rattle.reports.specs.Placed.{Writes};
 
 // A report in steps, where its message is written straight to the buffer: has_room; then put_header, the message's writers from
 // there on and one_more; or stopped. The law `append-stored` says that this appends the report, `append-stopped` that no room stops the run.
@@ -93,6 +94,17 @@ pub fn answer_of(state: State) -> Answer
             record: 0,
             count: state.count,
         }
+    }
+}
+
+// The answer of an operation that wrote so many bytes.
+pub fn written(count: usize) -> Answer
+    ensures { λ r. ⌜ Writes count r ⌝ }
+{
+    Answer {
+        number: 0,
+        record: 0,
+        count,
     }
 }
 

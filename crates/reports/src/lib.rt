@@ -12,6 +12,7 @@ pub use buffer::one_more;
 pub use buffer::put_header;
 pub use buffer::refused;
 pub use buffer::stopped;
+pub use buffer::written;
 pub use pieces::put_piece;
 pub use pieces::text_size;
 pub use pieces::word_count;

@@ -56,33 +56,33 @@ module _ (f : Facts) (at : Span) where
   leaf-by-kind : (t : Term) → (termKindOf t ≡ 12 → ⊥) → leafBreaches f t at ≡ cond (eqb (termKindOf t) 9) (breachIf true wildcardInside at) (cond (eqb (termKindOf t) 11 || eqb (termKindOf t) 13) [] (notLongHere (termType (some f) t) at))
   unfolding leafBreaches
   leaf-by-kind (entity n) e = refl
-  leaf-by-kind (literal integer) e = refl
-  leaf-by-kind (literal decimal) e = refl
-  leaf-by-kind (literal string) e = refl
-  leaf-by-kind (literal bool) e = refl
+  leaf-by-kind (literal (integer v)) e = refl
+  leaf-by-kind (literal (decimal v)) e = refl
+  leaf-by-kind (literal (string v)) e = refl
+  leaf-by-kind (literal (bool v)) e = refl
   leaf-by-kind (contextField p) e = refl
   leaf-by-kind (scopeField p) e = refl
   leaf-by-kind (var v) e = refl
   leaf-by-kind wildcard e = refl
   leaf-by-kind (array ts) e = refl
   leaf-by-kind (aggregate a) e = refl
-  leaf-by-kind (tree.arith l r) e = absurd (e refl)
+  leaf-by-kind (tree.arith op l r) e = absurd (e refl)
   leaf-by-kind sigil e = refl
 
   operand-by-kind : (t : Term) → arithmeticBreaches f t at ≡ cond (eqb (termKindOf t) 12) (leafBreaches f t at) []
   unfolding arithmeticBreaches
   operand-by-kind (entity n) = refl
-  operand-by-kind (literal integer) = refl
-  operand-by-kind (literal decimal) = refl
-  operand-by-kind (literal string) = refl
-  operand-by-kind (literal bool) = refl
+  operand-by-kind (literal (integer v)) = refl
+  operand-by-kind (literal (decimal v)) = refl
+  operand-by-kind (literal (string v)) = refl
+  operand-by-kind (literal (bool v)) = refl
   operand-by-kind (contextField p) = refl
   operand-by-kind (scopeField p) = refl
   operand-by-kind (var v) = refl
   operand-by-kind wildcard = refl
   operand-by-kind (array ts) = refl
   operand-by-kind (aggregate a) = refl
-  operand-by-kind (tree.arith l r) = refl
+  operand-by-kind (tree.arith op l r) = refl
   operand-by-kind sigil = refl
 
 -- a leaf, by its kind
@@ -121,7 +121,7 @@ module _ (f : Facts) (c : List ℕ) (span : Span) where
 
   leaves-are : (at : ℕ) → isTerm c at ≡ true → gather breachesOf (leavesIn c 1 at) ≡ breachesOf (termIn c at)
   unfolding leafBreaches
-  leaves-are at acc = ap (gather breachesOf) (one-leaves c at acc) ∙ leaves-gather breachesOf (λ l r. refl) (termIn c at)
+  leaves-are at acc = ap (gather breachesOf) (one-leaves c at acc) ∙ leaves-gather breachesOf (λ op l r. refl) (termIn c at)
 
   pub leaves-begin : (now : Sink) (table : List ℕ) (at : ℕ) → Lent now table → isTerm c at ≡ true → LeavesLeft (pushAll now (leafBreaches f (termIn c at) span)) now table (record { count = 1; first = at })
   leaves-begin now table at p acc = record { stands = one-term c at acc; reporting = record { still = p; same = ap (pushAll now) (leaves-are at acc) } }

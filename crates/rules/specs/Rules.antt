@@ -69,7 +69,7 @@ module _ (f : Facts) where
 
   -- `check_arith_atoms`: a leaf is Long or has no type; a wildcard, though it has no type, is always a breach
   unfoldable pub leafBreaches : Term → Rule
-  leafBreaches (arith l r) at = leafBreaches l at ++ leafBreaches r at
+  leafBreaches (arith op l r) at = leafBreaches l at ++ leafBreaches r at
   leafBreaches wildcard at = breachIf true wildcardInside at
   leafBreaches sigil at = []
   leafBreaches (entity n) at = notLongHere (termType (some f) (entity n)) at
@@ -82,7 +82,7 @@ module _ (f : Facts) where
 
   -- only an operand that is arithmetic is inspected
   unfoldable pub arithmeticBreaches : Term → Rule
-  arithmeticBreaches (arith l r) at = leafBreaches (arith l r) at
+  arithmeticBreaches (arith op l r) at = leafBreaches (arith op l r) at
   arithmeticBreaches wildcard at = []
   arithmeticBreaches sigil at = []
   arithmeticBreaches (entity n) at = []

@@ -16,10 +16,11 @@ ghost use lib.ListN.{length};
 //     (X  where the byte is 0 that byte and the first choice of X, else the second
 //     *X  a span and the byte behind it, whose choice of X is printed first, as a word
 //     {   a window, in units of Z; in version 1 it has no bytes
+//     ;   a string      =  a signed number      <  a decimal      >  a boolean      ,  an operator: of version 3, below it no bytes
 //
 // A to D are what stands behind the version of the four records. X has their names, Y says why a record is refused and, behind
 // a semicolon, what ends where that shows; each choice of a rule that is said as a word has a bar behind it.
-pub const TABLE: [u8; 2037] = *b"
+pub const TABLE: [u8; 2154] = *b"
 A=+@entity types%E@actions%H
 B=+@?J
 C=+@principal narrowing ?T@resource narrowing ?T@targets#U
@@ -36,7 +37,7 @@ M= `| ParamRef| BinderRef
 N=+@binder?M+@annotation(P
 O= <=| <| >=| >| ==| !=|
 P= timepoint|#L
-Q=-|entity `|integer|decimal|string|boolean|context field#L|scope field#L|variable `|wildcard|array#R|aggregate?S|arithmetic+@?Q@?Q|ParamRef|BinderRef
+Q=-|entity `;|integer=|decimal<|string;|boolean>|context field#L|scope field#L|variable `|wildcard|array#R|aggregate?S|arithmetic,+@?Q@?Q|ParamRef|BinderRef
 R=+@?Q
 S=-| sum~+@summand?M@binders#N@?J| count~+@binders#N@?J| call~
 T=none|any|is type `|uid of type `|uid with membership of type `
@@ -44,7 +45,7 @@ U=+@target :(V+@id `
 V= without namespace| namespace `
 W= principal| resource
 X=-|schema record|condition record|targets record|path record|
-Y=-|the record has more than 32,768 bytes|the bytes end before a field does; they end|the first three bytes are no record's mark (DWS, DWC, DWT, DWP); the field that shows it ends|the version is not read: 1, or 2 of a condition record; the field that shows it ends|a kind, type, operator or other choice byte is not defined; the field that shows it ends|a string is not of its class: the path name, the identifier or the plain text that must stand there; the field that shows it ends|conditions, terms or types are nested deeper than 32 levels; the field that shows it ends|the names of a list do not ascend; the field that shows it ends|an aggregate stands below an array; the field that shows it ends|bytes stand behind the end of the record; the record ends|-|-|a window is below 0 or above 2^63 - 1 seconds; its amount ends|
+Y=-|the record has more than 32,768 bytes|the bytes end before a field does; they end|the first three bytes are no record's mark (DWS, DWC, DWT, DWP); the field that shows it ends|the version is not read: 1, or up to 3 of a condition record; the field that shows it ends|a kind, type, operator or other choice byte is not defined; the field that shows it ends|a string is not of its class: the path name, the identifier or the plain text that must stand there; the field that shows it ends|conditions, terms or types are nested deeper than 32 levels; the field that shows it ends|the names of a list do not ascend; the field that shows it ends|an aggregate stands below an array; the field that shows it ends|bytes stand behind the end of the record; the record ends|-|-|a window is below 0 or above 2^63 - 1 seconds; its amount ends|-|the text of a decimal is malformed; it ends|a decimal is well formed but beyond 64 bits; its text ends|
 Z= second| minute| hour| day| seconds| minutes| hours| days|
 ";
 
@@ -213,6 +214,77 @@ fn window<'a>(table: &'a [u8], s: &'a [u8], at: usize) -> usize {
     forward(at, 10)
 }
 
+// A signed number; the place behind it. Below 0 it stands as 2^64 more.
+fn signed(s: &[u8], at: usize) -> usize {
+    let word = program::u64_at(s, at);
+    if word < 9223372036854775808 {
+        program::print_u64(word);
+        return forward(at, 8);
+    }
+    print(b"-");
+    program::print_u64(18446744073709551615 - word + 1);
+    forward(at, 8)
+}
+
+// The text of a decimal; the place behind it.
+fn decimal(s: &[u8], at: usize) -> usize {
+    print(names::word(s, at));
+    forward(forward(at, 1), names::byte_at(s, at))
+}
+
+fn print_truth(b: usize) {
+    if b == 0 {
+        print(b"false");
+        return;
+    }
+    print(b"true");
+}
+
+fn print_operator(b: usize) {
+    if b == 0 {
+        print(b"+");
+        return;
+    }
+    if b == 1 {
+        print(b"-");
+        return;
+    }
+    print(b"*");
+}
+
+// What version 3 brought, by its mark; the place behind it.
+fn later(s: &[u8], mark: u8, at: usize) -> usize {
+    if names::u16_at(s, 3) <= 2 {
+        return at;
+    }
+    print(b" ");
+    if mark == b';' {
+        return name(s, at);
+    }
+    if mark == b'=' {
+        return signed(s, at);
+    }
+    if mark == b'<' {
+        return decimal(s, at);
+    }
+    if mark == b'>' {
+        print_truth(names::byte_at(s, at));
+        return forward(at, 1);
+    }
+    print_operator(names::byte_at(s, at));
+    forward(at, 1)
+}
+
+fn is_later(mark: u8) -> bool {
+    if mark == b',' {
+        return true;
+    }
+    if mark < b';' {
+        return false;
+    }
+    mark < b'?'
+}
+
 // What a mark that names no rule stands for; the place behind it.
 fn value(s: &[u8], mark: u8, at: usize, depth: usize, turn: usize) -> usize {
     if mark == b'@' {
@@ -228,6 +300,9 @@ fn value(s: &[u8], mark: u8, at: usize, depth: usize, turn: usize) -> usize {
     if mark == b':' {
         print_number(turn);
         return at;
+    }
+    if is_later(mark) {
+        return later(s, mark, at);
     }
     print_number(names::byte_at(s, at));
     forward(at, 1)

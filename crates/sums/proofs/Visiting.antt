@@ -8,7 +8,7 @@ use borrow.Author.Needs.{needs}
 use lib.Dec.{leb, eqb}
 use borrow.Author.Tests.{eqb-true, eqb-false}
 use lib.ListN.{length, drop, drop-of-length-le}
-use Rattle.names.specs.Fields.{Got, got, Reader, next, u8, refuse, choose, levels, stringOf}
+use Rattle.names.specs.Fields.{Got, got, Reader, next, u8, refuse, choose, levels, stringOf, i64}
 use Rattle.names.specs.Lists.{gather}
 use Rattle.names.specs.Names.{plain, pathName}
 use Rattle.names.specs.Paths.{pathOf}
@@ -19,7 +19,8 @@ use Rattle.nodes.specs.declared.NextLeaf.the-variants as NextLeaf
 use Rattle.nodes.specs.declared.ComparisonAt.{ComparisonAt}
 use Rattle.nodes.specs.declared.PredicateAt.{PredicateAt}
 use Rattle.nodes.specs.declared.ArgumentAt.{ArgumentAt}
-use Rattle.condition.specs.Condition.{Binder, Condition, Term, Terms, Aggregate, Arguments, one, two, predicate, comparison, exists, tp, opaque, entity, literal, contextField, scopeField, var, wildcard, array, aggregate, sigil, sum, count, call, integer, decimal, string, bool, elements, elementList, arithOf, termKinds, tooDeep, conditionAt, termAt}
+use Rattle.decimal.specs.Decimal.{decimalText}
+use Rattle.condition.specs.Condition.{Binder, Condition, Term, Terms, Aggregate, Arguments, one, two, predicate, comparison, exists, tp, opaque, entity, literal, contextField, scopeField, var, wildcard, array, aggregate, sigil, sum, count, call, integer, decimal, string, bool, elements, elementList, arithOf, termKinds, tooDeep, conditionAt, termAt, given, truth, arithOp, entityFields}
 use Rattle.condition.specs.Walk.{binders}
 use Rattle.condition.specs.Condition as tree
 use Rattle.nodes.specs.Kinds.{kindOf, termKindOf, aggregateKindOf}
@@ -76,11 +77,12 @@ module _ (bs : List Binder) where
         λ j. let a = split (elementList v f t s at) _ j in ap (termBreaches bs) (sym (got-value (a .rest))) ∙ list-free s at (a .first) in
         let sums : arithOf v f t true s at ≡ got x n → termBreaches bs x ≡ [] =
         λ j.
-        let a = split (t true s at) _ j in
+        let o = split (given v arithOp s at) _ j in
+        let a = split (t true s (o .place)) _ (o .rest) in
         let b = split (t true s (a .place)) _ (a .rest) in
-        ap (termBreaches bs) (sym (got-value (b .rest))) ∙ rw (free s at (a .value) (a .place) (a .first), free s (a .place) (b .value) (b .place) (b .first)) in
+        ap (termBreaches bs) (sym (got-value (b .rest))) ∙ rw (free s (o .place) (a .value) (a .place) (a .first), free s (a .place) (b .value) (b .place) (b .first)) in
         by-kind s at 14 (termKinds v f t true) refl (λ _. termBreaches bs x ≡ [])
-        (((((((((((((((tt, no-value), part-free (stringOf pathName s at) entity (λ _. refl)), own (literal integer) refl), own (literal decimal) refl), own (literal string) refl), own (literal bool) refl), part-free (pathOf s at) contextField (λ _. refl)), part-free (pathOf s at) scopeField (λ _. refl)), part-free (stringOf plain s at) var (λ _. refl)), own wildcard refl), arrays), no-value), sums), own sigil refl), own sigil refl)
+        (((((((((((((((tt, no-value), part-free (entityFields v s at) entity (λ _. refl)), part-free (given v i64 s at) (λ w. literal (integer w)) (λ _. refl)), part-free (given v decimalText s at) (λ w. literal (decimal w)) (λ _. refl)), part-free (given v (stringOf plain) s at) (λ w. literal (string w)) (λ _. refl)), part-free (given v truth s at) (λ w. literal (bool w)) (λ _. refl)), part-free (pathOf s at) contextField (λ _. refl)), part-free (pathOf s at) scopeField (λ _. refl)), part-free (stringOf plain s at) var (λ _. refl)), own wildcard refl), arrays), no-value), sums), own sigil refl), own sigil refl)
         k e
 
   too-deep : {A : Type 0} (last : ℕ) (s : List ℕ) (at : ℕ) {x : A} {n : ℕ} {P : Type 0} → tooDeep last s at ≡ got x n → P
@@ -115,7 +117,7 @@ module _ (bs : List Binder) where
   leaf-free wildcard a b c = refl
   leaf-free (array ts) a b c = absurd (c refl)
   leaf-free (aggregate x) a b c = absurd (b refl)
-  leaf-free (tree.arith l r) a b c = absurd (a refl)
+  leaf-free (tree.arith op l r) a b c = absurd (a refl)
   leaf-free sigil a b c = refl
 
   other-free : (x : Aggregate) → (aggregateKindOf x ≡ 1 → ⊥) → aggregateBreaches bs x ≡ []
@@ -172,7 +174,7 @@ module _ (s : List ℕ) where
   unfolding termBreaches
   leaves-begin at acc a k =
       let e : gather (termBreaches (binders (recordIn s))) (leavesIn s 1 at) ≡ termBreaches (binders (recordIn s)) (termIn s at) =
-      ap (gather (termBreaches (binders (recordIn s)))) (one-leaves s at acc) ∙ leaves-gather (termBreaches (binders (recordIn s))) (λ l r. refl) (termIn s at) in
+      ap (gather (termBreaches (binders (recordIn s)))) (one-leaves s at acc) ∙ leaves-gather (termBreaches (binders (recordIn s))) (λ op l r. refl) (termIn s at) in
       record { stands = one-term s at acc; so = record { still = k; same = ap (appendAll a) e } }
 
   module _ (left : Several) (x : NextLeaf) (y : NextLeafIs s (leavesIn s (left .count) (left .first)) x) where

@@ -50,7 +50,7 @@ module _ (bs : List Binder) where
     termBreaches wildcard = []
     termBreaches (array ts) = termsBreaches ts
     termBreaches (aggregate a) = aggregateBreaches a
-    termBreaches (arith l r) = termBreaches l ++ termBreaches r
+    termBreaches (arith op l r) = termBreaches l ++ termBreaches r
     termBreaches sigil = []
 
     pub termsBreaches : Terms → List Breach

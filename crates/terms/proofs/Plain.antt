@@ -18,7 +18,7 @@ use Rattle.types.specs.declared.Source.the-variants as Source
 use Rattle.types.specs.declared.Scalar.the-variants as Scalar
 use Rattle.types.specs.declared.Tag.{Tag}
 use Rattle.types.specs.declared.Base.the-variants as Base
-use Rattle.condition.specs.Condition.{Term, entity, literal, integer, decimal, string, bool, contextField, scopeField, var, wildcard, array, aggregate, sigil}
+use Rattle.condition.specs.Condition.{Term, entity, literal, integer, decimal, string, bool, contextField, scopeField, var, wildcard, array, aggregate, sigil, entityFields}
 use Rattle.condition.specs.Condition as tree
 use Rattle.nodes.specs.Kinds.{termKindOf}
 use Rattle.condition.specs.Places.{versionIn, isTerm, termIn}
@@ -26,6 +26,7 @@ use Rattle.nodes.specs.Looked.{TermKindHere}
 use Rattle.nodes.specs.Offsets.{termPart}
 use Rattle.nodes.specs.Laws.Inside.{term-place}
 use Rattle.nodes.specs.Laws.Views.{PartView, entity-view}
+use Rattle.nodes.specs.Laws.Given.{EntityView, entity-parts}
 use Rattle.nodes.specs.Laws.Opens.{term-stands, raw-term}
 use Rattle.resolution.specs.Places.{typedOf}
 use Rattle.resolution.specs.declared.Typed.{Typed}
@@ -74,43 +75,46 @@ own-tag c at own is h = record {
 kind-value : (s c : List ℕ) (t : Term) → (termKindOf t ≡ 1 → ⊥) → (termKindOf t ≡ 10 → ⊥) → typedOf s c (kindType (termKindOf t)) ≡ termType none t
 unfolding termType layered
 kind-value s c (entity n) h i = absurd (h refl)
-kind-value s c (literal integer) h i = refl
-kind-value s c (literal decimal) h i = refl
-kind-value s c (literal string) h i = refl
-kind-value s c (literal bool) h i = refl
+kind-value s c (literal (integer v)) h i = refl
+kind-value s c (literal (decimal v)) h i = refl
+kind-value s c (literal (string v)) h i = refl
+kind-value s c (literal (bool v)) h i = refl
 kind-value s c (contextField p) h i = refl
 kind-value s c (scopeField p) h i = refl
 kind-value s c (var v) h i = refl
 kind-value s c wildcard h i = refl
 kind-value s c (array ts) h i = absurd (i refl)
 kind-value s c (aggregate a) h i = refl
-kind-value s c (tree.arith l r) h i = refl
+kind-value s c (tree.arith op l r) h i = refl
 kind-value s c sigil h i = refl
 
 kind-within : (t : Term) → Within 0 (kindType (termKindOf t))
 kind-within (entity n) = record { layers = omega arith; tag = omega arith }
-kind-within (literal integer) = record { layers = omega arith; tag = omega arith }
-kind-within (literal decimal) = record { layers = omega arith; tag = omega arith }
-kind-within (literal string) = record { layers = omega arith; tag = omega arith }
-kind-within (literal bool) = record { layers = omega arith; tag = omega arith }
+kind-within (literal (integer v)) = record { layers = omega arith; tag = omega arith }
+kind-within (literal (decimal v)) = record { layers = omega arith; tag = omega arith }
+kind-within (literal (string v)) = record { layers = omega arith; tag = omega arith }
+kind-within (literal (bool v)) = record { layers = omega arith; tag = omega arith }
 kind-within (contextField p) = record { layers = omega arith; tag = omega arith }
 kind-within (scopeField p) = record { layers = omega arith; tag = omega arith }
 kind-within (var v) = record { layers = omega arith; tag = omega arith }
 kind-within wildcard = record { layers = omega arith; tag = omega arith }
 kind-within (array ts) = record { layers = omega arith; tag = omega arith }
 kind-within (aggregate a) = record { layers = omega arith; tag = omega arith }
-kind-within (tree.arith l r) = record { layers = omega arith; tag = omega arith }
+kind-within (tree.arith op l r) = record { layers = omega arith; tag = omega arith }
 kind-within sigil = record { layers = omega arith; tag = omega arith }
 
 -- A term that stands at a place.
 module _ (c : List ℕ) (at : ℕ) (acc : isTerm c at ≡ true) (k : ℕ) (o : TermKindHere c at k) where
   module _ (e : k ≡ 1) where
-    named : PartView (stringOf pathName) entity c at (termIn c at) (term-stands c at acc .end)
+    named : PartView (entityFields (versionIn c)) entity c at (termIn c at) (term-stands c at acc .end)
     named = entity-view (versionIn c) c at (term-stands c at acc .read) (raw-term c at acc 1 (λ i. omega arith) (sym (o .kind) ∙ e))
 
     module _ (p : ℕ) (place : p ≡ termPart c at) where
-      spelt : stringOf pathName c p ≡ got (named .part) (term-stands c at acc .end)
-      spelt = ap (stringOf pathName c) (term-place c at p place) ∙ named .reads
+      parts : EntityView (versionIn c) c p (named .part) (term-stands c at acc .end)
+      parts = entity-parts (versionIn c) c p (ap (entityFields (versionIn c) c) (term-place c at p place) ∙ named .reads)
+
+      spelt : stringOf pathName c p ≡ got (parts .name) (parts .middle)
+      spelt = parts .reads
 
       pub name-inside : p + 1 + getD c p 0 ≤ length c
       name-inside = let v = string-view pathName c p spelt in omega (arith, v .place, v .inside)
@@ -121,7 +125,7 @@ module _ (c : List ℕ) (at : ℕ) (acc : isTerm c at ≡ true) (k : ℕ) (o : T
       pub leaf-entity : (tag : Tag) → EntityTag c p tag → LeafTyped c at (As (record { layers = 0; base = Base.Tagged tag }))
       unfolding termType layered
       leaf-entity tag is = record {
-        value = λ s. let v = string-view pathName c p spelt in rw (is .value s, named .whole, v .word);
+        value = λ s. let v = string-view pathName c p spelt in rw (is .value s, named .whole, parts .whole, v .word);
         within = record { layers = omega arith; tag = is .short };
       }
 

@@ -81,7 +81,7 @@ plain-same f (var v) a b d = absurd (d refl)
 plain-same f wildcard a b d = refl
 plain-same f (array ts) a b d = refl
 plain-same f (aggregate x) a b d = refl
-plain-same f (tree.arith l r) a b d = refl
+plain-same f (tree.arith op l r) a b d = refl
 plain-same f sigil a b d = refl
 
 more : {r : Typed} → Within 0 r → Within 32 r

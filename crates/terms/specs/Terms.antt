@@ -83,10 +83,10 @@ unfoldable pub scopeFieldType : Facts → List (List ℕ) → Option Ty
 scopeFieldType f p = maybe none (λ a. rootType f a p) (f .action)
 
 abbrev pub literalType : Literal → Ty
-literalType condition.integer = scalar types.long
-literalType condition.decimal = scalar types.decimal
-literalType condition.string = scalar types.string
-literalType condition.bool = scalar types.bool
+literalType (condition.integer n) = scalar types.long
+literalType (condition.decimal n) = scalar types.decimal
+literalType (condition.string w) = scalar types.string
+literalType (condition.bool b) = scalar types.bool
 
 -- whether all of some types are known and like the first (the Rust's clause for two numeric types adds nothing: only Long is numeric)
 unfoldable pub allLike : Ty → List (Option Ty) → Bool
@@ -102,7 +102,7 @@ arrayOf (some t ∷ rest) = cond (allLike t rest) (types.array t) mixedArray
 -- a term's type (`term_type`) under the facts; an array's elements are typed without any (`array_literal_type`), so that no name and no path among them has a type
 unfoldable mutual
   pub termType : Option Facts → Term → Option Ty
-  termType f (entity n) = some (types.entity (some (simpleName n)))
+  termType f (entity n) = some (types.entity (some (simpleName (n .name))))
   termType f (literal l) = some (literalType l)
   termType f (contextField p) = maybe none (λ g. contextType (g .action) p) f
   termType f (scopeField p) = maybe none (λ g. scopeFieldType g p) f
@@ -110,7 +110,7 @@ unfoldable mutual
   termType f wildcard = none
   termType f (array ts) = some (arrayOf (elementTypes ts))
   termType f (aggregate a) = some (scalar types.long)
-  termType f (arith l r) = some (scalar types.long)
+  termType f (arith op l r) = some (scalar types.long)
   termType f sigil = none
 
   pub elementTypes : Terms → List (Option Ty)

@@ -15,7 +15,7 @@ use Rattle.condition.specs.Condition as tree
 use Rattle.condition.specs.Walk.{reached, reachedIn, reachedBody}
 use Rattle.condition.specs.Places.{conditionHere, termHere, isCondition, conditionIn, isTerm, termIn, isAggregate, aggregateIn, isBinder}
 use Rattle.nodes.specs.Kinds.{kindOf, oneNumber, twoNumber, oneKind, twoKind, termKindOf, aggregateKindOf}
-use Rattle.nodes.specs.Offsets.{firstPart, termPart}
+use Rattle.nodes.specs.Offsets.{firstPart, termPart, leftPart}
 use Rattle.nodes.specs.Looked.{Skipped, KindHere, TermKindHere, AggregateKindHere, OneHere, TwoHere, ComparedHere, QuantifiedHere, AddedHere, AggregateHere, BodyHere}
 use Rattle.walk.specs.Index.{Indexes, Room, Put, Filled}
 use Rattle.nodes.specs.Laws.Opens.{condition-ahead}
@@ -114,7 +114,7 @@ bare (var v) a b = refl
 bare wildcard a b = refl
 bare (array ts) a b = refl
 bare (aggregate x) a b = absurd (a refl)
-bare (tree.arith l r) a b = absurd (b refl)
+bare (tree.arith op l r) a b = absurd (b refl)
 bare sigil a b = refl
 
 -- a part ends where it was said to
@@ -189,8 +189,8 @@ module _ (s : List ℕ) (at : ℕ) (acc : isCondition s at ≡ true) (k : ℕ) (
       alike s refl e (self s acc u (empty s (z .ends) (condition-ahead s at acc z) (omega arith)) (omega arith))
 
 -- The same of an operand.
-module _ (s : List ℕ) (at : ℕ) (acc : isTerm s at ≡ true) (k : ℕ) (o : TermKindHere s at k) (p : ℕ) (place : p ≡ termPart s at) where
-  module _ (is : k ≡ 11) where
+module _ (s : List ℕ) (at : ℕ) (acc : isTerm s at ≡ true) (k : ℕ) (o : TermKindHere s at k) (p : ℕ) where
+  module _ (place : p ≡ termPart s at) (is : k ≡ 11) where
     aggregate-is : AggregateHere s at p
     aggregate-is = aggregate-inside s at acc p place k o is
 
@@ -204,7 +204,7 @@ module _ (s : List ℕ) (at : ℕ) (acc : isTerm s at ≡ true) (k : ℕ) (o : T
     call-filled j g h room z =
         alike s refl (ap reachedIn (aggregate-is .value) ∙ calls (aggregateIn s p) (sym (g .kind) ∙ h)) (empty s (z .ends) (z .ahead) (omega arith))
 
-  module _ (is : k ≡ 12) where
+  module _ (place : p ≡ leftPart s at) (is : k ≡ 12) where
     added-is : AddedHere s at p
     added-is = added-inside s at acc p place (sym (o .kind) ∙ is)
 
@@ -233,5 +233,5 @@ module _ (s : List ℕ) (p : ℕ) {m n : ℕ} {xs : List Condition} {t u : List 
   pub comparison-next : Filled s m (termHere s p) xs t n u a → (at : ℕ) → p ≡ firstPart s at → kindOf (conditionIn s at) ≡ 8 → isCondition s at ≡ true → isTerm s (a .next) ≡ true
   comparison-next f at place is acc = let v = compared-inside s at acc p place 8 (sym is) refl in rw (ends-there (f .ends) (v .between)) (v .behind)
 
-  pub arith-next : Filled s m (termHere s p) xs t n u a → (at k : ℕ) → TermKindHere s at k → k ≡ 12 → p ≡ termPart s at → isTerm s at ≡ true → isTerm s (a .next) ≡ true
+  pub arith-next : Filled s m (termHere s p) xs t n u a → (at k : ℕ) → TermKindHere s at k → k ≡ 12 → p ≡ leftPart s at → isTerm s at ≡ true → isTerm s (a .next) ≡ true
   arith-next f at k o is place acc = let v = added-is s at acc k o p place is in rw (ends-there (f .ends) (v .between)) (v .behind)

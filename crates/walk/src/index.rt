@@ -6,6 +6,7 @@ use nodes::first_part;
 use nodes::has_one;
 use nodes::has_two;
 use nodes::kind_at;
+use nodes::left_part;
 use nodes::past_binder;
 use nodes::past_condition;
 use nodes::past_term;
@@ -81,7 +82,7 @@ fn index_operand(s: &[u8], at: usize, table: &mut [u16], n: usize) -> Indexed
         return index(s, body, table, n);
     }
     if kind == 12 {
-        let a = index_operand(s, term_part(s, at), table, n);
+        let a = index_operand(s, left_part(s, at), table, n);
         let next = a.next;
         let count = a.count;
         return index_operand(s, next, table, count);

@@ -7,6 +7,7 @@ pub mod against;
 pub mod answers;
 pub mod cases;
 pub mod coverage;
+pub mod decimals;
 pub mod examples;
 pub mod generate;
 pub mod hex;

@@ -88,6 +88,7 @@ extern "C" {
         output: *mut u8,
         output_length: usize,
     ) -> Returned;
+    fn dogwood_write_decimal(value: i64, output: *mut u8, output_length: usize) -> Returned;
 }
 
 /// Calls a function of the library with plain values first and then slices, where the library has it.
@@ -171,6 +172,12 @@ pub fn windows(condition: &[u8], period: u64, output: &mut [u8]) -> Option<Answe
 
 pub fn lookup(schema: &[u8], targets: &[u8], path: &[u8], output: &mut [u8]) -> Option<Answer> {
     let returned: Option<Returned> = called!(has_dogwood_lookup, dogwood_lookup, [schema, targets, path], [output]);
+    returned.map(Returned::answer)
+}
+
+#[allow(dead_code)]
+pub fn write_decimal(value: i64, output: &mut [u8]) -> Option<Answer> {
+    let returned: Option<Returned> = called!(has_dogwood_write_decimal, dogwood_write_decimal, [value], [], [output]);
     returned.map(Returned::answer)
 }
 

@@ -9,8 +9,8 @@ use std::ops::Deref;
 pub struct Answer {
     /// Why there is none, or not all of it.
     pub refusal: Option<Refusal>,
-    /// How many reports or windows stand in the buffer, or how many bytes of a lookup's output. It is 0 after a refusal,
-    /// but for [`Cause::NoSpace`] of a check, of sums and of windows, which counts what was kept.
+    /// How many reports or windows stand in the buffer, or how many bytes of a lookup's output or of a decimal. It is 0
+    /// after a refusal, but for [`Cause::NoSpace`] of a check, of sums and of windows, which counts what was kept.
     pub count: usize,
 }
 

@@ -67,6 +67,7 @@ extern "C" {
         output: *mut u8,
         output_length: usize,
     ) -> Returned;
+    fn dogwood_write_decimal(value: i64, output: *mut u8, output_length: usize) -> Returned;
 }
 
 pub(crate) fn read_schema(bytes: &[u8]) -> u8 {
@@ -154,4 +155,9 @@ pub(crate) fn lookup(schema: &[u8], targets: &[u8], path: &[u8], output: &mut [u
             output.len(),
         )
     }
+}
+
+pub(crate) fn write_decimal(value: i64, output: &mut [u8]) -> Returned {
+    // SAFETY: as for `check`.
+    unsafe { dogwood_write_decimal(value, output.as_mut_ptr(), output.len()) }
 }

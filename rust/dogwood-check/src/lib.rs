@@ -54,6 +54,7 @@
 mod answer;
 mod binder;
 mod condition;
+mod decimal;
 mod decode;
 mod encode;
 #[allow(unsafe_code)]
@@ -74,12 +75,13 @@ mod window;
 pub use answer::{Answer, CheckAnswer};
 pub use binder::{Annotation, Binder, Slot};
 pub use condition::{Argument, Condition, ConditionKind, Operator, Predicate};
+pub use decimal::{Decimal, DecimalError, MOST_DECIMAL};
 pub use decode::DecodeError;
 pub use encode::{Class, EncodeError, Problem, MOST_BYTES, MOST_LEVELS, MOST_TEXT};
 pub use findings::Findings;
 pub use operations::{
     check, check_into, check_with, lookup, lookup_into, read_condition, read_path, read_schema, read_targets, sums,
-    sums_into, windows, windows_into, workspace_for, MOST_SPACE,
+    sums_into, windows, windows_into, workspace_for, write_decimal_into, MOST_SPACE,
 };
 pub use path::{Path, Scope};
 pub use refusal::{Cause, RecordKind, Refusal};

@@ -10,7 +10,7 @@ use borrow.Author.Tests.{le-leb, lt-leb, ne-eqb}
 use lib.ListN.{length, getD}
 use Rattle.names.specs.Fields.{bad, Reader, _<$>_, choose, stringOf}
 use Rattle.names.specs.Class.{classOf}
-use Rattle.names.specs.declared.Class.the-variants.{Plain, PathName}
+use Rattle.names.specs.declared.Class.the-variants.{Plain}
 use Rattle.names.specs.Paths.{pathOf}
 use Rattle.names.specs.Read.{ending}
 use Rattle.names.specs.declared.Read.{Read}
@@ -159,10 +159,6 @@ module _ (v : ℕ) (s : List ℕ) (at l : ℕ) (b : Bool) where
       unfolding termAt ending
       term-deep k z = rw (z, deep-defined {A = Term} s at 14 h y k)
 
-      pub literal-read : (l ≡ 0 → ⊥) → (getD s at 0 ≡ 1 → ⊥) → getD s at 0 ≤ 5 → Next (at + 1) ≡ ending (termAt v l b s at)
-      unfolding choose termKinds ending Each
-      literal-read z i k = via (term-kind z _ refl) (each-in (λ j. Next (at + 1) ≡ ending (choose j (termKinds v (conditionAt v (l - 1)) (termAt v (l - 1)) b) s (at + 1))) 2 4 ((((tt, refl), refl), refl), refl) (getD s at 0) (omega arith) (omega arith))
-
     module _ (z : l ≡ 0 → ⊥) where
       pub sigil-read : 12 < getD s at 0 → getD s at 0 ≤ 14 → Next (at + 1) ≡ ending (termAt v l b s at)
       unfolding choose termKinds ending Each
@@ -177,9 +173,9 @@ module _ (v : ℕ) (s : List ℕ) (at l : ℕ) (b : Bool) where
       aggregate-refused k e = via (term-kind z 11 k) (rw e)
 
       module _ (x : Read) where
-        pub entity-read : getD s at 0 ≡ 1 → x ≡ ending (stringOf (classOf PathName) s (at + 1)) → x ≡ ending (termAt v l b s at)
-        unfolding choose termKinds
-        entity-read k e = via (term-kind z 1 k) (e ∙ last _ _)
+        -- an entity or a literal, whatever nested conditions and terms are read by
+        pub value-read : getD s at 0 ≤ 5 → ((c : Reader Condition) (t : Bool → Reader Term) (b : Bool) → x ≡ ending (choose (getD s at 0) (termKinds v c t b) s (at + 1))) → x ≡ ending (termAt v l b s at)
+        value-read k e = via (term-kind z _ refl) (e (conditionAt v (l - 1)) (termAt v (l - 1)) b)
 
         pub path-read : 5 < getD s at 0 → getD s at 0 ≤ 7 → x ≡ ending (pathOf s (at + 1)) → x ≡ ending (termAt v l b s at)
         unfolding choose termKinds Each
@@ -231,6 +227,6 @@ module _ (v : ℕ) (c : Reader Condition) (t : Bool → Reader Term) (s : List �
 
 pub ruleset conditions = (needs, condition-end, condition-zero, condition-above, condition-deep, binary-low, not-kind, unary-low, unary-high, opaque-read, binary-since, predicate-kind, comparison-kind, exists-kind, timepoint-kind)
 
-pub ruleset terms = (needs, term-end, term-zero, term-above, term-deep, sigil-read, entity-read, literal-read, path-read, var-read, wildcard-read, array-read, aggregate-refused, aggregate-read, arith-kind)
+pub ruleset terms = (needs, term-end, term-zero, term-above, term-deep, sigil-read, value-read, path-read, var-read, wildcard-read, array-read, aggregate-refused, aggregate-read, arith-kind)
 
 pub ruleset aggregates = (needs, aggregate-end, sum-kind, count-kind, call-kind, aggregate-undefined)

@@ -10,7 +10,7 @@ use Rattle.names.specs.Fields.{Got, got, Reader, next, refuse, u8, choose, stri
 use Rattle.names.specs.Names.{plain, pathName}
 use Rattle.names.specs.Paths.{pathOf}
 use Rattle.names.specs.Laws.Readers.{Keeps, Wider, next-wider, split, Each, each-below, choose-beyond, keysUpTo, _&_}
-use Rattle.condition.specs.Condition.{Condition, Term, One, Two, span, slot, binder, operator, arguments, argumentList, elements, elementList, unary, binary, predicateOf, comparisonOf, existsOf, conditionKinds, sumOf, countOf, aggregateKinds, aggregateOf, arithOf, termKinds, tooDeep, conditionAt, termAt}
+use Rattle.condition.specs.Condition.{Condition, Term, One, Two, span, slot, binder, operator, arguments, argumentList, elements, elementList, unary, binary, predicateOf, comparisonOf, existsOf, given, arithOp, conditionKinds, sumOf, countOf, aggregateKinds, aggregateOf, arithOf, termKinds, tooDeep, conditionAt, termAt}
 
 -- read alike
 same : {A : Type 0} (f : Reader A) → Wider f f
@@ -104,7 +104,7 @@ module _ (v : ℕ) (f g : Reader Condition) (t u : Bool → Reader Term) (wide :
 
   arith-wider : (b : Bool) → Wider (arithOf v f t b) (arithOf v g u b)
   unfolding arithOf
-  arith-wider b s at = next-wider (t b s at) (u b s at) _ _ (wider b s at) (λ _ n. last-wider (t b s n) (u b s n) _ (wider b s n))
+  arith-wider b s at = then-wider (given v arithOp s at) _ _ (λ _ p. next-wider (t b s p) (u b s p) _ _ (wider b s p) (λ _ n. last-wider (t b s n) (u b s n) _ (wider b s n)))
 
   aggregate-kinds-wider : (k : ℕ) → Wider (choose k (aggregateKinds v f t)) (choose k (aggregateKinds v g u))
   unfolding choose aggregateKinds Each keysUpTo
@@ -198,7 +198,7 @@ term-wider v b l m h = all-wider v l m h .terms b
 module _ (v : ℕ) (f : Reader Condition) (t : Bool → Reader Term) (wide : Wider (t true) (t false)) where
   arith-anywhere : Wider (arithOf v f t true) (arithOf v f t false)
   unfolding arithOf
-  arith-anywhere s at = next-wider (t true s at) (t false s at) _ _ (wide s at) (λ _ n. last-wider (t true s n) (t false s n) _ (wide s n))
+  arith-anywhere s at = then-wider (given v arithOp s at) _ _ (λ _ p. next-wider (t true s p) (t false s p) _ _ (wide s p) (λ _ n. last-wider (t true s n) (t false s n) _ (wide s n)))
 
   kinds-anywhere : (k : ℕ) → Wider (choose k (termKinds v f t true)) (choose k (termKinds v f t false))
   unfolding choose termKinds Each keysUpTo

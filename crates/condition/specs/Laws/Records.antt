@@ -18,11 +18,11 @@ module _ (s : List ℕ) (acc : isRecord s ≡ true) where
   unfolding conditionRecordUpTo conditionRecord recordIn versionIn finished
   record-read =
       let w = accept (whole conditionRecord s) acc in
-      let a = split (heading (68 ∷ 87 ∷ 67 ∷ []) 2 s 0) _ (whole-read conditionRecord s (w .read)) in
+      let a = split (heading (68 ∷ 87 ∷ 67 ∷ []) 3 s 0) _ (whole-read conditionRecord s (w .read)) in
       let b = split (conditionAt (a .value) levels s (a .place)) _ (a .rest) in
       let f = held 10 (eqb (b .place) (length s)) s (b .rest) in
-      let p : a .place ≡ 5 = heading-place (68 ∷ 87 ∷ 67 ∷ []) 2 s (a .first) in
-      let v : a .value ≡ versionIn s = heading-version (68 ∷ 87 ∷ 67 ∷ []) 2 s (a .first) in
+      let p : a .place ≡ 5 = heading-place (68 ∷ 87 ∷ 67 ∷ []) 3 s (a .first) in
+      let v : a .value ≡ versionIn s = heading-version (68 ∷ 87 ∷ 67 ∷ []) 3 s (a .first) in
       let x : recordIn s ≡ b .value = has-value _ (w .read) ∙ sym (f .value) in
       let n : b .place ≡ length s = eqb-true (b .place) (length s) (f .passed) in
       ap (λ w. conditionAt w levels s 5) (sym v) ∙ ap (conditionAt (a .value) levels s) (sym p) ∙ b .first ∙ ap (λ y. got y (b .place)) (sym x) ∙ ap (got (recordIn s)) n

@@ -3,17 +3,20 @@
 use mathlib.Core.Path.{_≡_, refl, sym, _∙_}
 use mathlib.Core.Bool.{Bool, true, false, cond, _&&_}
 use mathlib.Core.List.{List, [], _∷_, _++_, append-nil}
-use mathlib.Core.Option.{Option}
+use mathlib.Core.Option.{Option, some}
 use Prim.Native.Nat.{ℕ, zero, suc, _+_, _*_, _≤_}
 use native.Mathlib.Omega.{arith}
 use lib.Dec.{eqb, leb}
 use lib.ListN.{length, length-append}
 use Rattle.names.specs.Lists.{gather, select}
 use Rattle.names.specs.Laws.Lists.{gather-append}
-use Rattle.names.specs.Fields.{got, Reader, _>>=_, _<$>_, pure, refuse, holds, u8, u32, u64, bytes, stringOf, many, counted, choose, each, levels}
+use Rattle.names.specs.Fields.{got, Reader, _>>=_, _<$>_, pure, refuse, holds, u8, u32, u64, i64, twosComplement, bytes, stringOf, many, counted, choose, each, levels}
 use Rattle.names.specs.Paths.{pathOf}
+use Rattle.decimal.specs.Decimal.{decimalOf, judged, decimalText}
+use Rattle.decimal.specs.declared.Decimal.{Decimal}
+use Rattle.decimal.specs.declared.Decimal.the-variants.{Value, Malformed, Beyond}
 use Rattle.names.specs.Laws.Readers.{split, u8-view, bytes-view, got-value, got-place}
-use Rattle.condition.specs.Condition.{Condition, Term, Aggregate, Binder, Slot, Annotation, named, paramRef, binderRef, Span, Operator, Window, One, Two, one, two, predicate, comparison, exists, tp, opaque, aggregate, call, span, slotKinds, slot, annotation, binder, operators, operator, units, fits, seconds, amountOf, secondsOf, windowKinds, window, timepointOf, arguments, argumentList, elements, elementList, unary, binary, predicateOf, comparisonOf, existsOf, conditionKinds, sumOf, countOf, aggregateKinds, aggregateOf, arithOf, termKinds, tooDeep, conditionAt, termAt}
+use Rattle.condition.specs.Condition.{Condition, Term, Aggregate, Binder, Slot, Annotation, named, paramRef, binderRef, Span, Operator, Window, One, Two, one, two, predicate, comparison, exists, tp, opaque, aggregate, call, span, slotKinds, slot, annotation, binder, operators, operator, units, fits, seconds, amountOf, secondsOf, windowKinds, window, given, truths, truth, ArithOp, arithOps, arithOp, entityFields, timepointOf, arguments, argumentList, elements, elementList, unary, binary, predicateOf, comparisonOf, existsOf, conditionKinds, sumOf, countOf, aggregateKinds, aggregateOf, arithOf, termKinds, tooDeep, conditionAt, termAt}
 use Rattle.condition.specs.Condition as tree
 use Rattle.condition.specs.Walk.{declaredBy, operandAggregates, operandBinders, reached, reachedIn, reachedBody, declares, binders, hasName, namedOnes}
 use Rattle.condition.specs.Places.{isRecord, recordIn, versionIn}
@@ -82,9 +85,9 @@ comparison-weight : (at : Span) (op : Operator) (l r : Term) → weight (compari
 unfolding weight termWeight reached declares
 comparison-weight at op l r = first-node (comparison at op l r) (reachedIn l ++ reachedIn r) ∙ rw (binders-append, nodes-append) (omega arith)
 
-arith-weight : (l r : Term) → termWeight (tree.arith l r) ≡ termWeight l + termWeight r
+arith-weight : (op : Option ArithOp) (l r : Term) → termWeight (tree.arith op l r) ≡ termWeight l + termWeight r
 unfolding termWeight operandBinders operandAggregates reachedIn
-arith-weight l r = rw (gather-append, binders-append, nodes-append) (omega arith)
+arith-weight op l r = rw (gather-append, binders-append, nodes-append) (omega arith)
 
 aggregate-weight : (a : Aggregate) → termWeight (aggregate a) ≡ aggregateWeight a
 unfolding termWeight aggregateWeight operandBinders operandAggregates reachedIn gather
@@ -245,6 +248,36 @@ forward-kind a = stay a (omega arith)
 forward-windowed : {A : Type 0} (make : Window → A) (v : ℕ) → Forward (make <$> window v)
 forward-windowed make v = made make (forward-window v) (λ _. omega arith)
 
+-- what version 3 brought
+forward-given : {A : Type 0} (v : ℕ) {f : Reader A} → Forward f → Forward (given v f)
+unfolding given
+forward-given v p = either-way (leb v 2) (stay _ (omega arith)) (made some p (λ _. omega arith))
+
+forward-i64 : Forward i64
+unfolding i64
+forward-i64 = made twosComplement eight-u64 (λ _. omega arith)
+
+forward-decimal : Forward decimalText
+unfolding decimalText judged
+forward-decimal = on (forward-string _) λ w. judges (decimalOf w)
+  where
+    judges : (d : Decimal) → Forward (judged d)
+    judges (Value z) = stay z (omega arith)
+    judges Malformed = never 15
+    judges Beyond = never 16
+
+forward-truth : Forward truth
+unfolding truth truths AllOwe
+forward-truth = on forward-u8 λ k. chosen k truths (stay _ (omega arith) also stay _ (omega arith) also tt)
+
+forward-arith-op : Forward arithOp
+unfolding arithOp arithOps AllOwe
+forward-arith-op = on forward-u8 λ k. chosen k arithOps (stay _ (omega arith) also stay _ (omega arith) also stay _ (omega arith) also tt)
+
+pub forward-entity : (v : ℕ) → Forward (entityFields v)
+unfolding entityFields
+forward-entity v = on (forward-string _) λ _. on (forward-given v (forward-string _)) λ _. stay _ (omega arith)
+
 -- a condition with none in it, and an operand with no aggregate in it
 light : (c : Condition) → reached c ≡ c ∷ [] → declares c ≡ [] → weight c ≡ 9
 unfolding weight bindersWeight nodesWeight namedOnes select gather
@@ -338,17 +371,17 @@ module _ (v : ℕ) (f : Reader Condition) (t : Bool → Reader Term) (p : Owes 0
   -- each kind of term behind its kind byte
   arith-owes : (b : Bool) → Owes 1 (λ x. termWeight x + 1) (arithOf v f t b)
   unfolding arithOf
-  arith-owes b = on (q b) λ l. on (q b) λ r. stay _ (omega (arith, arith-weight l r))
+  arith-owes b = on (forward-given v forward-arith-op) λ op. on (q b) λ l. on (q b) λ r. stay _ (omega (arith, arith-weight op l r))
 
   terms-owe : (b : Bool) (k : ℕ) → Owes 1 (λ x. termWeight x + 1) (choose k (termKinds v f t b))
   unfolding termKinds AllOwe termWeight operandBinders operandAggregates reachedIn bindersWeight nodesWeight namedOnes select gather
   terms-owe b k =
       chosen k (termKinds v f t b)
-      (made _ (forward-string _) (λ _. omega arith)
-      also stay _ (omega arith)
-      also stay _ (omega arith)
-      also stay _ (omega arith)
-      also stay _ (omega arith)
+      (made _ (forward-entity v) (λ _. omega arith)
+      also made _ (forward-given v forward-i64) (λ _. omega arith)
+      also made _ (forward-given v forward-decimal) (λ _. omega arith)
+      also made _ (forward-given v (forward-string _)) (λ _. omega arith)
+      also made _ (forward-given v forward-truth) (λ _. omega arith)
       also made _ forward-path (λ _. omega arith)
       also made _ forward-path (λ _. omega arith)
       also made _ (forward-string _) (λ _. omega arith)

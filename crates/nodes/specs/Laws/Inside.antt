@@ -17,7 +17,7 @@ use Rattle.condition.specs.Condition as tree
 use Rattle.condition.specs.Walk.{reached, reachedIn, declares}
 use Rattle.condition.specs.Places.{versionIn, isCondition, conditionIn, isTerm, termIn, isAggregate, aggregateIn, binderIn}
 use Rattle.nodes.specs.Kinds.{kindOf, oneKind, twoKind, windowKind, termKindOf}
-use Rattle.nodes.specs.Offsets.{windowLength, behindSpan, firstPart, termPart, aggregatePart}
+use Rattle.nodes.specs.Offsets.{windowLength, behindSpan, firstPart, termPart, opLength, leftPart, aggregatePart}
 use Rattle.nodes.specs.Looked.{TermKindHere, OneHere, TwoHere, ComparedHere, QuantifiedHere, AddedHere, AggregateHere}
 use Rattle.nodes.specs.Laws.Views.{aggregate-view}
 use Rattle.nodes.specs.Laws.Opens.{condition-value, term-value, condition-stands, condition-index, raw-kind, two-here, one-here, comparison-here, exists-here, term-stands, raw-term, arith-here}
@@ -125,21 +125,25 @@ module _ (s : List ℕ) (at : ℕ) where
   unfolding termPart
   term-place p e = e
 
-  module _ (acc : isTerm s at ≡ true) (p : ℕ) (e : p ≡ termPart s at) where
-    pub added-inside : termKindOf (termIn s at) ≡ 12 → AddedHere s at p
-    unfolding termPart
-    added-inside is =
-        let v = arith-here s at acc is in
-        rw e (record {
-          second = v .middle;
-          stands = is-accepted (v .reads);
-          ahead = omega arith;
-          between = ended (v .reads);
-          behind = is-accepted (v .further);
-          value = v .whole ∙ ap₂ tree.arith (sym (term-value s refl (v .reads))) (sym (term-value s refl (v .further)));
-          ends = same-end (term-stands s at acc .read) (v .further);
-        })
+  pub left-place : (p : ℕ) → p ≡ leftPart s at → p ≡ at + 1 + opLength (versionIn s)
+  unfolding leftPart
+  left-place p e = e
 
+  pub added-inside : isTerm s at ≡ true → (p : ℕ) → p ≡ leftPart s at → termKindOf (termIn s at) ≡ 12 → AddedHere s at p
+  added-inside acc p e is =
+      let v = arith-here s at acc is in
+      rw (left-place p e) (record {
+        op = v .op;
+        second = v .middle;
+        stands = is-accepted (v .reads);
+        ahead = omega arith;
+        between = ended (v .reads);
+        behind = is-accepted (v .further);
+        value = v .whole ∙ ap₂ (tree.arith (v .op)) (sym (term-value s refl (v .reads))) (sym (term-value s refl (v .further)));
+        ends = same-end (term-stands s at acc .read) (v .further);
+      })
+
+  module _ (acc : isTerm s at ≡ true) (p : ℕ) (e : p ≡ termPart s at) where
     pub aggregate-inside : (k : ℕ) → TermKindHere s at k → k ≡ 11 → AggregateHere s at p
     unfolding termPart aggregateIn
     aggregate-inside k o is =
@@ -158,8 +162,17 @@ pub term-part-is : (s : List ℕ) (at : ℕ) → at + 1 ≡ termPart s at
 unfolding termPart
 term-part-is s at = refl
 
+module _ (s : List ℕ) (at v : ℕ) (is : v ≡ versionIn s) where
+  pub left-before : v ≤ 2 → at + 1 ≡ leftPart s at
+  unfolding leftPart opLength
+  left-before h = rw (← is, le-leb v 2 h) (omega arith)
+
+  pub left-behind : 2 < v → at + 2 ≡ leftPart s at
+  unfolding leftPart opLength
+  left-behind h = rw (← is, lt-leb v 2 h) (omega arith)
+
 pub aggregate-part-is : (s : List ℕ) (at : ℕ) → at + 9 ≡ aggregatePart s at
 unfolding aggregatePart
 aggregate-part-is s at = refl
 
-pub ruleset inside-room = (needs, condition-index, part-compared, part-low, part-high, part-windowed, term-part-is, aggregate-part-is)
+pub ruleset inside-room = (needs, condition-index, part-compared, part-low, part-high, part-windowed, term-part-is, left-before, left-behind, aggregate-part-is)

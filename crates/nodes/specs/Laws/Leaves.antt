@@ -6,6 +6,7 @@
 use mathlib.Core.Path.{_≡_, refl, sym, ap, ap₂, _∙_}
 use mathlib.Core.Bool.{true, false}
 use mathlib.Core.List.{List, [], _∷_, _++_, append-nil}
+use mathlib.Core.Option.{Option}
 use Prim.Native.Nat.{ℕ, _<_}
 use native.Mathlib.Omega.{arith}
 use lib.ListN.{length}
@@ -14,7 +15,7 @@ use Rattle.names.specs.Laws.Lists.{gather-append}
 use Rattle.names.specs.Fields.{many}
 use Rattle.names.specs.Laws.Readers.{is-accepted, has-value}
 use Rattle.names.specs.Laws.Rows.{row-cons}
-use Rattle.condition.specs.Condition.{Term, entity, literal, contextField, scopeField, var, wildcard, array, aggregate, sigil}
+use Rattle.condition.specs.Condition.{Term, ArithOp, entity, literal, contextField, scopeField, var, wildcard, array, aggregate, sigil}
 use Rattle.condition.specs.Condition as tree
 use Rattle.condition.specs.Places.{termHere, isTerm, termIn}
 use Rattle.nodes.specs.Kinds.{termKindOf}
@@ -34,10 +35,10 @@ leaf-itself (var v) a = refl
 leaf-itself wildcard a = refl
 leaf-itself (array ts) a = refl
 leaf-itself (aggregate x) a = refl
-leaf-itself (tree.arith l r) a = absurd (a refl)
+leaf-itself (tree.arith op l r) a = absurd (a refl)
 leaf-itself sigil a = refl
 
-module _ {A : Type 0} (g : Term → List A) (splits : (l r : Term) → g (tree.arith l r) ≡ g l ++ g r) where
+module _ {A : Type 0} (g : Term → List A) (splits : (op : Option ArithOp) (l r : Term) → g (tree.arith op l r) ≡ g l ++ g r) where
   pub leaves-gather : (x : Term) → gather g (operandLeaves x) ≡ g x
   unfolding gather operandLeaves
   leaves-gather (entity n) = append-nil (g (entity n))
@@ -48,7 +49,7 @@ module _ {A : Type 0} (g : Term → List A) (splits : (l r : Term) → g (tree.a
   leaves-gather wildcard = append-nil (g wildcard)
   leaves-gather (array ts) = append-nil (g (array ts))
   leaves-gather (aggregate a) = append-nil (g (aggregate a))
-  leaves-gather (tree.arith l r) = gather-append g (operandLeaves l) (operandLeaves r) ∙ ap₂ _++_ (leaves-gather l) (leaves-gather r) ∙ sym (splits l r)
+  leaves-gather (tree.arith op l r) = gather-append g (operandLeaves l) (operandLeaves r) ∙ ap₂ _++_ (leaves-gather l) (leaves-gather r) ∙ sym (splits op l r)
   leaves-gather sigil = append-nil (g sigil)
 
 module _ (s : List ℕ) (at : ℕ) (acc : isTerm s at ≡ true) where

@@ -18,11 +18,11 @@ use Rattle.names.specs.Laws.Walks.{here}
 use Rattle.nodes.specs.declared.Ends.{Ends}
 use Rattle.nodes.specs.declared.SlotAt.{SlotAt}
 use Rattle.nodes.specs.declared.SlotAt.the-variants.{Named, ParamRef, BinderRef}
-use Rattle.condition.specs.Condition.{Span, Slot, named, binderRef, Binder, Condition, Term, Terms, Arguments, Aggregate, predicate, tp, noArgument, argument, entity, contextField, scopeField, var, array, nil, cons, sum, slotKinds, slot, binder, span, operator, arguments, argumentList, elements, elementList, conditionAt, termAt}
+use Rattle.condition.specs.Condition.{Span, Slot, named, binderRef, Binder, Condition, Term, Terms, Arguments, Aggregate, predicate, tp, noArgument, argument, contextField, scopeField, var, array, nil, cons, sum, slotKinds, slot, binder, span, operator, arguments, argumentList, elements, elementList, conditionAt, termAt}
 use Rattle.condition.specs.Condition as tree
 use Rattle.condition.specs.Walk.{reached, reachedBody, declaredBy}
 use Rattle.condition.specs.Places.{versionIn, termHere, isCondition, conditionIn, isTerm, termIn, isAggregate, aggregateIn, isArguments, argumentsIn, isElements, elementsIn, isPath, pathIn, isSlot, slotIn, argumentsAt, elementsAt}
-use Rattle.nodes.specs.Offsets.{firstPart, termPart, aggregatePart}
+use Rattle.nodes.specs.Offsets.{firstPart, termPart, leftPart, aggregatePart}
 use Rattle.nodes.specs.Laws.Inside.{same-end, ended, place-other, place-compared, compared-inside, added-inside}
 use Rattle.nodes.specs.Kinds.{kindOf, spanOf, ownSpanOf, termKindOf, aggregateKindOf, aggregateSpanOf}
 use Rattle.nodes.specs.Looked.{placeOf, Skipped, KindHere, TermKindHere, AggregateKindHere, ComparedHere, BodyHere}
@@ -30,7 +30,7 @@ use Rattle.nodes.specs.Parts.{EndsHere, Spans, ComparisonHere, ArithHere
 use Rattle.condition.specs.Laws.Sizes.{forward-counted, forward-string, forward-path, one-term}
 use Rattle.condition.specs.Laws.Levels.{term-anywhere}
 use Rattle.nodes.specs.Laws.Choices.{by-kind}
-use Rattle.nodes.specs.Laws.Views.{head-view, span-view, operator-view, PredicateView, predicate-view, timepoint-view, aggregate-head-view, PartView, entity-view, context-view, scope-view, var-view, array-view}
+use Rattle.nodes.specs.Laws.Views.{head-view, span-view, operator-view, PredicateView, predicate-view, timepoint-view, aggregate-head-view, PartView, context-view, scope-view, var-view, array-view}
 use Rattle.nodes.specs.Laws.Opens.{term-there, term-value, Stands, skipped, stood, ends-at, condition-stands, condition-room, raw-kind, comparison-here, term-stands, term-index, raw-term, aggregate-stands, aggregate-kind-here, sum-here, count-here, counts}
 
 -- The place behind path names and behind a path.
@@ -121,28 +121,22 @@ module _ (s : List ℕ) (at : ℕ) (acc : isCondition s at ≡ true) (is : kindO
           value = rw (term-value s j (v .reads), term-value s i (v .further), v .whole);
         }
 
+module _ (s : List ℕ) (at : ℕ) (acc : isTerm s at ≡ true) (p : ℕ) (e : p ≡ leftPart s at) (is : termKindOf (termIn s at) ≡ 12) where
+  pub arith-left : isTerm s p ≡ true
+  arith-left = added-inside s at acc p e is .stands
+
+  pub arith-parts : (m : ℕ) → Skipped (termHere s p) p m → ArithHere s at (record { left = p; right = m })
+  arith-parts m z =
+      let h = added-inside s at acc p e is in
+      let w = term-stands s p (h .stands) in
+      let i : m ≡ h .second = ends-at (w .read) (z .ends) ∙ sym (ends-at (w .read) (h .between)) in
+      let l = term-ahead s p (w .read) in
+      let q = ends-at (w .read) (z .ends) in
+      rw i (record { op = h .op; left = h .stands; right = h .behind; ahead = h .ahead; further = omega arith; value = h .value })
+
 module _ (s : List ℕ) (at : ℕ) (acc : isTerm s at ≡ true) (p : ℕ) (e : p ≡ termPart s at) where
-  module _ (is : termKindOf (termIn s at) ≡ 12) where
-    pub arith-left : isTerm s p ≡ true
-    arith-left = added-inside s at acc p e is .stands
-
-    pub arith-parts : (m : ℕ) → Skipped (termHere s p) p m → ArithHere s at (record { left = p; right = m })
-    arith-parts m z =
-        let h = added-inside s at acc p e is in
-        let w = term-stands s p (h .stands) in
-        let i : m ≡ h .second = ends-at (w .read) (z .ends) ∙ sym (ends-at (w .read) (h .between)) in
-        let l = term-ahead s p (w .read) in
-        let q = ends-at (w .read) (z .ends) in
-        rw i (record { left = h .stands; right = h .behind; ahead = h .ahead; further = omega arith; value = h .value })
-
   -- names and paths
   module _ (k : ℕ) (o : TermKindHere s at k) where
-    pub entity-inside : k ≡ 1 → termIn s at ≡ entity (wordAt s p)
-    unfolding termPart
-    entity-inside is =
-        let v = entity-view (versionIn s) s at (term-stands s at acc .read) (raw-term s at acc 1 (λ i. omega arith) (sym (o .kind) ∙ is)) in
-        rw e (v .whole ∙ ap entity (string-view pathName s (at + 1) (v .reads) .word))
-
     pub var-inside : k ≡ 8 → termIn s at ≡ var (wordAt s p)
     unfolding termPart
     var-inside is =

@@ -3,20 +3,23 @@
 use mathlib.Core.Path.{_≡_, refl, sym, ap, _∙_}
 use mathlib.Core.Bool.{Bool, true, false, cond, false≢true}
 use mathlib.Core.List.{List}
+use mathlib.Core.Option.{Option}
 use Prim.Native.Nat.{ℕ, _+_, _-_, _≤_, _<_}
 use native.Mathlib.Omega.{arith}
 use lib.Dec.{eqb}
 use lib.ListN.{length, getD, take, drop}
-use Rattle.names.specs.Fields.{Got, got, Reader, _<$>_, pure, next, u8, u32, number, bytes, choose, levels, stringOf, each, counted}
+use Rattle.names.specs.Fields.{Got, got, Reader, _<$>_, pure, next, u8, u32, i64, number, bytes, choose, levels, stringOf, each, counted}
 use Rattle.names.specs.Names.{plain, pathName}
 use Rattle.names.specs.Paths.{pathOf}
+use Rattle.decimal.specs.Decimal.{decimalText}
 use Rattle.names.specs.Laws.Readers.{split, u8-view, bytes-view, got-value, got-place, Each, keysUpTo, _&_}
-use Rattle.condition.specs.Condition.{Span, Slot, Condition, Term, Arguments, Aggregate, Operator, Binder, Window, One, Two, one, two, predicate, comparison, exists, tp, opaque, negation, formerly, previous, refine, and, or, since, le, lt, ge, gt, eq, notEq, integer, decimal, string, bool, entity, literal, contextField, scopeField, var, wildcard, array, aggregate, sigil, sum, count, call, span, slot, operators, operator, binder, window, timepointOf, argumentList, elementList, unary, binary, predicateOf, comparisonOf, existsOf, conditionKinds, sumOf, countOf, aggregateKinds, aggregateOf, arithOf, termKinds, conditionAt, termAt}
+use Rattle.condition.specs.Condition.{Span, Slot, Condition, Term, Arguments, Aggregate, Operator, Binder, Window, One, Two, one, two, predicate, comparison, exists, tp, opaque, negation, formerly, previous, refine, and, or, since, le, lt, ge, gt, eq, notEq, integer, decimal, string, bool, entity, literal, contextField, scopeField, var, wildcard, array, aggregate, sigil, sum, count, call, span, slot, operators, operator, binder, window, ArithOp, given, truth, arithOp, entityFields, timepointOf, argumentList, elementList, unary, binary, predicateOf, comparisonOf, existsOf, conditionKinds, sumOf, countOf, aggregateKinds, aggregateOf, arithOf, termKinds, conditionAt, termAt}
 use Rattle.condition.specs.Condition as tree
 use Rattle.nodes.specs.Kinds.{kindOf, spanOf, termKindOf, aggregateKindOf, aggregateSpanOf, operatorNumber, oneNumber, twoNumber, oneWindow, twoWindow, twoKind, oneKind, windowKind}
-use Rattle.nodes.specs.Offsets.{windowLength, behindSpan}
+use Rattle.nodes.specs.Offsets.{windowLength, behindSpan, opLength}
 use Rattle.nodes.specs.Laws.Choices.{by-kind, no-value}
 use Rattle.nodes.specs.Laws.Windows.{window-place}
+use Rattle.nodes.specs.Laws.Given.{op-place}
 use Rattle.condition.specs.Laws.Levels.{condition-wider, term-wider}
 
 -- a 32-bit number, and the two of a span
@@ -443,12 +446,14 @@ module _ (version : ℕ) (s : List ℕ) (at : ℕ) {x : Condition} {n : ℕ} (e 
 
 -- Terms.
 pub record ArithView (version : ℕ) (s : List ℕ) (at : ℕ) (t : Term) (n : ℕ) : Type 0 where
+  pub op : Option ArithOp
   pub left : Term
   pub middle : ℕ
   pub right : Term
-  pub reads : termAt version levels false s (at + 1) ≡ got left middle
+  pub says : given version arithOp s (at + 1) ≡ got op (at + 1 + opLength version)
+  pub reads : termAt version levels false s (at + 1 + opLength version) ≡ got left middle
   pub further : termAt version levels false s middle ≡ got right n
-  pub whole : t ≡ tree.arith left right
+  pub whole : t ≡ tree.arith op left right
 
 -- a term that is one part behind its kind byte
 pub record PartView {A : Type 0} (f : Reader A) (make : A → Term) (s : List ℕ) (at : ℕ) (t : Term) (n : ℕ) : Type 0 where
@@ -471,9 +476,20 @@ module _ (version : ℕ) (s : List ℕ) (at : ℕ) {t : Term} {n : ℕ} where
   adding-view : arithOf version (conditionAt version levels) (termAt version levels) false s (at + 1) ≡ got t n → ArithView version s at t n
   unfolding arithOf
   adding-view e =
-      let a = split (termAt version levels false s (at + 1)) _ e in
+      let o = split (given version arithOp s (at + 1)) _ e in
+      let i = op-place version s (at + 1) (o .first) in
+      let a = split (termAt version levels false s (o .place)) _ (o .rest) in
       let b = split (termAt version levels false s (a .place)) _ (a .rest) in
-      record { left = a .value; middle = a .place; right = b .value; reads = a .first; further = b .first ∙ ap (got (b .value)) (got-place (b .rest)); whole = sym (got-value (b .rest)) }
+      record {
+        op = o .value;
+        left = a .value;
+        middle = a .place;
+        right = b .value;
+        says = o .first ∙ ap (got (o .value)) i;
+        reads = ap (termAt version levels false s) (sym i) ∙ a .first;
+        further = b .first ∙ ap (got (b .value)) (got-place (b .rest));
+        whole = sym (got-value (b .rest));
+      }
 
   numbers : (k : ℕ) → choose k (termKinds version (conditionAt version levels) (termAt version levels) false) s (at + 1) ≡ got t n → termNumber k ≡ termKindOf t
   unfolding choose termKinds Each keysUpTo
@@ -483,11 +499,11 @@ module _ (version : ℕ) (s : List ℕ) (at : ℕ) {t : Term} {n : ℕ} where
       by-kind s (at + 1) 14 (termKinds version (conditionAt version levels) (termAt version levels) false) refl (λ k. termNumber k ≡ termKindOf t)
       (tt
       & no-value
-      & (λ e. is _ (part-view (stringOf pathName) entity s at e .whole))
-      & own (literal integer)
-      & own (literal decimal)
-      & own (literal string)
-      & own (literal bool)
+      & (λ e. is _ (part-view (entityFields version) entity s at e .whole))
+      & (λ e. is _ (part-view (given version i64) (λ v. literal (integer v)) s at e .whole))
+      & (λ e. is _ (part-view (given version decimalText) (λ v. literal (decimal v)) s at e .whole))
+      & (λ e. is _ (part-view (given version (stringOf plain)) (λ v. literal (string v)) s at e .whole))
+      & (λ e. is _ (part-view (given version truth) (λ v. literal (bool v)) s at e .whole))
       & (λ e. is _ (part-view pathOf contextField s at e .whole))
       & (λ e. is _ (part-view pathOf scopeField s at e .whole))
       & (λ e. is _ (part-view (stringOf plain) var s at e .whole))
@@ -518,7 +534,7 @@ module _ (version : ℕ) (s : List ℕ) (at : ℕ) {t : Term} {n : ℕ} (e : ter
   pub term-number : termNumber (getD s at 0) ≡ termKindOf t
   term-number = numbers version s at (getD s at 0) inner-term
 
-  pub entity-view : getD s at 0 ≡ 1 → PartView (stringOf pathName) entity s at t n
+  pub entity-view : getD s at 0 ≡ 1 → PartView (entityFields version) entity s at t n
   unfolding choose termKinds
   entity-view k = part-view _ _ s at (of-term-kind 1 k)
 

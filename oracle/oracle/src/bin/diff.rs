@@ -4,14 +4,14 @@
 //! again. LETTERS are those of the operations to be compared; without them all that the library has. Each check is also
 //! made with lent workspace of random size and contents and rules of no effect, and held against the one without; and it
 //! is made strictly, with space for all reports, where every pair of the plain one has to be among the strict ones, and the
-//! visits are as many.
+//! visits are as many. As many numbers are written as decimals, and read back.
 
 #[path = "../library.rs"]
 mod library;
 
 use oracle::cases::{Case, Draft, Operation, Outcome, FILL};
 use oracle::coverage::Coverage;
-use oracle::{generate, hex, lists, rng::Rng, shrink, workloads};
+use oracle::{decimals, generate, hex, lists, rng::Rng, shrink, workloads};
 use std::collections::BTreeSet;
 use std::time::{SystemTime, UNIX_EPOCH};
 
@@ -26,7 +26,8 @@ fn main() {
     let mut operations = library::operations();
     operations.retain(|o| wanted.as_ref().is_none_or(|letters| letters.contains(o.letter())));
     let letters: String = operations.iter().map(|o| o.letter()).collect();
-    let lends = library::check_with(0, [&[]; 3], &mut [], &mut []).is_some();
+    let lends =
+        library::check_with(0, [&[]; 3], &mut [], &mut []).is_some() && library::write_decimal(0, &mut []).is_some();
     if operations.is_empty() || wanted.is_none() && (operations.len() < COMPARED || !lends) {
         println!("oracle: NOTHING COMPARED, the static library is not there or lacks functions: it has '{letters}'");
         std::process::exit(1);
@@ -34,6 +35,9 @@ fn main() {
     println!("oracle: operations {letters}, seed {seed}");
     let stored = compare_stored(&operations);
     let coverage = compare_fresh(&operations, count, seed);
+    if wanted.is_none() {
+        compare_decimals(count, seed);
+    }
     println!("oracle: {stored} stored and {count} fresh cases agree\n\nThe fresh cases covered:");
     coverage.print();
 }
@@ -81,6 +85,25 @@ fn compare_fresh(operations: &[Operation], count: usize, seed: u64) -> Coverage 
         }
     }
     coverage
+}
+
+/// The examples and as many random numbers, written by the library into buffers of lengths that show something.
+fn compare_decimals(count: usize, seed: u64) {
+    let mut rng = Rng::new(seed);
+    let examples = decimals::EXAMPLES.map(|(number, length, _, _)| (number, length));
+    let fresh = (0..count).map(|_| {
+        let number = decimals::number(&mut rng);
+        (number, rng.below(decimals::text(number).len() + 4))
+    });
+    for (number, length) in examples.into_iter().chain(fresh) {
+        let [mut ours, mut theirs] = [vec![FILL; length], vec![FILL; length]];
+        let answer = library::write_decimal(number, &mut theirs);
+        if answer != Some(decimals::write(number, &mut ours)) || ours != theirs {
+            println!("the decimal {number} in {length} bytes differs: {answer:?}, {}", hex::encode(&theirs));
+            std::process::exit(1);
+        }
+    }
+    println!("oracle: {} decimals agree", decimals::EXAMPLES.len() + count);
 }
 
 fn differs(case: &Case) -> bool {

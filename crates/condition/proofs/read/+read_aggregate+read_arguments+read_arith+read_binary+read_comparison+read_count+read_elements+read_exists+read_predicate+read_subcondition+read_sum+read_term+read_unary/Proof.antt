@@ -54,6 +54,8 @@ use Rattle.condition.proofs.read.read_slot.Reads as read-slot-reads
 use Rattle.condition.proofs.read.read_span.Reads as read-span-reads
 use Rattle.condition.proofs.read.read_timepoint.Reads as read-timepoint-reads
 use Rattle.condition.proofs.window.read_window.Reads as read-window-reads
+use Rattle.condition.proofs.values.read_arith_op.Reads as read-arith-op-reads
+use Rattle.condition.proofs.values.read_value.Reads as read-value-reads
 use Rattle.names.proofs.read_path.Reads as read-path-reads
 use Rattle.names.proofs.read_string.Reads as read-string-reads
 use Rattle.names.proofs.read_strings.Reads as read-strings-reads
@@ -240,11 +242,15 @@ read-arguments-met t =
 
 -- read-arith
 abbrev read-arith-given : ℕ → read-arith-lts.Claims
-read-arith-given t = (read-term-below t, read-term.Post)
+read-arith-given t = (read-arith-op-reads.Asked, read-arith-op-reads.Learnt, read-term-below t, read-term.Post)
 
 read-arith-met : {M : Type 1} (t : ℕ) → read-arith-lts.Closed (read-arith-given t) (read-arith-at t) read-arith.Post M
 read-arith-met t =
     read-arith-lts.spec (read-arith-given t) (read-arith-at t) read-arith.Post
+    (λ c κs. search ariths)
+    (λ c. search ariths)
+    (λ c. search ariths)
+    (λ c. search ariths)
     (λ c κs. search ariths)
     (λ c. search ariths)
     (λ c. search ariths)
@@ -460,7 +466,7 @@ read-sum-met t =
 
 -- read-term
 abbrev read-term-given : ℕ → read-term-lts.Claims
-read-term-given t = (read-string-reads.Asked, read-string-reads.Learnt, read-path-reads.Asked, read-path-reads.Learnt, read-elements-below t, read-elements.Post, read-aggregate-below t, read-aggregate.Post, read-arith-below t, read-arith.Post)
+read-term-given t = (read-value-reads.Asked, read-value-reads.Learnt, read-path-reads.Asked, read-path-reads.Learnt, read-string-reads.Asked, read-string-reads.Learnt, read-elements-below t, read-elements.Post, read-aggregate-below t, read-aggregate.Post, read-arith-below t, read-arith.Post)
 
 read-term-met : {M : Type 1} (t : ℕ) → read-term-lts.Closed (read-term-given t) (read-term-at t) read-term.Post M
 read-term-met t =
@@ -473,9 +479,7 @@ read-term-met t =
     (λ c. search terms)
     (λ c. search terms)
     (λ c. search terms)
-    (λ c κs. search terms)
-    (λ c. search terms)
-    (λ c. search terms)
+    (λ c κs. (search terms, search terms))
     (λ c. search terms)
     (λ c. search terms)
     (λ c κs. search terms)

@@ -14,24 +14,24 @@ use Rattle.condition.specs.Places.{versionIn}
 use Rattle.condition.proofs.read.read_condition.Statement.{statement}
 use Rattle.condition.proofs.read.read_condition.Tie as tie
 
-module _ (s : List ℕ) (x : Read) (is : x ≡ ending (whole (heading (68 ∷ 87 ∷ 67 ∷ []) 2) s)) where
+module _ (s : List ℕ) (x : Read) (is : x ≡ ending (whole (heading (68 ∷ 87 ∷ 67 ∷ []) 3) s)) where
   no-heading : (r : ℕ) → x ≡ Refused r → x ≡ ending (whole conditionRecord s)
   unfolding conditionRecordUpTo conditionRecord
-  no-heading r e = start-stops (68 ∷ 87 ∷ 67 ∷ []) 2 s _ x is r e
+  no-heading r e = start-stops (68 ∷ 87 ∷ 67 ∷ []) 3 s _ x is r e
 
   module _ (at : ℕ) (e : x ≡ Next at) (version : ℕ) (is-version : version ≡ versionIn s) (y : Read) (is′ : y ≡ ending (conditionAt version levels s at)) where
     -- the version that the heading gives is the one that the code took
-    root-is : (v : ℕ) → heading (68 ∷ 87 ∷ 67 ∷ []) 2 s 0 ≡ got v at → y ≡ ending (conditionAt v levels s at)
+    root-is : (v : ℕ) → heading (68 ∷ 87 ∷ 67 ∷ []) 3 s 0 ≡ got v at → y ≡ ending (conditionAt v levels s at)
     unfolding versionIn
-    root-is v h = is′ ∙ ap (λ w. ending (conditionAt w levels s at)) (is-version ∙ sym (heading-version (68 ∷ 87 ∷ 67 ∷ []) 2 s h))
+    root-is v h = is′ ∙ ap (λ w. ending (conditionAt w levels s at)) (is-version ∙ sym (heading-version (68 ∷ 87 ∷ 67 ∷ []) 3 s h))
 
     no-root : (r : ℕ) → y ≡ Refused r → y ≡ ending (whole conditionRecord s)
     unfolding conditionRecordUpTo conditionRecord
-    no-root r f = start-goes (68 ∷ 87 ∷ 67 ∷ []) 2 s _ x is at e (λ v h. stops _ _ f (root-is v h))
+    no-root r f = start-goes (68 ∷ 87 ∷ 67 ∷ []) 3 s _ x is at e (λ v h. stops _ _ f (root-is v h))
 
     ended : (end : ℕ) → y ≡ Next end → (z : Read) → z ≡ ending (finished end s end) → z ≡ ending (whole conditionRecord s)
     unfolding conditionRecordUpTo conditionRecord
-    ended end f z i = start-goes (68 ∷ 87 ∷ 67 ∷ []) 2 s _ x is at e (λ v h. goes _ _ f (root-is v h) λ c _. at-end c s end z i)
+    ended end f z i = start-goes (68 ∷ 87 ∷ 67 ∷ []) 3 s _ x is at e (λ v h. goes _ _ f (root-is v h) λ c _. at-end c s end z i)
 
 ruleset steps = (needs, no-heading, no-root, ended)
 

@@ -21,6 +21,7 @@ use Rattle.nodes.proofs.first_part.Reads as first-part-reads
 use Rattle.nodes.proofs.has_one.Reads as has-one-reads
 use Rattle.nodes.proofs.has_two.Reads as has-two-reads
 use Rattle.nodes.proofs.kind_at.Reads as kind-at-reads
+use Rattle.nodes.proofs.left_part.Reads as left-part-reads
 use Rattle.nodes.proofs.past_binder.Reads as past-binder-reads
 use Rattle.nodes.proofs.past_condition.Reads as past-condition-reads
 use Rattle.nodes.proofs.past_term.Reads as past-term-reads
@@ -91,7 +92,7 @@ index-met t =
 
 -- index-operand
 abbrev index-operand-given : ℕ → index-operand-lts.Claims
-index-operand-given t = (term-kind-at-reads.Asked, term-kind-at-reads.Learnt, term-part-reads.Asked, term-part-reads.Learnt, aggregate-kind-at-reads.Asked, aggregate-kind-at-reads.Learnt, past-term-reads.Asked, past-term-reads.Learnt, body-at-reads.Asked, body-at-reads.Learnt, index-below t, index.Post, index-operand-below t, index-operand.Post)
+index-operand-given t = (term-kind-at-reads.Asked, term-kind-at-reads.Learnt, term-part-reads.Asked, term-part-reads.Learnt, aggregate-kind-at-reads.Asked, aggregate-kind-at-reads.Learnt, past-term-reads.Asked, past-term-reads.Learnt, body-at-reads.Asked, body-at-reads.Learnt, index-below t, index.Post, left-part-reads.Asked, left-part-reads.Learnt, index-operand-below t, index-operand.Post)
 
 index-operand-met : {M : Type 1} (t : ℕ) → index-operand-lts.Closed (index-operand-given t) (index-operand-at t) index-operand.Post M
 index-operand-met t =

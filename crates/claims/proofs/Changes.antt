@@ -1,0 +1,296 @@
+-- A change of windows, ids, values and operators changes no answer. Assumes nothing.
+use mathlib.Core.Path.{_≡_, refl, sym, ap, ap₂, _∙_}
+use mathlib.Core.Bool.{true, cond}
+use mathlib.Core.List.{List, [], _∷_, _++_}
+use mathlib.Core.Option.{Option, none, some}
+use Prim.Native.Nat.{ℕ}
+use Rattle.names.specs.Names.{simpleName}
+use Rattle.names.specs.Lists.{maybe, gather}
+use Rattle.names.specs.Laws.Lists.{gather-append}
+use Rattle.names.specs.Fields.{Got, got, bad, either, whole}
+use Rattle.names.specs.Laws.Readers.{accept, has-value}
+use Rattle.types.specs.Types.{Ty, Profile}
+use Rattle.types.specs.Types as types
+use Rattle.schema.specs.Schema.{Schema, Action, schemaRecord}
+use Rattle.schema.specs.Find.{findAction}
+use Rattle.targets.specs.Targets.{Target, Targets, Scope, targetRecord}
+use Rattle.resolution.specs.Resolution.{admitsAnyEnv, predicateAction, contextType}
+use Rattle.condition.specs.Condition as tree
+use Rattle.condition.specs.Condition.{Slot, Span, Condition, Arguments, Term, Terms, Aggregate, Binder, one, two, predicate, comparison, exists, tp, opaque, noArgument, argument, entity, literal, contextField, scopeField, var, wildcard, array, aggregate, sigil, nil, cons, sum, count, call, named, paramRef, binderRef, conditionRecord}
+use Rattle.condition.specs.Walk.{declaredBy, operandAggregates, operandBinders, reached, reachedIn, reachedBody, declares, binders}
+use Rattle.condition.specs.Places.{isRecord, recordIn}
+use Rattle.terms.specs.Terms.{Facts, factsOf, termType, elementTypes, arrayOf}
+use Rattle.reports.specs.Reports as reports
+use Rattle.reports.specs.Reports.{Breach, Outcome, once, refusal, reported}
+use Rattle.rules.specs.Rules.{both, ordering, operandsBy, notLongHere, argumentBreach, argumentBreaches, leafBreaches, arithmeticBreaches, nodeBreaches}
+use Rattle.typecheck.specs.Check.{profileOf, breachesUnder, checked, checkWith}
+use Rattle.sums.specs.Sums.{aggregateBreaches, termBreaches, termsBreaches, argumentsBreaches, conditionBreaches, breaches, sums}
+use Rattle.claims.specs.Changes.{Change, KeepsTypes, changed, inArguments, inTerm, inTerms, inAggregate, Alike, Unseen, ChangedOnce}
+
+gather-same : {A B : Type 0} {f g : A → List B} → ((a : A) → f a ≡ g a) → (xs : List A) → gather f xs ≡ gather g xs
+unfolding gather
+gather-same e [] = refl
+gather-same e (x ∷ xs) = ap₂ _++_ (e x) (gather-same e xs)
+
+joined : {A B : Type 0} (f : A → List B) (xs ys : List A) {us vs : List B} → gather f xs ≡ us → gather f ys ≡ vs → gather f (xs ++ ys) ≡ us ++ vs
+joined f xs ys e h = gather-append f xs ys ∙ ap₂ _++_ e h
+
+module _ (change : Change) (keeps : KeepsTypes change) where
+  -- ---- what a walk gathers of the reached conditions
+
+  module _ {B : Type 0} (g h : Condition → List B) (same : (x : Condition) → g (changed change x) ≡ h x) where
+    mutual
+      unfolding changed inTerm inAggregate reached reachedIn reachedBody gather
+
+      pub gathered : (c : Condition) → gather g (reached (changed change c)) ≡ gather h (reached c)
+      gathered (one k at c) = ap₂ _++_ (same (one k at c)) (gathered c)
+      gathered (two k at l r) = ap₂ _++_ (same (two k at l r)) (joined g (reached (changed change l)) (reached (changed change r)) (gathered l) (gathered r) ∙ sym (gather-append h (reached l) (reached r)))
+      gathered (predicate at own ns act args) = ap₂ _++_ (same (predicate at own ns act args)) refl
+      gathered (comparison at op l r) = ap₂ _++_ (same (comparison at op l r)) (joined g (reachedIn (inTerm change l)) (reachedIn (inTerm change r)) (gathered-in l) (gathered-in r) ∙ sym (gather-append h (reachedIn l) (reachedIn r)))
+      gathered (exists at b c) = ap₂ _++_ (same (exists at b c)) (gathered c)
+      gathered (tp at s) = ap₂ _++_ (same (tp at s)) refl
+      gathered (opaque at) = ap₂ _++_ (same (opaque at)) refl
+
+      gathered-in : (t : Term) → gather g (reachedIn (inTerm change t)) ≡ gather h (reachedIn t)
+      gathered-in (entity n) = refl
+      gathered-in (literal l) = refl
+      gathered-in (contextField p) = refl
+      gathered-in (scopeField p) = refl
+      gathered-in (var v) = refl
+      gathered-in wildcard = refl
+      gathered-in (array ts) = refl
+      gathered-in (aggregate a) = gathered-body a
+      gathered-in (tree.arith op l r) = joined g (reachedIn (inTerm change l)) (reachedIn (inTerm change r)) (gathered-in l) (gathered-in r) ∙ sym (gather-append h (reachedIn l) (reachedIn r))
+      gathered-in sigil = refl
+
+      gathered-body : (a : Aggregate) → gather g (reachedBody (inAggregate change a)) ≡ gather h (reachedBody a)
+      gathered-body (sum at summand bs body) = gathered body
+      gathered-body (count at bs body) = gathered body
+      gathered-body (call at) = refl
+
+  -- ---- the binders
+
+  same-declared : (a : Aggregate) → declaredBy (inAggregate change a) ≡ declaredBy a
+  unfolding inAggregate declaredBy
+  same-declared (sum at summand bs body) = refl
+  same-declared (count at bs body) = refl
+  same-declared (call at) = refl
+
+  same-operand : (t : Term) → operandBinders (inTerm change t) ≡ operandBinders t
+  unfolding inTerm operandBinders operandAggregates gather
+  same-operand (entity n) = refl
+  same-operand (literal l) = refl
+  same-operand (contextField p) = refl
+  same-operand (scopeField p) = refl
+  same-operand (var v) = refl
+  same-operand wildcard = refl
+  same-operand (array ts) = refl
+  same-operand (aggregate a) = ap (λ bs. bs ++ []) (same-declared a)
+  same-operand (tree.arith op l r) = joined declaredBy (operandAggregates (inTerm change l)) (operandAggregates (inTerm change r)) (same-operand l) (same-operand r) ∙ sym (gather-append declaredBy (operandAggregates l) (operandAggregates r))
+  same-operand sigil = refl
+
+  same-declares : (c : Condition) → declares (changed change c) ≡ declares c
+  unfolding changed declares
+  same-declares (one k at c) = refl
+  same-declares (two k at l r) = refl
+  same-declares (predicate at own ns act args) = refl
+  same-declares (comparison at op l r) = ap₂ _++_ (same-operand l) (same-operand r)
+  same-declares (exists at b c) = refl
+  same-declares (tp at s) = refl
+  same-declares (opaque at) = refl
+
+  same-binders : (c : Condition) → binders (changed change c) ≡ binders c
+  unfolding binders
+  same-binders c = gathered declares declares same-declares c
+
+  -- ---- the types
+
+  mutual
+    unfolding inTerm inTerms termType elementTypes
+
+    same-type : (f : Option Facts) (t : Term) → termType f (inTerm change t) ≡ termType f t
+    same-type f (entity n) = ap (λ name. some (types.entity (some (simpleName name)))) (keeps .names n)
+    same-type f (literal l) = ap some (keeps .kinds l)
+    same-type f (contextField p) = refl
+    same-type f (scopeField p) = refl
+    same-type f (var v) = refl
+    same-type f wildcard = refl
+    same-type f (array ts) = ap (λ us. some (arrayOf us)) (same-types ts)
+    same-type f (aggregate a) = refl
+    same-type f (tree.arith op l r) = refl
+    same-type f sigil = refl
+
+    same-types : (ts : Terms) → elementTypes (inTerms change ts) ≡ elementTypes ts
+    same-types nil = refl
+    same-types (cons t ts) = ap₂ _∷_ (same-type none t) (same-types ts)
+
+  -- ---- the rules of a check
+
+  module _ (f : Facts) where
+    same-leaves : (t : Term) (at : Span) → leafBreaches f (inTerm change t) at ≡ leafBreaches f t at
+    unfolding inTerm leafBreaches
+    same-leaves (entity n) at = ap (λ o. notLongHere o at) (same-type (some f) (entity n))
+    same-leaves (literal l) at = ap (λ o. notLongHere o at) (same-type (some f) (literal l))
+    same-leaves (contextField p) at = refl
+    same-leaves (scopeField p) at = refl
+    same-leaves (var v) at = refl
+    same-leaves wildcard at = refl
+    same-leaves (array ts) at = ap (λ o. notLongHere o at) (same-type (some f) (array ts))
+    same-leaves (aggregate a) at = refl
+    same-leaves (tree.arith op l r) at = ap₂ _++_ (same-leaves l at) (same-leaves r at)
+    same-leaves sigil at = refl
+
+    same-arithmetic : (t : Term) (at : Span) → arithmeticBreaches f (inTerm change t) at ≡ arithmeticBreaches f t at
+    unfolding inTerm arithmeticBreaches
+    same-arithmetic (entity n) at = refl
+    same-arithmetic (literal l) at = refl
+    same-arithmetic (contextField p) at = refl
+    same-arithmetic (scopeField p) at = refl
+    same-arithmetic (var v) at = refl
+    same-arithmetic wildcard at = refl
+    same-arithmetic (array ts) at = refl
+    same-arithmetic (aggregate a) at = refl
+    same-arithmetic (tree.arith op l r) at = same-leaves (tree.arith op l r) at
+    same-arithmetic sigil at = refl
+
+    same-arguments : (name : List ℕ) (action : Option Action) (args : Arguments) (own : Span) → argumentBreaches f name action (inArguments change args) own ≡ argumentBreaches f name action args own
+    unfolding inArguments argumentBreaches
+    same-arguments name action noArgument own = refl
+    same-arguments name action (argument param field value rest) own =
+        ap₂ _++_ (ap (λ o. both (contextType action field) o (argumentBreach param name) own) (same-type (some f) value)) (same-arguments name action rest own)
+
+    same-node : (c : Condition) → nodeBreaches f (changed change c) ≡ nodeBreaches f c
+    unfolding changed nodeBreaches
+    same-node (one k at c) = refl
+    same-node (two k at l r) = refl
+    same-node (predicate at own ns act args) = same-arguments act (predicateAction (f .schema) ns act) args own
+    same-node (comparison at op l r) =
+        ap₂ _++_ (ap₂ _++_ (same-arithmetic l at) (same-arithmetic r at))
+        (ap₂ (λ t u. both t u (operandsBy (f .profile) (ordering op)) at) (same-type (some f) l) (same-type (some f) r))
+    same-node (exists at b c) = refl
+    same-node (tp at s) = refl
+    same-node (opaque at) = refl
+
+  module _ (p : Profile) (s : Schema) (c : Condition) (scope : Scope) where
+    same-reached : (a : Option Action) → gather (nodeBreaches (factsOf p s (changed change c) scope a)) (reached (changed change c)) ≡ gather (nodeBreaches (factsOf p s c scope a)) (reached c)
+    same-reached a =
+        ap (λ bs. gather (nodeBreaches (record { profile = p; schema = s; scope = scope; action = a; binders = bs })) (reached (changed change c))) (same-binders c)
+        ∙ gathered (nodeBreaches (factsOf p s c scope a)) (nodeBreaches (factsOf p s c scope a)) (same-node (factsOf p s c scope a)) c
+
+    same-under : (t : Target) → breachesUnder p s (changed change c) scope t ≡ breachesUnder p s c scope t
+    unfolding breachesUnder
+    same-under t = go (findAction s (t .namespace) (t .id))
+      where
+        go : (o : Option Action) → maybe (gather (nodeBreaches (factsOf p s (changed change c) scope none)) (reached (changed change c))) (λ a. cond (admitsAnyEnv s scope a) (gather (nodeBreaches (factsOf p s (changed change c) scope (some a))) (reached (changed change c))) []) o
+            ≡ maybe (gather (nodeBreaches (factsOf p s c scope none)) (reached c)) (λ a. cond (admitsAnyEnv s scope a) (gather (nodeBreaches (factsOf p s c scope (some a))) (reached c)) []) o
+        go none = same-reached none
+        go (some a) = ap (λ bs. cond (admitsAnyEnv s scope a) bs []) (same-reached (some a))
+
+  same-checked : (p : Profile) (s : Schema) (c : Condition) (ts : Targets) (buffer : List ℕ) → checked p s (changed change c) ts buffer ≡ checked p s c ts buffer
+  unfolding checked
+  same-checked p s c ts buffer = ap (λ bs. reported (once [] bs) buffer) (gather-same (same-under p s c (ts .scope)) (ts .list))
+
+  -- ---- the summand rule
+
+  module _ (bs : List Binder) where
+    same-aggregate : (a : Aggregate) → aggregateBreaches bs (inAggregate change a) ≡ aggregateBreaches bs a
+    unfolding inAggregate aggregateBreaches
+    same-aggregate (sum at (named name) own body) = refl
+    same-aggregate (sum at paramRef own body) = refl
+    same-aggregate (sum at binderRef own body) = refl
+    same-aggregate (count at own body) = refl
+    same-aggregate (call at) = refl
+
+    mutual
+      unfolding inTerm inTerms termBreaches termsBreaches
+
+      same-term : (t : Term) → termBreaches bs (inTerm change t) ≡ termBreaches bs t
+      same-term (entity n) = refl
+      same-term (literal l) = refl
+      same-term (contextField p) = refl
+      same-term (scopeField p) = refl
+      same-term (var v) = refl
+      same-term wildcard = refl
+      same-term (array ts) = same-terms ts
+      same-term (aggregate a) = same-aggregate a
+      same-term (tree.arith op l r) = ap₂ _++_ (same-term l) (same-term r)
+      same-term sigil = refl
+
+      same-terms : (ts : Terms) → termsBreaches bs (inTerms change ts) ≡ termsBreaches bs ts
+      same-terms nil = refl
+      same-terms (cons t ts) = ap₂ _++_ (same-term t) (same-terms ts)
+
+    same-summed : (args : Arguments) → argumentsBreaches bs (inArguments change args) ≡ argumentsBreaches bs args
+    unfolding inArguments argumentsBreaches
+    same-summed noArgument = refl
+    same-summed (argument name field value rest) = ap₂ _++_ (same-term value) (same-summed rest)
+
+    same-condition : (c : Condition) → conditionBreaches bs (changed change c) ≡ conditionBreaches bs c
+    unfolding changed conditionBreaches
+    same-condition (one k at c) = refl
+    same-condition (two k at l r) = refl
+    same-condition (predicate at own ns act args) = same-summed args
+    same-condition (comparison at op l r) = ap₂ _++_ (same-term l) (same-term r)
+    same-condition (exists at b c) = refl
+    same-condition (tp at s) = refl
+    same-condition (opaque at) = refl
+
+  same-sums : (c : Condition) → breaches (changed change c) ≡ breaches c
+  unfolding breaches
+  same-sums c =
+      ap (λ bs. gather (conditionBreaches bs) (reached (changed change c))) (same-binders c)
+      ∙ gathered (conditionBreaches (binders c)) (conditionBreaches (binders c)) (same-condition (binders c)) c
+
+-- ---- records
+
+-- the answer of a check by what the three records give
+answered : ℕ → List ℕ → Got Schema → Got Condition → Got Targets → Outcome
+answered rules buffer g h i =
+    either (λ r. refusal r 1 buffer) (λ s. either (λ r. refusal r 2 buffer) (λ c. either (λ r. refusal r 3 buffer) (λ ts. checked (profileOf rules) s c ts buffer) i) h) g
+
+module _ (c d : Condition) (n m : ℕ) where
+  module _ (equal : (p : Profile) (s : Schema) (ts : Targets) (buffer : List ℕ) → checked p s c ts buffer ≡ checked p s d ts buffer) where
+    answered-alike : (rules : ℕ) (buffer : List ℕ) (g : Got Schema) (i : Got Targets) → answered rules buffer g (got c n) i ≡ answered rules buffer g (got d m) i
+    unfolding answered
+    answered-alike rules buffer (bad r) i = refl
+    answered-alike rules buffer (got s l) (bad r) = refl
+    answered-alike rules buffer (got s l) (got ts k) = equal (profileOf rules) s ts buffer
+
+-- a record and the condition that stands in it
+record ReadAs (s : List ℕ) : Type 0 where
+  end : ℕ
+  reads : whole conditionRecord s ≡ got (recordIn s) end
+
+-- two accepted records whose conditions give the same answers
+module _ (a b : List ℕ) (isA : isRecord a ≡ true) (isB : isRecord b ≡ true)
+    (checks : (p : Profile) (s : Schema) (ts : Targets) (buffer : List ℕ) → checked p s (recordIn a) ts buffer ≡ checked p s (recordIn b) ts buffer)
+    (summed : breaches (recordIn a) ≡ breaches (recordIn b)) where
+  read : (s : List ℕ) → isRecord s ≡ true → ReadAs s
+  unfolding recordIn
+  read s is = let x = accept (whole conditionRecord s) is in record { end = x .place; reads = x .read ∙ ap (λ c. got c (x .place)) (sym (has-value _ (x .read))) }
+
+  checks-alike : (rules : ℕ) (schemaBytes targetBytes buffer : List ℕ) → checkWith rules schemaBytes a targetBytes buffer ≡ checkWith rules schemaBytes b targetBytes buffer
+  unfolding checkWith answered
+  checks-alike rules schemaBytes targetBytes buffer =
+      ap (λ h. answered rules buffer (whole schemaRecord schemaBytes) h (whole targetRecord targetBytes)) (read a isA .reads)
+      ∙ answered-alike (recordIn a) (recordIn b) (read a isA .end) (read b isB .end) checks rules buffer (whole schemaRecord schemaBytes) (whole targetRecord targetBytes)
+      ∙ ap (λ h. answered rules buffer (whole schemaRecord schemaBytes) h (whole targetRecord targetBytes)) (sym (read b isB .reads))
+
+  sums-alike : (buffer : List ℕ) → sums a buffer ≡ sums b buffer
+  unfolding sums
+  sums-alike buffer = rw (read a isA .reads, read b isB .reads) (ap (λ bs. reported bs buffer) summed)
+
+  records-alike : Alike a b
+  records-alike = record { checks = checks-alike; sums = sums-alike }
+
+pub unseen : Unseen
+unseen change keeps a b isA isB same =
+    records-alike a b isA isB
+    (λ p s ts buffer. sym (same-checked change keeps p s (recordIn a) ts buffer) ∙ ap (λ c. checked p s c ts buffer) same ∙ same-checked change keeps p s (recordIn b) ts buffer)
+    (sym (same-sums change keeps (recordIn a)) ∙ ap breaches same ∙ same-sums change keeps (recordIn b))
+
+pub changed-once : ChangedOnce
+changed-once change keeps a b isA isB same =
+    records-alike a b isA isB
+    (λ p s ts buffer. sym (same-checked change keeps p s (recordIn a) ts buffer) ∙ ap (λ c. checked p s c ts buffer) (sym same))
+    (sym (same-sums change keeps (recordIn a)) ∙ ap breaches (sym same))

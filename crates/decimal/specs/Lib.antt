@@ -1,0 +1,4 @@
+pub mod Decimal
+pub mod Claims
+pub mod Examples
+pub mod Laws
