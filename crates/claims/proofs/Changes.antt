@@ -1,7 +1,7 @@
--- A change of windows, ids, values and operators changes no answer. Assumes nothing.
+-- A change of windows, ids, values and operators changes no answer of Check and Sums, and one that keeps the windows changes no listing. Assumes nothing.
 use mathlib.Core.Path.{_≡_, refl, sym, ap, ap₂, _∙_}
 use mathlib.Core.Bool.{true, cond}
-use mathlib.Core.List.{List, [], _∷_, _++_}
+use mathlib.Core.List.{List, [], _∷_, _++_, map}
 use mathlib.Core.Option.{Option, none, some}
 use Prim.Native.Nat.{ℕ}
 use Rattle.names.specs.Names.{simpleName}
@@ -21,11 +21,12 @@ use Rattle.condition.specs.Walk.{declaredBy, operandAggregates, operandBinders,
 use Rattle.condition.specs.Places.{isRecord, recordIn}
 use Rattle.terms.specs.Terms.{Facts, factsOf, termType, elementTypes, arrayOf}
 use Rattle.reports.specs.Reports as reports
-use Rattle.reports.specs.Reports.{Breach, Outcome, once, refusal, reported}
+use Rattle.reports.specs.Reports.{Breach, once, refusal, reported}
 use Rattle.rules.specs.Rules.{both, ordering, operandsBy, notLongHere, argumentBreach, argumentBreaches, leafBreaches, arithmeticBreaches, nodeBreaches}
-use Rattle.typecheck.specs.Check.{profileOf, breachesUnder, checked, checkWith}
+use Rattle.typecheck.specs.Check.{profileOf, breachesUnder, isChecked, visitsUnder, begun, CheckOutcome, unvisited, checked, checkWith}
 use Rattle.sums.specs.Sums.{aggregateBreaches, termBreaches, termsBreaches, argumentsBreaches, conditionBreaches, breaches, sums}
-use Rattle.claims.specs.Changes.{Change, KeepsTypes, changed, inArguments, inTerm, inTerms, inAggregate, Alike, Unseen, ChangedOnce}
+use Rattle.sweeps.specs.Windows.{concreteOf, concreteIn, concreteWindows, inSweeps, entries, swept, windows}
+use Rattle.claims.specs.Changes.{Change, KeepsTypes, KeepsWindows, changed, inArguments, inTerm, inTerms, inAggregate, Alike, ListedAlike, Unseen, ChangedOnce, Unlisted, ListedOnce}
 
 gather-same : {A B : Type 0} {f g : A → List B} → ((a : A) → f a ≡ g a) → (xs : List A) → gather f xs ≡ gather g xs
 unfolding gather
@@ -35,7 +36,13 @@ gather-same e (x ∷ xs) = ap₂ _++_ (e x) (gather-same e xs)
 joined : {A B : Type 0} (f : A → List B) (xs ys : List A) {us vs : List B} → gather f xs ≡ us → gather f ys ≡ vs → gather f (xs ++ ys) ≡ us ++ vs
 joined f xs ys e h = gather-append f xs ys ∙ ap₂ _++_ e h
 
-module _ (change : Change) (keeps : KeepsTypes change) where
+-- a list of one thing for each is gathered by lists of one
+map-gathered : {A B : Type 0} (f : A → B) (xs : List A) → map f xs ≡ gather (λ x. f x ∷ []) xs
+unfolding gather
+map-gathered f [] = refl
+map-gathered f (x ∷ xs) = ap (λ ys. f x ∷ ys) (map-gathered f xs)
+
+module _ (change : Change) where
   -- ---- what a walk gathers of the reached conditions
 
   module _ {B : Type 0} (g h : Condition → List B) (same : (x : Condition) → g (changed change x) ≡ h x) where
@@ -103,6 +110,29 @@ module _ (change : Change) (keeps : KeepsTypes change) where
   unfolding binders
   same-binders c = gathered declares declares same-declares c
 
+  -- ---- the windows
+
+  module _ (keeps : KeepsWindows change) where
+    same-concrete : (c : Condition) → concreteIn (changed change c) ≡ concreteIn c
+    unfolding changed concreteIn concreteOf
+    same-concrete (one tree.negation at c) = refl
+    same-concrete (one tree.refine at c) = refl
+    same-concrete (one (tree.formerly w) at c) = keeps (at .start) w
+    same-concrete (one (tree.previous w) at c) = keeps (at .start) w
+    same-concrete (two tree.and at l r) = refl
+    same-concrete (two tree.or at l r) = refl
+    same-concrete (two (tree.since w) at l r) = keeps (at .start) w
+    same-concrete (predicate at own ns act args) = refl
+    same-concrete (comparison at op l r) = refl
+    same-concrete (exists at b c) = refl
+    same-concrete (tp at s) = refl
+    same-concrete (opaque at) = refl
+
+    same-entries : (period : ℕ) (c : Condition) → entries period (changed change c) ≡ entries period c
+    unfolding entries concreteWindows
+    same-entries period c = ap (map (inSweeps period)) (gathered concreteIn concreteIn same-concrete c)
+
+module _ (change : Change) (keeps : KeepsTypes change) where
   -- ---- the types
 
   mutual
@@ -174,8 +204,8 @@ module _ (change : Change) (keeps : KeepsTypes change) where
   module _ (p : Profile) (s : Schema) (c : Condition) (scope : Scope) where
     same-reached : (a : Option Action) → gather (nodeBreaches (factsOf p s (changed change c) scope a)) (reached (changed change c)) ≡ gather (nodeBreaches (factsOf p s c scope a)) (reached c)
     same-reached a =
-        ap (λ bs. gather (nodeBreaches (record { profile = p; schema = s; scope = scope; action = a; binders = bs })) (reached (changed change c))) (same-binders c)
-        ∙ gathered (nodeBreaches (factsOf p s c scope a)) (nodeBreaches (factsOf p s c scope a)) (same-node (factsOf p s c scope a)) c
+        ap (λ bs. gather (nodeBreaches (record { profile = p; schema = s; scope = scope; action = a; binders = bs })) (reached (changed change c))) (same-binders change c)
+        ∙ gathered change (nodeBreaches (factsOf p s c scope a)) (nodeBreaches (factsOf p s c scope a)) (same-node (factsOf p s c scope a)) c
 
     same-under : (t : Target) → breachesUnder p s (changed change c) scope t ≡ breachesUnder p s c scope t
     unfolding breachesUnder
@@ -186,9 +216,24 @@ module _ (change : Change) (keeps : KeepsTypes change) where
         go none = same-reached none
         go (some a) = ap (λ bs. cond (admitsAnyEnv s scope a) bs []) (same-reached (some a))
 
+    same-made : (a : Option Action) → map (nodeBreaches (factsOf p s (changed change c) scope a)) (reached (changed change c)) ≡ map (nodeBreaches (factsOf p s c scope a)) (reached c)
+    same-made a =
+        ap (λ bs. map (nodeBreaches (record { profile = p; schema = s; scope = scope; action = a; binders = bs })) (reached (changed change c))) (same-binders change c)
+        ∙ map-gathered (nodeBreaches (factsOf p s c scope a)) (reached (changed change c))
+        ∙ gathered change (λ x. nodeBreaches (factsOf p s c scope a) x ∷ []) (λ x. nodeBreaches (factsOf p s c scope a) x ∷ []) (λ x. ap (λ bs. bs ∷ []) (same-node (factsOf p s c scope a) x)) c
+        ∙ sym (map-gathered (nodeBreaches (factsOf p s c scope a)) (reached c))
+
+    same-visits : (t : Target) → visitsUnder p s (changed change c) scope t ≡ visitsUnder p s c scope t
+    unfolding visitsUnder
+    same-visits t = ap (λ visits. cond (isChecked s scope t) visits []) (same-made (findAction s (t .namespace) (t .id)))
+
   same-checked : (p : Profile) (s : Schema) (c : Condition) (ts : Targets) (buffer : List ℕ) → checked p s (changed change c) ts buffer ≡ checked p s c ts buffer
   unfolding checked
-  same-checked p s c ts buffer = ap (λ bs. reported (once [] bs) buffer) (gather-same (same-under p s c (ts .scope)) (ts .list))
+  same-checked p s c ts buffer =
+      λ i. record {
+        outcome = ap (λ bs. reported (once [] bs) buffer) (gather-same (same-under p s c (ts .scope)) (ts .list)) i;
+        visits = ap (begun buffer []) (gather-same (same-visits p s c (ts .scope)) (ts .list)) i;
+      }
 
   -- ---- the summand rule
 
@@ -238,15 +283,15 @@ module _ (change : Change) (keeps : KeepsTypes change) where
   same-sums : (c : Condition) → breaches (changed change c) ≡ breaches c
   unfolding breaches
   same-sums c =
-      ap (λ bs. gather (conditionBreaches bs) (reached (changed change c))) (same-binders c)
-      ∙ gathered (conditionBreaches (binders c)) (conditionBreaches (binders c)) (same-condition (binders c)) c
+      ap (λ bs. gather (conditionBreaches bs) (reached (changed change c))) (same-binders change c)
+      ∙ gathered change (conditionBreaches (binders c)) (conditionBreaches (binders c)) (same-condition (binders c)) c
 
 -- ---- records
 
 -- the answer of a check by what the three records give
-answered : ℕ → List ℕ → Got Schema → Got Condition → Got Targets → Outcome
+answered : ℕ → List ℕ → Got Schema → Got Condition → Got Targets → CheckOutcome
 answered rules buffer g h i =
-    either (λ r. refusal r 1 buffer) (λ s. either (λ r. refusal r 2 buffer) (λ c. either (λ r. refusal r 3 buffer) (λ ts. checked (profileOf rules) s c ts buffer) i) h) g
+    either (λ r. unvisited r 1 buffer) (λ s. either (λ r. unvisited r 2 buffer) (λ c. either (λ r. unvisited r 3 buffer) (λ ts. checked (profileOf rules) s c ts buffer) i) h) g
 
 module _ (c d : Condition) (n m : ℕ) where
   module _ (equal : (p : Profile) (s : Schema) (ts : Targets) (buffer : List ℕ) → checked p s c ts buffer ≡ checked p s d ts buffer) where
@@ -261,14 +306,14 @@ record ReadAs (s : List ℕ) : Type 0 where
   end : ℕ
   reads : whole conditionRecord s ≡ got (recordIn s) end
 
+read : (s : List ℕ) → isRecord s ≡ true → ReadAs s
+unfolding recordIn
+read s is = let x = accept (whole conditionRecord s) is in record { end = x .place; reads = x .read ∙ ap (λ c. got c (x .place)) (sym (has-value _ (x .read))) }
+
 -- two accepted records whose conditions give the same answers
 module _ (a b : List ℕ) (isA : isRecord a ≡ true) (isB : isRecord b ≡ true)
     (checks : (p : Profile) (s : Schema) (ts : Targets) (buffer : List ℕ) → checked p s (recordIn a) ts buffer ≡ checked p s (recordIn b) ts buffer)
     (summed : breaches (recordIn a) ≡ breaches (recordIn b)) where
-  read : (s : List ℕ) → isRecord s ≡ true → ReadAs s
-  unfolding recordIn
-  read s is = let x = accept (whole conditionRecord s) is in record { end = x .place; reads = x .read ∙ ap (λ c. got c (x .place)) (sym (has-value _ (x .read))) }
-
   checks-alike : (rules : ℕ) (schemaBytes targetBytes buffer : List ℕ) → checkWith rules schemaBytes a targetBytes buffer ≡ checkWith rules schemaBytes b targetBytes buffer
   unfolding checkWith answered
   checks-alike rules schemaBytes targetBytes buffer =
@@ -294,3 +339,20 @@ changed-once change keeps a b isA isB same =
     records-alike a b isA isB
     (λ p s ts buffer. sym (same-checked change keeps p s (recordIn a) ts buffer) ∙ ap (λ c. checked p s c ts buffer) (sym same))
     (sym (same-sums change keeps (recordIn a)) ∙ ap breaches (sym same))
+
+-- ---- the listing
+
+module _ (a b : List ℕ) (isA : isRecord a ≡ true) (isB : isRecord b ≡ true) where
+  listed-alike : ((period : ℕ) → entries period (recordIn a) ≡ entries period (recordIn b)) → ListedAlike a b
+  unfolding windows swept
+  listed-alike same period buffer = rw (read a isA .reads, read b isB .reads, same period)
+
+pub unlisted : Unlisted
+unlisted change keeps a b isA isB same =
+    listed-alike a b isA isB λ period.
+    sym (same-entries change keeps period (recordIn a)) ∙ ap (entries period) same ∙ same-entries change keeps period (recordIn b)
+
+pub listed-once : ListedOnce
+listed-once change keeps a b isA isB same =
+    listed-alike a b isA isB λ period.
+    sym (same-entries change keeps period (recordIn a)) ∙ ap (entries period) (sym same)

@@ -8,8 +8,8 @@ pub mod StrictExamples
 pub mod Visits
 pub mod VisitsExamples
 pub mod Versions
-pub mod Unsaid
 pub mod Changes
+pub mod Unsaid
 pub mod Windows
 pub mod Values
 pub mod WindowExamples

@@ -1,7 +1,7 @@
 -- What the records of a version do not say: windows in version 1, values below version 3. Assumes nothing.
 use mathlib.Core.Path.{_≡_, refl, sym, ap, ap₂, _∙_}
 use mathlib.Core.Bool.{Bool, true, false, cond, _&&_}
-use mathlib.Core.List.{List, [], _∷_}
+use mathlib.Core.List.{List, [], _∷_, map}
 use mathlib.Core.Option.{Option, none}
 use Prim.Native.Nat.{ℕ, zero, suc, _≤_}
 use native.Mathlib.Omega.{arith}
@@ -17,9 +17,13 @@ use Rattle.condition.specs.Condition.{Window, unsaid, Entity, window, One, Two,
 use Rattle.condition.specs.Places.{isRecord, recordIn, versionIn}
 use Rattle.condition.specs.Laws.Tables.{_also_}
 use Rattle.condition.specs.Laws.Records.{record-read}
+use Rattle.condition.specs.Walk.{reached}
+use Rattle.names.specs.Lists.{gather}
+use Rattle.sweeps.specs.Windows.{Concrete, concreteOf, concreteIn, concreteWindows, inSweeps, entries}
 use Rattle.claims.specs.Changes.{Change, changedOne, changedTwo, changed, inArguments, inTerm, inTerms, inAggregate}
-use Rattle.claims.specs.Windows.{windowsTo, NoneInFirst}
+use Rattle.claims.specs.Windows.{windowsTo, NoneInFirst, NoneListed}
 use Rattle.claims.specs.Values.{droppingValues, NoneBelowThird}
+use Rattle.claims.proofs.Changes.{gathered}
 
 -- what a reader gives has a property
 record Gives {A : Type 0} (P : A → Type 0) (f : Reader A) : Type 0 where
@@ -207,7 +211,8 @@ module _ (change : Change) (v : ℕ) (leaves : Leaves change v) where
         terms = λ b. after u8 λ k. terms-bare (conditionAt v l) (termAt v l) (w .conditions) (w .terms) b k;
       }
 
--- version 1 says no window
+-- ---- version 1 says no window
+
 first-leaves : (v : ℕ) → v ≤ 1 → Leaves (windowsTo unsaid) v
 unfolding window
 first-leaves v first = record {
@@ -223,7 +228,38 @@ first-leaves v first = record {
 pub none-in-first : NoneInFirst
 none-in-first s acc first = at-level (windowsTo unsaid) (versionIn s) (first-leaves (versionIn s) (omega arith)) levels .conditions .on s 5 (record-read s acc)
 
--- the versions below 3 say no value
+-- ---- so nothing is listed
+
+unsaid-none : (c : Condition) → concreteIn (changed (windowsTo unsaid) c) ≡ []
+unfolding changed concreteIn concreteOf
+unsaid-none (one tree.negation at c) = refl
+unsaid-none (one tree.refine at c) = refl
+unsaid-none (one (tree.formerly w) at c) = refl
+unsaid-none (one (tree.previous w) at c) = refl
+unsaid-none (two tree.and at l r) = refl
+unsaid-none (two tree.or at l r) = refl
+unsaid-none (two (tree.since w) at l r) = refl
+unsaid-none (predicate at own ns act args) = refl
+unsaid-none (comparison at op l r) = refl
+unsaid-none (exists at b c) = refl
+unsaid-none (tp at s) = refl
+unsaid-none (opaque at) = refl
+
+none-gathered : (cs : List Condition) → gather {B = Concrete} (λ c. []) cs ≡ []
+unfolding gather
+none-gathered [] = refl
+none-gathered (c ∷ cs) = none-gathered cs
+
+pub none-listed : NoneListed
+unfolding entries concreteWindows
+none-listed period s acc first =
+    ap (map (inSweeps period))
+    (ap (λ c. gather concreteIn (reached c)) (sym (none-in-first s acc first))
+    ∙ gathered (windowsTo unsaid) concreteIn (λ c. []) unsaid-none (recordIn s)
+    ∙ none-gathered (reached (recordIn s)))
+
+-- ---- the versions below 3 say no value
+
 abbrev called : List ℕ → Option (List ℕ) → Entity
 called name id = record { name = name; id = id }
 

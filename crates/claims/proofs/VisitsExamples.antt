@@ -6,7 +6,7 @@ use Rattle.names.specs.Paths.{pathOf}
 use Rattle.names.specs.Lists.{gather, anyOf, first, every, select}
 use Rattle.schema.specs.Schema.{after, ascending, attributesOf, attributes, kinds, typeAt, keyAfter, action, schemaRecord}
 use Rattle.schema.specs.Find.{findAction, actionType}
-use Rattle.condition.specs.Condition.{conditionRecordUpTo, conditionRecord, conditionAt, termAt, conditionKinds, comparisonOf, unary, binary, predicateOf, arguments, argumentList, aggregateOf, aggregateKinds, countOf, termKinds, span, operator, operators}
+use Rattle.condition.specs.Condition.{conditionRecordUpTo, conditionRecord, conditionAt, termAt, conditionKinds, comparisonOf, unary, binary, predicateOf, arguments, argumentList, aggregateOf, aggregateKinds, countOf, termKinds, given, span, operator, operators}
 use Rattle.condition.specs.Walk.{reached, reachedIn, reachedBody}
 use Rattle.targets.specs.Targets.{targetRecord, narrowing, narrowings, target}
 use Rattle.resolution.specs.Resolution.{admitsAnyEnv, sideAdmits, admittedBy, admitted, entityOf, scopeType, contextType, predicateAction}
@@ -22,7 +22,7 @@ use Rattle.claims.specs.VisitsExamples as examples
 use Rattle.claims.specs.VisitsExamples.{lent}
 
 pub all-counted : Hold examples.counted
-unfolding whole heading bytes u8 number u16 u32 stringOf many counted finished choose digits letter letterOrDigit identifier pathName pathTail secondColon pathOrNone plain plainByte same below simpleFrom simpleName pathOf gather anyOf first every select after ascending attributesOf attributes kinds typeAt keyAfter action schemaRecord findAction actionType conditionRecordUpTo conditionRecord conditionAt termAt conditionKinds comparisonOf unary binary predicateOf arguments argumentList aggregateOf aggregateKinds countOf termKinds span operator operators reached reachedIn reachedBody targetRecord narrowing narrowings target admitsAnyEnv sideAdmits admittedBy admitted entityOf scopeType contextType predicateAction termType elementTypes arrayOf allLike scopeFieldType rootType sideType display fits once encoded fitting reported parts filled from text nodeBreaches argumentBreaches argumentBreach arithmeticBreaches leafBreaches numericBreaches likeBreaches profileOf checkWith checked breachesUnder isChecked visitsUnder begun lent
+unfolding whole heading bytes u8 number u16 u32 stringOf many counted finished choose digits letter letterOrDigit identifier pathName pathTail secondColon pathOrNone plain plainByte same below simpleFrom simpleName pathOf gather anyOf first every select after ascending attributesOf attributes kinds typeAt keyAfter action schemaRecord findAction actionType conditionRecordUpTo conditionRecord conditionAt termAt conditionKinds comparisonOf unary binary predicateOf arguments argumentList aggregateOf aggregateKinds countOf termKinds given span operator operators reached reachedIn reachedBody targetRecord narrowing narrowings target admitsAnyEnv sideAdmits admittedBy admitted entityOf scopeType contextType predicateAction termType elementTypes arrayOf allLike scopeFieldType rootType sideType display fits once encoded fitting reported parts filled from text nodeBreaches argumentBreaches argumentBreach arithmeticBreaches leafBreaches numericBreaches likeBreaches profileOf checkWith checked breachesUnder isChecked visitsUnder begun lent
 all-counted =
     (λ x. refl)
     and (λ x. refl)

@@ -7,7 +7,7 @@ use Rattle.names.specs.Read.{refusalNumber}
 use Rattle.names.specs.Lists.{gather, anyOf, first, every}
 use Rattle.schema.specs.Schema.{schemaRecord}
 use Rattle.schema.specs.Find.{findAction, actionType}
-use Rattle.condition.specs.Condition.{conditionRecordUpTo, conditionRecord, conditionAt, termAt, conditionKinds, unary, binary, predicateOf, arguments, argumentList, units, fits, amountOf, secondsOf, windowKinds, window, binder, termKinds, aggregateOf, aggregateKinds, countOf, tooDeep, span}
+use Rattle.condition.specs.Condition.{conditionRecordUpTo, conditionRecord, conditionAt, termAt, conditionKinds, unary, binary, predicateOf, arguments, argumentList, units, fits, amountOf, secondsOf, windowKinds, window, binder, termKinds, given, aggregateOf, aggregateKinds, countOf, tooDeep, span}
 use Rattle.condition.specs.Walk.{reached}
 use Rattle.targets.specs.Targets.{targetRecord, narrowing, narrowings, target}
 use Rattle.reports.specs.Reports.{once, fitting, reported}
@@ -19,7 +19,7 @@ use Rattle.claims.specs.Rows.{Hold, end, _and_}
 use Rattle.claims.specs.WindowExamples.{nested, lines}
 
 pub all-lines : Hold lines
-unfolding text whole heading bytes u8 number u16 u32 u64 stringOf many counted finished choose digits pathOrNone plain plainByte same pathOf refusalNumber gather anyOf first every schemaRecord findAction actionType conditionRecordUpTo conditionRecord conditionAt termAt conditionKinds unary binary predicateOf arguments argumentList units fits amountOf secondsOf windowKinds window binder termKinds aggregateOf aggregateKinds countOf tooDeep span reached targetRecord narrowing narrowings target once fitting reported nodeBreaches profileOf check checkWith checked breachesUnder isChecked visitsUnder begun argumentsBreaches conditionBreaches termBreaches aggregateBreaches breaches sums nested
+unfolding text whole heading bytes u8 number u16 u32 u64 stringOf many counted finished choose digits pathOrNone plain plainByte same pathOf refusalNumber gather anyOf first every schemaRecord findAction actionType conditionRecordUpTo conditionRecord conditionAt termAt conditionKinds unary binary predicateOf arguments argumentList units fits amountOf secondsOf windowKinds window binder termKinds given aggregateOf aggregateKinds countOf tooDeep span reached targetRecord narrowing narrowings target once fitting reported nodeBreaches profileOf check checkWith checked breachesUnder isChecked visitsUnder begun argumentsBreaches conditionBreaches termBreaches aggregateBreaches breaches sums nested
 all-lines =
     (λ x. refl)
     and (λ x. refl)

@@ -1,5 +1,6 @@
 -- A change of what the reports do not depend on: a condition with other windows, ids, values and operators. Two accepted records that such a change makes
--- one condition answer alike, whichever their versions (`Unseen`; `proofs/Changes.antt` proves it). `Windows` and `Values` say which changes there are.
+-- one condition answer alike, whichever their versions (`Unseen`), and list the same windows where the change keeps these (`Unlisted`); `proofs/Changes.antt`
+-- proves both. `Windows` and `Values` say which changes there are.
 use Prim.Native.Nat.{ℕ}
 use mathlib.Core.Path.{_≡_}
 use mathlib.Core.Bool.{true}
@@ -10,6 +11,7 @@ use Rattle.condition.specs.Places.{isRecord, recordIn}
 use Rattle.terms.specs.Terms.{literalType}
 use Rattle.typecheck.specs.Check.{checkWith}
 use Rattle.sums.specs.Sums.{sums}
+use Rattle.sweeps.specs.Windows as listing
 
 -- what becomes of each window, entity, literal and operator
 pub record Change : Type 0 where
@@ -22,6 +24,10 @@ pub record Change : Type 0 where
 pub record KeepsTypes (change : Change) : Type 0 where
   pub names : (n : Entity) → change .entities n .name ≡ n .name
   pub kinds : (l : Literal) → literalType (change .literals l) ≡ literalType l
+
+-- a window has the seconds that it had, or none as before
+abbrev pub KeepsWindows : Change → Type 0
+KeepsWindows change = (start : ℕ) (w : Window) → listing.concreteOf start (change .windows w) ≡ listing.concreteOf start w
 
 -- a condition changed everywhere, also where the walk does not go
 module _ (change : Change) where
@@ -71,10 +77,14 @@ module _ (change : Change) where
     inAggregate (count at bs body) = count at bs (changed body)
     inAggregate (call at) = call at
 
--- two condition records answer alike: the same outcome, which is the answer and each byte of the buffer, whatever else is asked
+-- two condition records answer alike: the same outcome, which is the answer with its visits and each byte of the buffer, whatever else is asked
 pub record Alike (a b : List ℕ) : Type 0 where
   pub checks : (rules : ℕ) (schemaBytes targetBytes buffer : List ℕ) → checkWith rules schemaBytes a targetBytes buffer ≡ checkWith rules schemaBytes b targetBytes buffer
   pub sums : (buffer : List ℕ) → sums a buffer ≡ sums b buffer
+
+-- and the same outcome of the listing, in sweeps of any period
+abbrev pub ListedAlike : List ℕ → List ℕ → Type 0
+ListedAlike a b = (period : ℕ) (buffer : List ℕ) → listing.windows a period buffer ≡ listing.windows b period buffer
 
 -- records that a change makes one condition
 abbrev pub Unseen : Type 0
@@ -83,3 +93,10 @@ Unseen = (change : Change) → KeepsTypes change → (a b : List ℕ) → isReco
 -- a record, and another whose condition is the changed one
 abbrev pub ChangedOnce : Type 0
 ChangedOnce = (change : Change) → KeepsTypes change → (a b : List ℕ) → isRecord a ≡ true → isRecord b ≡ true → recordIn b ≡ changed change (recordIn a) → Alike a b
+
+-- the same of the listing, for a change of whatever keeps the windows
+abbrev pub Unlisted : Type 0
+Unlisted = (change : Change) → KeepsWindows change → (a b : List ℕ) → isRecord a ≡ true → isRecord b ≡ true → changed change (recordIn a) ≡ changed change (recordIn b) → ListedAlike a b
+
+abbrev pub ListedOnce : Type 0
+ListedOnce = (change : Change) → KeepsWindows change → (a b : List ℕ) → isRecord a ≡ true → isRecord b ≡ true → recordIn b ≡ changed change (recordIn a) → ListedAlike a b

@@ -22,7 +22,7 @@ lent = text "...................................................................
 
 abbrev pub told : ℕ → ℕ → List ℕ → List ℕ → Told
 told version rules schema condition =
-    let o = checkWith rules schema (0x44 ∷ 0x57 ∷ 0x43 ∷ 0 ∷ version ∷ condition) targetBytes lent in
+    let o = checkWith rules schema (0x44 ∷ 0x57 ∷ 0x43 ∷ 0 ∷ version ∷ condition) targetBytes lent .outcome in
     record { number = o .answer .number; recordNumber = o .answer .recordNumber; says = reports (o .answer .count) (o .buffer) }
 
 abbrev pub clean : Told

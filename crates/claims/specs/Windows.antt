@@ -4,9 +4,10 @@
 use Prim.Native.Nat.{ℕ}
 use mathlib.Core.Path.{_≡_}
 use mathlib.Core.Bool.{true}
-use mathlib.Core.List.{List}
+use mathlib.Core.List.{List, []}
 use Rattle.condition.specs.Condition.{Window, unsaid, parameter, Condition}
 use Rattle.condition.specs.Places.{isRecord, recordIn, versionIn}
+use Rattle.sweeps.specs.Windows.{entries}
 use Rattle.claims.specs.Changes.{Change, changed, Alike}
 
 -- each window becomes this one, and all else stays
@@ -19,6 +20,10 @@ withWindow w = changed (windowsTo w)
 -- a record of version 1 says no window
 abbrev pub NoneInFirst : Type 0
 NoneInFirst = (s : List ℕ) → isRecord s ≡ true → versionIn s ≡ 1 → withWindow unsaid (recordIn s) ≡ recordIn s
+
+-- so it has no entry in a listing
+abbrev pub NoneListed : Type 0
+NoneListed = (period : ℕ) (s : List ℕ) → isRecord s ≡ true → versionIn s ≡ 1 → entries period (recordIn s) ≡ []
 
 -- records that differ in their windows alone: with one window everywhere they are one condition
 abbrev pub AnyWindows : Type 0
