@@ -6,9 +6,12 @@ use lib.ListN.{length}
 use Rattle.names.specs.Fields.{digits}
 use Rattle.names.specs.Text.{text}
 use Rattle.claims.specs.Rows.{Row, ofAll}
-use Rattle.claims.specs.WholeRun.{schemaBytes}
+use Rattle.typecheck.specs.Check.{check}
+use Rattle.sweeps.specs.Entries.{encoded}
+use Rattle.claims.specs.WholeRun.{schemaBytes, targetBytes}
 use Rattle.claims.specs.StrictExamples.{told, compares, one}
-use Rattle.claims.specs.WindowExamples.{Answered, accepted, refused, checks, adds, call, node, spanned}
+use Rattle.claims.specs.WindowExamples.{Answered, answered, accepted, refused, ofVersion, checks, adds, call, node, spanned, within}
+use Rattle.claims.specs.SweepExamples as listing
 
 -- a string, and the literals with their values: an integer is given as 64 bits hold it
 abbrev pub string : List ℕ → List ℕ
@@ -40,6 +43,15 @@ rejects number w = equal (decimal w) (refused number)
 -- what a check tells of a comparison in a version: the one report of unlike types
 abbrev pub tells : ℕ → List ℕ → List ℕ → List ℕ → Row
 tells version left right message = ofAll (Unit {0}) (λ x. told version 0 schemaBytes (compares 4 left right)) (one 0 0 message)
+
+-- what a listing in sweeps of an hour says of a Formerly of 90 minutes that starts at 5, by its version and its body
+abbrev pub lists : ℕ → List ℕ → Row
+lists version body =
+    ofAll (Unit {0}) (λ x. listing.told (ofVersion version (listing.starting 4 5 (within 90 1 body))) 3600 20)
+    (record { answer = record { number = 0; which = 0; count = 1 }; bytes = encoded (listing.entry 5 1 1800) })
+
+abbrev pub userAndInt : List ℕ
+userAndInt = text "equality requires both sides to have the same type, got `U` and `int`"
 
 abbrev pub stringAndDecimal : List ℕ
 stringAndDecimal = text "equality requires both sides to have the same type, got `string` and `decimal`"
@@ -95,4 +107,18 @@ lines =
     ∷ tells 1 (4 ∷ []) (3 ∷ []) stringAndDecimal
     ∷ tells 3 (12 ∷ 2 ∷ (integer 1 ++ integer 2)) (10 ∷ 1 ∷ integer 3) intAndArray
     ∷ tells 2 (12 ∷ 2 ∷ 2 ∷ []) (10 ∷ 1 ∷ 2 ∷ []) intAndArray
+    ∷ tells 3 (entity (text "U") (text "x")) (integer 1) userAndInt
+    -- nor do the visits or the listing depend on them
+    ∷ ofAll (Unit {0}) (λ x. check schemaBytes (ofVersion 3 (node 8 (4 ∷ (integer 1 ++ integer 2)))) targetBytes [] .visits) 1
+    ∷ ofAll (Unit {0}) (λ x. check schemaBytes (ofVersion 2 (node 8 (4 ∷ 2 ∷ 2 ∷ []))) targetBytes [] .visits) 1
+    ∷ lists 3 (node 8 (4 ∷ (integer 1 ++ integer 2)))
+    ∷ lists 2 (node 8 (4 ∷ 2 ∷ 2 ∷ []))
+    -- the versions that are read: 1, 2 and 3, as one field of 16 bits
+    ∷ checks 1 call accepted
+    ∷ checks 3 call accepted
+    ∷ checks 0 call (refused 4)
+    ∷ checks 4 call (refused 4)
+    ∷ ofAll (Unit {0}) (λ x. answered (check schemaBytes (0x44 ∷ 0x57 ∷ 0x43 ∷ 1 ∷ 2 ∷ call) targetBytes [] .outcome)) (refused 4)
+    ∷ adds 3 call accepted
+    ∷ adds 4 call (refused 4)
     ∷ []

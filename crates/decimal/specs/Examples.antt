@@ -61,12 +61,13 @@ pub readings-hold : given readings ≡ expected readings
 unfolding text gather every plain plainByte u8 bytes stringOf digit minus unsigned fraction behindDigit beginsWithDigit wellFormed withFraction tenThousandths valueOf inRange held decimalOf judged decimalText
 readings-hold = refl
 
--- a number, a buffer of so many bytes, and what is then in it
+-- a number, and how it is written
 abbrev pub writings : List (ℤ × List ℕ)
 writings =
     (pos 0, text "0.0000")
     ∷ (pos 1, text "0.0001")
     ∷ (negsuc 0, text "-0.0001")
+    ∷ (pos 5000, text "0.5000")
     ∷ (pos 15000, text "1.5000")
     ∷ (negsuc 9223372036854775807, text "-922337203685477.5808")
     ∷ (pos 9223372036854775807, text "922337203685477.5807")
