@@ -16,8 +16,10 @@ use crate::{Binder, Slot, Span, Term, Window};
 /// # Ok::<(), dogwood_check::EncodeError>(())
 /// ```
 ///
-/// Of the conditions that look back (`formerly`, `previous`, `since`) all have a [`Window`], or none has: a record of
-/// version 2 holds the windows, one of version 1 holds none.
+/// Windows and values may be left out, all of them or none. A record of version 1 has neither, one of version 2 has a
+/// [`Window`] for each condition that looks back (`formerly`, `previous`, `since`), and one of version 3 has the
+/// [values](crate::Value) of literals, the ids of entities and the operators of arithmetic too. A tree is encoded in the
+/// lowest version that has room for all that it says, and what is left out in that version is an error.
 ///
 /// A tree is dropped recursively, as any tree of boxes. Whoever builds one from a rule's text bounds its depth while
 /// parsing; [`MOST_LEVELS`](crate::MOST_LEVELS) are enough for every tree that can be encoded.
@@ -176,8 +178,8 @@ impl Condition {
         Condition::new(span, ConditionKind::Refine(Box::new(base)))
     }
 
-    /// The bytes of the record with this condition as its root: of version 2 where the conditions that look back have
-    /// their windows, else of version 1.
+    /// The bytes of the record with this condition as its root, in the lowest version that has room for all it says: 3 where
+    /// terms have their values, else 2 where the conditions that look back have their windows, else 1.
     pub fn encode(&self) -> Result<Vec<u8>, EncodeError> {
         Writer::record(b"DWC", |out| self.write(out, Level::ROOT))
     }
@@ -217,13 +219,13 @@ impl ConditionKind {
                 right.write(out, level.below()?)
             }
             ConditionKind::Since(window, left, right) => {
-                out.window(*window)?;
+                Window::write_given(*window, out)?;
                 left.write(out, level.below()?)?;
                 right.write(out, level.below()?)
             }
             ConditionKind::Not(inner) | ConditionKind::Refine(inner) => inner.write(out, level.below()?),
             ConditionKind::Formerly(window, body) | ConditionKind::Previous(window, body) => {
-                out.window(*window)?;
+                Window::write_given(*window, out)?;
                 body.write(out, level.below()?)
             }
             ConditionKind::Predicate(predicate) => predicate.write(out, level),

@@ -4,7 +4,7 @@ use std::error::Error;
 use std::fmt;
 use std::str::FromStr;
 
-use crate::write_decimal_into;
+use crate::{write_decimal_into, Cause};
 
 /// The longest text of a decimal, as it is written, has so many bytes.
 pub const MOST_DECIMAL: usize = 21;
@@ -37,6 +37,16 @@ pub enum DecimalError {
     Malformed,
     /// The text is of that shape, and the number is beyond 64 bits (number 16).
     Beyond,
+}
+
+impl DecimalError {
+    /// The cause by which the library would refuse a record with this text.
+    pub fn cause(self) -> Cause {
+        match self {
+            DecimalError::Malformed => Cause::MalformedDecimal,
+            DecimalError::Beyond => Cause::DecimalOutOfRange,
+        }
+    }
 }
 
 impl fmt::Display for DecimalError {

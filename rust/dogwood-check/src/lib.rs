@@ -70,6 +70,7 @@ mod scope_path;
 mod span;
 mod targets;
 mod term;
+mod value;
 mod window;
 
 pub use answer::{Answer, CheckAnswer};
@@ -92,6 +93,7 @@ pub use scope_path::ScopePath;
 pub use span::Span;
 pub use targets::{Narrowing, Target, Targets};
 pub use term::{Aggregate, AggregateKind, Term};
+pub use value::{ArithOp, Value};
 pub use window::{ListedWindow, ListedWindows, TimeUnit, Window};
 
 /// The example of README.md runs with the documentation's.

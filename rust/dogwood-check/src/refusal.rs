@@ -5,7 +5,7 @@ use std::fmt;
 
 /// The cause of a refusal. Its number is the one that the library returns.
 ///
-/// The numbers 1 to 10 and 13 are met while a record is read: the first one from the left counts.
+/// The numbers 1 to 10, 13, 15 and 16 are met while a record is read: the first one from the left counts.
 #[derive(Clone, Copy, Debug, PartialEq, Eq, Hash)]
 #[non_exhaustive]
 #[repr(u8)]
@@ -38,11 +38,15 @@ pub enum Cause {
     WindowOutOfRange = 13,
     /// The period of a listing is 0.
     NoPeriod = 14,
+    /// The text of a decimal is malformed.
+    MalformedDecimal = 15,
+    /// A decimal is well formed, but beyond 64 bits.
+    DecimalOutOfRange = 16,
 }
 
 impl Cause {
     /// Every cause, in the order of the numbers.
-    pub const ALL: [Cause; 14] = [
+    pub const ALL: [Cause; 16] = [
         Cause::TooLong,
         Cause::Cut,
         Cause::OtherMark,
@@ -57,9 +61,11 @@ impl Cause {
         Cause::NoSuchTarget,
         Cause::WindowOutOfRange,
         Cause::NoPeriod,
+        Cause::MalformedDecimal,
+        Cause::DecimalOutOfRange,
     ];
 
-    /// The library's number of this cause, 1 to 14.
+    /// The library's number of this cause, 1 to 16.
     pub fn number(self) -> u8 {
         self as u8
     }
@@ -115,6 +121,15 @@ impl Cause {
                 write!(f, "{subject} has a window that is negative or above {} seconds", i64::MAX)
             }
             Cause::NoPeriod => write!(f, "a period of 0 seconds cannot be asked for"),
+            Cause::MalformedDecimal => write!(
+                f,
+                "{subject} has a decimal that is not written as one: digits, a point and one to four digits are wanted"
+            ),
+            Cause::DecimalOutOfRange => write!(
+                f,
+                "{subject} has a decimal beyond 64 bits: it is below -922337203685477.5808 or above \
+                 922337203685477.5807"
+            ),
         }
     }
 }

@@ -46,10 +46,10 @@ impl Schema {
         let entity_types = sorted(&self.entity_types, |entity| entity.name.as_str(), |entity| entity.name.clone())?;
         let actions = sorted(&self.actions, |action| (action.type_name.as_str(), action.id.as_str()), Action::shown)?;
         Writer::record(b"DWS", |out| {
-            out.long_list("entity types", entity_types, |out, entity_type| {
+            out.long_list("entity types", &entity_types, |out, entity_type| {
                 entity_type.write(out).within(|| format!("entity type {}", quoted(&entity_type.name)))
             })?;
-            out.long_list("actions", actions, |out, action| {
+            out.long_list("actions", &actions, |out, action| {
                 action.write(out).within(|| format!("action {}", quoted(&action.shown())))
             })
         })

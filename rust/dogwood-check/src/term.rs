@@ -1,20 +1,25 @@
 //! The terms of a condition.
 
 use crate::encode::{Class, Encoded, Level, Problem, Within, Writer};
-use crate::{Binder, Condition, Slot, Span};
+use crate::value::VALUES;
+use crate::{ArithOp, Binder, Condition, DecimalError, Slot, Span, Value};
 
-/// A term: a literal, a field, a variable, or built from others. The check looks at types, so literals have no value here.
+/// A term: a literal, a field, a variable, or built from others.
+///
+/// The check looks at types, so that a literal may go without its value: `Term::Integer` is some whole number,
+/// `Term::integer(5)` is this one. The same holds of an entity's id and of the operator of an arithmetic. Where one term of
+/// a condition says such a thing, all have to: see [`Condition`].
 #[derive(Clone, Debug, PartialEq, Eq)]
 pub enum Term {
-    /// An entity of this type: `User::"ann"`.
+    /// An entity of this type, its id left out.
     Entity(String),
-    /// A whole number.
+    /// A whole number, its value left out.
     Integer,
-    /// A decimal.
+    /// A decimal, its value left out.
     Decimal,
-    /// A text.
+    /// A text, left out.
     String,
-    /// `true` or `false`.
+    /// `true` or `false`, which of them left out.
     Bool,
     /// A field of the context by its path below `context`: `["input", "year"]`.
     ContextField(Vec<String>),
@@ -28,12 +33,16 @@ pub enum Term {
     Array(Vec<Term>),
     /// A sum or count.
     Aggregate(Box<Aggregate>),
-    /// `left + right`, or with another operator.
+    /// `left + right`, or with another operator, which is left out.
     Arith(Box<Term>, Box<Term>),
     /// `?p`
     ParamRef,
     /// `$b`
     BinderRef,
+    /// A literal with its value, or an entity with its id.
+    Value(Value),
+    /// `left + right`, or with another operator.
+    Computed(ArithOp, Box<Term>, Box<Term>),
 }
 
 /// A sum or count over what satisfies a condition.
@@ -64,7 +73,7 @@ struct Place {
 }
 
 impl Term {
-    /// An entity of the type of this name.
+    /// An entity of the type of this name, its id left out.
     pub fn entity(type_name: impl Into<String>) -> Term {
         Term::Entity(type_name.into())
     }
@@ -94,9 +103,46 @@ impl Term {
         Term::Aggregate(Box::new(aggregate))
     }
 
-    /// `left + right`, or with another operator.
+    /// `left + right`, or with another operator, which is left out.
     pub fn arith(left: Term, right: Term) -> Term {
         Term::Arith(Box::new(left), Box::new(right))
+    }
+
+    /// `left + right`, or with another operator.
+    pub fn computed(op: ArithOp, left: Term, right: Term) -> Term {
+        Term::Computed(op, Box::new(left), Box::new(right))
+    }
+
+    /// `User::"ann"`, of `"User"` and `"ann"`
+    pub fn uid(type_name: impl Into<String>, id: impl Into<String>) -> Term {
+        Term::Value(Value::Entity { type_name: type_name.into(), id: id.into() })
+    }
+
+    /// This whole number.
+    pub fn integer(number: i64) -> Term {
+        Term::Value(Value::Integer(number))
+    }
+
+    /// The decimal of this text: an optional minus, one or more digits, a point, one to four digits.
+    ///
+    /// ```
+    /// use dogwood_check::{Decimal, DecimalError, Term, Value};
+    ///
+    /// assert_eq!(Term::decimal("1.50"), Ok(Term::Value(Value::Decimal(Decimal(15_000)))));
+    /// assert_eq!(Term::decimal("1,50"), Err(DecimalError::Malformed));
+    /// ```
+    pub fn decimal(text: &str) -> Result<Term, DecimalError> {
+        Ok(Term::Value(Value::Decimal(text.parse()?)))
+    }
+
+    /// This text, a plain string.
+    pub fn string(text: impl Into<String>) -> Term {
+        Term::Value(Value::String(text.into()))
+    }
+
+    /// `true` or `false`
+    pub fn bool(truth: bool) -> Term {
+        Term::Value(Value::Bool(truth))
     }
 
     /// Writes an operand or an argument, at this level.
@@ -118,16 +164,25 @@ impl Term {
             Term::Wildcard => 9,
             Term::Array(_) => 10,
             Term::Aggregate(_) => 11,
-            Term::Arith(..) => 12,
+            Term::Arith(..) | Term::Computed(..) => 12,
             Term::ParamRef => 13,
             Term::BinderRef => 14,
+            Term::Value(value) => value.number(),
         }
     }
 
     fn write_at(&self, out: &mut Writer, place: Place) -> Encoded {
         out.byte(self.number());
         match self {
-            Term::Entity(type_name) => out.text(Class::PathName, type_name),
+            Term::Value(value) => {
+                out.said(VALUES);
+                value.write(out)
+            }
+            Term::Entity(type_name) => {
+                out.text(Class::PathName, type_name)?;
+                out.left_out(VALUES, Problem::ValueMissing)
+            }
+            Term::Integer | Term::Decimal | Term::String | Term::Bool => out.left_out(VALUES, Problem::ValueMissing),
             Term::ContextField(path) | Term::ScopeField(path) => out.texts("segments of a field", Class::Plain, path),
             Term::Var(name) => out.text(Class::Plain, name),
             Term::Array(elements) => out.list("elements of an array", elements, |out, element| {
@@ -136,13 +191,24 @@ impl Term {
             Term::Aggregate(_) if place.in_array => Err(Problem::AggregateBelowArray.into()),
             Term::Aggregate(aggregate) => aggregate.write(out, place.level).at(aggregate.span),
             Term::Arith(left, right) => {
-                let below = Place { level: place.level.below()?, ..place };
-                left.write_at(out, below)?;
-                right.write_at(out, below)
+                out.left_out(VALUES, Problem::ValueMissing)?;
+                write_both(left, right, out, place)
             }
-            _ => Ok(()),
+            Term::Computed(op, left, right) => {
+                out.said(VALUES);
+                out.byte(*op as u8);
+                write_both(left, right, out, place)
+            }
+            Term::Wildcard | Term::ParamRef | Term::BinderRef => Ok(()),
         }
     }
+}
+
+/// The two terms of an arithmetic, one level below it.
+fn write_both(left: &Term, right: &Term, out: &mut Writer, place: Place) -> Encoded {
+    let below = Place { level: place.level.below()?, ..place };
+    left.write_at(out, below)?;
+    right.write_at(out, below)
 }
 
 impl Aggregate {

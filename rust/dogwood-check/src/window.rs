@@ -4,6 +4,9 @@ use crate::encode::{Encoded, Problem, Writer};
 use crate::DecodeError;
 use std::fmt;
 
+/// The version of a condition record that brought windows.
+const WINDOWS: u8 = 2;
+
 /// How far back `formerly`, `previous` and `since` look.
 ///
 /// ```
@@ -86,7 +89,16 @@ impl Window {
         amount.checked_mul(unit.seconds()).and_then(|seconds| u64::try_from(seconds).ok())
     }
 
-    pub(crate) fn write(self, out: &mut Writer) -> Encoded {
+    /// The window of a condition that looks back, or that it has none.
+    pub(crate) fn write_given(window: Option<Window>, out: &mut Writer) -> Encoded {
+        let Some(window) = window else {
+            return out.left_out(WINDOWS, Problem::WindowMissing);
+        };
+        out.said(WINDOWS);
+        window.write(out)
+    }
+
+    fn write(self, out: &mut Writer) -> Encoded {
         let Window::Within { amount, unit } = self else {
             out.byte(1);
             return Ok(());

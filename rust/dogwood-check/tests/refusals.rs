@@ -37,6 +37,12 @@ fn fields(record: RecordKind, fields: &[u8]) -> Option<Vec<u8>> {
     Some([&good(record)[..5], fields].concat())
 }
 
+/// The record of a comparison, cut behind its left operand, which is the decimal of this text.
+fn decimal(text: &str) -> Option<Vec<u8>> {
+    let front = b"DWC\0\x03\x08\0\0\0\0\0\0\0\0\x04\x03";
+    Some([front.as_slice(), &[text.len() as u8], text.as_bytes()].concat())
+}
+
 /// A record that is refused by this cause, where that record can be.
 fn offending(record: RecordKind, cause: Cause) -> Option<Vec<u8>> {
     use RecordKind::*;
@@ -49,6 +55,8 @@ fn offending(record: RecordKind, cause: Cause) -> Option<Vec<u8>> {
         (Cause::WindowOutOfRange, Condition) => {
             Some(b"DWC\0\x02\x04\0\0\0\0\0\0\0\0\0\x03\xFF\xFF\xFF\xFF\xFF\xFF\xFF\xFF".to_vec())
         }
+        (Cause::MalformedDecimal, Condition) => decimal("1.00000"),
+        (Cause::DecimalOutOfRange, Condition) => decimal("922337203685477.5808"),
         (Cause::UndefinedChoice, Schema) => fields(record, b"\0\0\0\x01\x01A\0\0\0\x0B"),
         (Cause::UndefinedChoice, Condition) => fields(record, &[14]),
         (Cause::UndefinedChoice, Targets) => fields(record, &[0, 5]),
@@ -103,7 +111,7 @@ fn the_readers_refuse() {
             }
         }
     }
-    assert_eq!(refusals, 9 + 10 + 7 + 7);
+    assert_eq!(refusals, 9 + 12 + 7 + 7);
 }
 
 #[test]
@@ -195,8 +203,8 @@ fn refusals_by_the_owned_calls() {
 #[test]
 fn numbers_and_sentences() {
     let numbers: Vec<u8> = Cause::ALL.iter().map(|cause| cause.number()).collect();
-    assert_eq!(numbers, (1..=14).collect::<Vec<u8>>());
-    assert_eq!([0, 15, 255].map(Cause::from_number), [None; 3]);
+    assert_eq!(numbers, (1..=16).collect::<Vec<u8>>());
+    assert_eq!([0, 17, 255].map(Cause::from_number), [None; 3]);
     assert_eq!(RECORDS.map(RecordKind::number), [1, 2, 3, 4]);
     assert_eq!([0, 5].map(RecordKind::from_number), [None; 2]);
     let mut sentences = std::collections::BTreeSet::new();
@@ -204,7 +212,7 @@ fn numbers_and_sentences() {
         assert_eq!(Cause::from_number(cause.number()), Some(cause));
         assert!(sentences.insert(cause.to_string()));
         let refusal = Refusal { cause, record: Some(RecordKind::Condition) };
-        if cause.number() <= 10 || cause == Cause::WindowOutOfRange {
+        if !matches!(cause, Cause::NoSpace | Cause::NoSuchTarget | Cause::NoPeriod) {
             assert!(refusal.to_string().starts_with("the condition "), "{refusal}");
         }
     }

@@ -105,10 +105,12 @@ enum Damage {
     OtherWindow,
     /// A window beside a condition that has none, or none beside one that has.
     OneWindow,
+    /// A value beside a literal that has none, or none beside one that has.
+    OneValue,
 }
 
 impl Damage {
-    const ALL: [Damage; 9] = [
+    const ALL: [Damage; 10] = [
         Damage::LongText,
         Damage::OtherClass,
         Damage::LongList,
@@ -118,6 +120,7 @@ impl Damage {
         Damage::NoSegments,
         Damage::OtherWindow,
         Damage::OneWindow,
+        Damage::OneValue,
     ];
 
     fn is_named_by(self, problem: &Problem) -> bool {
@@ -131,6 +134,8 @@ impl Damage {
             Damage::NoSegments => *problem == Problem::NoSegments,
             Damage::OtherWindow => matches!(problem, Problem::WindowOutOfRange { .. }),
             Damage::OneWindow => *problem == Problem::WindowMissing,
+            // with a value the windows of the tree may be missing too
+            Damage::OneValue => matches!(problem, Problem::ValueMissing | Problem::WindowMissing),
         }
     }
 
@@ -161,7 +166,7 @@ impl Damage {
             Damage::AggregateInArray => matches!(part, Part::Term(..31, _)),
             Damage::NoSegments => matches!(part, Part::Segments(_)),
             Damage::OtherWindow => matches!(part, Part::Window(Some(_))),
-            Damage::OneWindow => matches!(part, Part::Condition(..31, _)),
+            Damage::OneWindow | Damage::OneValue => matches!(part, Part::Condition(..31, _)),
         }
     }
 
@@ -172,11 +177,12 @@ impl Damage {
         if places == 0 {
             return None;
         }
+        let valued = has_values(&mut tree);
         let mut chosen = Some(rng.below(places));
         tree.visit(&mut |part| {
             if chosen.is_some() && self.fits(&part) {
                 if chosen == Some(0) {
-                    self.hit(part, rng);
+                    self.hit(part, valued, rng);
                 }
                 chosen = chosen.and_then(|until| until.checked_sub(1));
             }
@@ -184,18 +190,34 @@ impl Damage {
         Some(tree)
     }
 
-    fn hit(self, part: Part, rng: &mut Rng) {
+    /// Does this to a part of a tree that has values, or has none.
+    fn hit(self, part: Part, valued: bool, rng: &mut Rng) {
         match self {
             Damage::LongText => lengthen(part),
             Damage::OtherClass => replace_text(part, rng),
             Damage::LongList => fill(part),
-            Damage::Deep => deepen(part, rng),
+            Damage::Deep => deepen(part, valued, rng),
             Damage::Twice => repeat(part),
-            Damage::AggregateInArray => put_aggregate(part, rng),
+            Damage::AggregateInArray => put_aggregate(part, valued, rng),
             Damage::NoSegments => clear(part),
             Damage::OtherWindow => put_window(part, rng),
             Damage::OneWindow => put_two(part, rng),
+            Damage::OneValue => put_literals(part, rng),
         }
+    }
+}
+
+fn has_values<T: Tree>(tree: &mut T) -> bool {
+    let mut found = false;
+    tree.visit(&mut |part| found |= matches!(part, Part::Term(_, Term::Value(_) | Term::Computed(..))));
+    found
+}
+
+/// An arithmetic, which in a tree with values has its operator.
+fn arith(valued: bool, left: Term, right: Term) -> Term {
+    match valued {
+        true => Term::computed(ArithOp::Sub, left, right),
+        false => Term::arith(left, right),
     }
 }
 
@@ -236,7 +258,7 @@ fn fill(part: Part) {
 }
 
 /// Something at level 33 below the part.
-fn deepen(part: Part, rng: &mut Rng) {
+fn deepen(part: Part, valued: bool, rng: &mut Rng) {
     match part {
         Part::Type(level, ty) => {
             *ty = (level..33).fold(Type::Long, |inner, _| match rng.below(2) {
@@ -252,10 +274,10 @@ fn deepen(part: Part, rng: &mut Rng) {
             });
         }
         Part::Term(level, term) => {
-            *term = (level..33).fold(Term::Integer, |inner, _| match rng.below(3) {
+            *term = (level..33).fold(Term::Wildcard, |inner, _| match rng.below(3) {
                 0 => Term::array([inner]),
-                1 => Term::arith(Term::Integer, inner),
-                _ => Term::arith(inner, Term::Integer),
+                1 => arith(valued, Term::Wildcard, inner),
+                _ => arith(valued, inner, Term::Wildcard),
             });
         }
         _ => unreachable!(),
@@ -273,13 +295,13 @@ fn repeat(part: Part) {
     }
 }
 
-fn put_aggregate(part: Part, rng: &mut Rng) {
+fn put_aggregate(part: Part, valued: bool, rng: &mut Rng) {
     let Part::Term(_, term) = part else { unreachable!() };
     let call = Term::aggregate(Aggregate::call(3..4));
     *term = match rng.below(3) {
-        0 => Term::array([Term::Integer, call]),
+        0 => Term::array([Term::Wildcard, call]),
         1 => Term::array([Term::array([call])]),
-        _ => Term::array([Term::arith(call, Term::Integer)]),
+        _ => Term::array([arith(valued, call, Term::Wildcard)]),
     };
 }
 
@@ -306,6 +328,27 @@ fn put_two(part: Part, rng: &mut Rng) {
     *condition = match rng.below(2) {
         0 => Condition::and(0..0, one, other),
         _ => Condition::and(0..0, other, one),
+    };
+}
+
+/// Two terms of which one has a value and one has none.
+fn put_literals(part: Part, rng: &mut Rng) {
+    let Part::Condition(_, condition) = part else { unreachable!() };
+    let without = match rng.below(4) {
+        0 => Term::Integer,
+        1 => Term::Bool,
+        2 => Term::entity("U"),
+        _ => Term::arith(Term::Wildcard, Term::Wildcard),
+    };
+    let with = match rng.below(4) {
+        0 => Term::string(""),
+        1 => Term::integer(0),
+        2 => Term::uid("U", ""),
+        _ => Term::computed(ArithOp::Mul, Term::Wildcard, Term::Wildcard),
+    };
+    *condition = match rng.below(2) {
+        0 => Condition::comparison(0..0, Operator::Eq, with, without),
+        _ => Condition::comparison(0..0, Operator::Eq, without, with),
     };
 }
 
@@ -345,6 +388,7 @@ fn damaged_conditions_are_errors() {
         Damage::NoSegments,
         Damage::OtherWindow,
         Damage::OneWindow,
+        Damage::OneValue,
     ];
     CONDITIONS.finds(&wanted, 80);
 }
@@ -368,6 +412,10 @@ fn trees_are_varied() {
     assert!(depths.iter().filter(|depth| **depth < 5).count() > 50);
     let sizes: Vec<usize> = conditions.iter().map(|tree| spell::condition_record(tree).len()).collect();
     assert!(sizes.iter().any(|size| *size > 5000) && sizes.iter().any(|size| *size < 20));
+    for version in 1..=3 {
+        let of = |tree: &&Condition| spell::condition_record(tree)[4] == version;
+        assert!(conditions.iter().filter(of).count() > 200);
+    }
 }
 
 fn depth(mut tree: Condition) -> u8 {

@@ -75,8 +75,10 @@ pub enum Problem {
         /// Of which unit.
         unit: TimeUnit,
     },
-    /// Of the conditions that look back some have a window and some have none.
+    /// A condition that looks back has no window, while another one has, or a term of the record has its value.
     WindowMissing,
+    /// A literal has no value, an entity no id or an arithmetic no operator, while another term of the record has.
+    ValueMissing,
 }
 
 impl EncodeError {
@@ -99,9 +101,11 @@ impl EncodeError {
             Problem::Repeated { .. } => Some(Cause::NotAscending),
             Problem::AggregateBelowArray => Some(Cause::AggregateBelowArray),
             Problem::WindowOutOfRange { .. } => Some(Cause::WindowOutOfRange),
-            Problem::TextTooLong { .. } | Problem::TooMany { .. } | Problem::NoSegments | Problem::WindowMissing => {
-                None
-            }
+            Problem::TextTooLong { .. }
+            | Problem::TooMany { .. }
+            | Problem::NoSegments
+            | Problem::WindowMissing
+            | Problem::ValueMissing => None,
         }
     }
 }
@@ -146,9 +150,15 @@ impl fmt::Display for Problem {
                 format!("{unit:?}").to_lowercase(),
                 i64::MAX
             ),
-            Problem::WindowMissing => {
-                write!(f, "of the conditions that look back some have a window and some have none")
-            }
+            Problem::WindowMissing => write!(
+                f,
+                "this condition looks back without a window, and the record has windows, or values, elsewhere"
+            ),
+            Problem::ValueMissing => write!(
+                f,
+                "a literal without its value, an entity without its id or an arithmetic without its operator stands here, \
+                 and the record has such values elsewhere"
+            ),
         }
     }
 }

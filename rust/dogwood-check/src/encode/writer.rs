@@ -1,27 +1,48 @@
 //! The fields of a record, written one after the other.
 
 use super::{Class, EncodeError, Encoded, Problem, Within, MOST_BYTES, MOST_TEXT};
-use crate::{Span, Window};
+use crate::Span;
 
 /// A record so far.
 pub(crate) struct Writer {
     bytes: Vec<u8>,
-    /// Whether the conditions that look back have windows; none where there was no such condition yet.
-    windows: Option<bool>,
+    /// The version that is written.
+    version: u8,
+    /// The lowest version that has room for all that was said so far.
+    needed: u8,
 }
 
 impl Writer {
-    /// A record's mark and version, what `fields` writes, and a look at the size. With windows it is of version 2.
-    pub(crate) fn record(mark: &[u8; 3], fields: impl FnOnce(&mut Writer) -> Encoded) -> Result<Vec<u8>, EncodeError> {
-        let mut out = Writer { bytes: [mark.as_slice(), &[0, 1]].concat(), windows: None };
+    /// A record's mark and version, what `fields` writes, and a look at the size. It is of the lowest version that has
+    /// room for all that is said; where that is not the first, it is written again, to see that nothing is left out.
+    pub(crate) fn record(mark: &[u8; 3], fields: impl Fn(&mut Writer) -> Encoded) -> Result<Vec<u8>, EncodeError> {
+        let mut out = Writer::begin(mark, 1);
         fields(&mut out)?;
-        if out.windows == Some(true) {
-            out.bytes[4] = 2;
+        if out.needed > 1 {
+            out = Writer::begin(mark, out.needed);
+            fields(&mut out)?;
         }
         if out.bytes.len() > MOST_BYTES {
             return Err(Problem::TooLong { bytes: out.bytes.len() }.into());
         }
         Ok(out.bytes)
+    }
+
+    fn begin(mark: &[u8; 3], version: u8) -> Writer {
+        Writer { bytes: [mark.as_slice(), &[0, version]].concat(), version, needed: 1 }
+    }
+
+    /// What the versions from this one on have room for follows.
+    pub(crate) fn said(&mut self, version: u8) {
+        self.needed = self.needed.max(version);
+    }
+
+    /// What the versions from this one on have room for does not follow, which is a problem in these.
+    pub(crate) fn left_out(&self, version: u8, missing: Problem) -> Encoded {
+        if self.version >= version {
+            return Err(missing.into());
+        }
+        Ok(())
     }
 
     pub(crate) fn byte(&mut self, byte: u8) {
@@ -34,14 +55,6 @@ impl Writer {
 
     pub(crate) fn number64(&mut self, number: i64) {
         self.bytes.extend(number.to_be_bytes());
-    }
-
-    /// The window of a condition that looks back: all of them have one, or none has.
-    pub(crate) fn window(&mut self, window: Option<Window>) -> Encoded {
-        if *self.windows.get_or_insert(window.is_some()) != window.is_some() {
-            return Err(Problem::WindowMissing.into());
-        }
-        window.map_or(Ok(()), |window| window.write(self))
     }
 
     pub(crate) fn span(&mut self, span: Span) {
@@ -77,12 +90,12 @@ impl Writer {
     pub(crate) fn long_list<T>(
         &mut self,
         what: &'static str,
-        entries: Vec<T>,
-        write: impl FnMut(&mut Writer, T) -> Encoded,
+        entries: &[T],
+        write: impl FnMut(&mut Writer, &T) -> Encoded,
     ) -> Encoded {
         let count = u16::try_from(entries.len()).map_err(|_| too_many(what, entries.len(), u16::MAX.into()))?;
         self.number16(count);
-        self.all(entries.into_iter(), write)
+        self.all(entries.iter(), write)
     }
 
     fn all<T>(

@@ -11,19 +11,19 @@ pub struct Trees {
     pub rng: Rng,
     left: usize,
     deep: usize,
-    /// Whether the conditions of the tree that look back have windows.
-    windows: bool,
+    /// The version of the record: from 2 on the conditions that look back have windows, from 3 on terms have values.
+    version: u8,
 }
 
 impl Trees {
     pub fn new(seed: u64) -> Trees {
-        Trees { rng: Rng::new(seed), left: 0, deep: 0, windows: false }
+        Trees { rng: Rng::new(seed), left: 0, deep: 0, version: 1 }
     }
 
     fn begin(&mut self) {
         self.left = 1 + self.rng.below(120);
         self.deep = 1 + self.rng.below(40);
-        self.windows = self.rng.once_in(2);
+        self.version = *self.rng.pick(&[1, 2, 3]);
     }
 
     /// Whether the node at this level may have others below it.
@@ -183,7 +183,7 @@ impl Trees {
 
     /// A window as long as a record holds it, often the longest of its unit; none in a record of version 1.
     fn window(&mut self) -> Option<Window> {
-        if !self.windows {
+        if self.version < 2 {
             return None;
         }
         if self.rng.once_in(4) {
@@ -238,10 +238,11 @@ impl Trees {
             return match self.rng.below(3) {
                 0 => Term::Array((0..self.count()).map(|_| self.term(level + 1, true)).collect()),
                 1 if !in_array => Term::Aggregate(Box::new(self.aggregate(level))),
-                _ => Term::arith(self.term(level + 1, in_array), self.term(level + 1, in_array)),
+                _ => self.arith(level + 1, in_array),
             };
         }
         match self.rng.below(12) {
+            0..=4 if self.version == 3 => Term::Value(self.value()),
             0 => Term::Entity(self.path_name()),
             1 => Term::Integer,
             2 => Term::Decimal,
@@ -255,6 +256,34 @@ impl Trees {
             10 => Term::ParamRef,
             _ => Term::BinderRef,
         }
+    }
+
+    /// An arithmetic of two terms at this level.
+    fn arith(&mut self, level: u8, in_array: bool) -> Term {
+        let (left, right) = (self.term(level, in_array), self.term(level, in_array));
+        match self.version {
+            3 => Term::computed(*self.rng.pick(&ArithOp::ALL), left, right),
+            _ => Term::arith(left, right),
+        }
+    }
+
+    fn value(&mut self) -> Value {
+        match self.rng.below(5) {
+            0 => Value::Entity { type_name: self.path_name(), id: self.plain() },
+            1 => Value::Integer(self.number64()),
+            2 => Value::Decimal(Decimal(self.number64())),
+            3 => Value::String(self.plain()),
+            _ => Value::Bool(self.rng.once_in(2)),
+        }
+    }
+
+    /// A number of any length and sign, often one at an end.
+    fn number64(&mut self) -> i64 {
+        if self.rng.once_in(8) {
+            return *self.rng.pick(&[0, -1, i64::MIN, i64::MAX]);
+        }
+        let bits = u64::from(self.rng.number32()) << 32 | u64::from(self.rng.number32());
+        (bits as i64) >> self.rng.below(64)
     }
 
     fn aggregate(&mut self, level: u8) -> Aggregate {

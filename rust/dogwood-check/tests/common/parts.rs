@@ -166,7 +166,12 @@ fn term(level: u8, it: &mut Term, each: &mut dyn FnMut(Part)) {
             }
             AggregateKind::Call => {}
         },
-        Term::Arith(left, right) => {
+        Term::Value(Value::Entity { type_name, id }) => {
+            each(Part::Text(Class::PathName, type_name));
+            each(Part::Text(Class::Plain, id));
+        }
+        Term::Value(Value::String(text)) => each(Part::Text(Class::Plain, text)),
+        Term::Arith(left, right) | Term::Computed(_, left, right) => {
             term(level + 1, left, each);
             term(level + 1, right, each);
         }

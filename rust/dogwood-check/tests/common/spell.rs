@@ -3,13 +3,17 @@
 
 use dogwood_check::*;
 
-/// The bytes of a record so far, and whether there is a window in them.
-#[derive(Default)]
-pub struct Bytes(Vec<u8>, bool);
+/// The bytes of a record so far, and the version that has room for what is in them.
+pub struct Bytes(Vec<u8>, u8);
 
 impl Bytes {
     fn begin(mark: &[u8; 3]) -> Bytes {
-        Bytes([mark.as_slice(), &[0, 1]].concat(), false)
+        Bytes([mark.as_slice(), &[0, 1]].concat(), 1)
+    }
+
+    /// Something that the versions from this one on have room for.
+    fn needs(&mut self, version: u8) {
+        self.1 = self.1.max(version);
     }
 
     fn byte(&mut self, byte: u8) {
@@ -109,9 +113,7 @@ fn ty(out: &mut Bytes, ty: &Type) {
 pub fn condition_record(root: &Condition) -> Vec<u8> {
     let mut out = Bytes::begin(b"DWC");
     condition(&mut out, root);
-    if out.1 {
-        out.0[4] = 2;
-    }
+    out.0[4] = out.1;
     out.0
 }
 
@@ -195,7 +197,9 @@ fn condition(out: &mut Bytes, it: &Condition) {
 }
 
 fn window(out: &mut Bytes, window: &Option<Window>) {
-    out.1 |= window.is_some();
+    if window.is_some() {
+        out.needs(2);
+    }
     match window {
         None => {}
         Some(Window::ParamRef) => out.byte(1),
@@ -270,6 +274,49 @@ fn term(out: &mut Bytes, it: &Term) {
         }
         Term::ParamRef => out.byte(13),
         Term::BinderRef => out.byte(14),
+        Term::Value(it) => {
+            out.needs(3);
+            value(out, it);
+        }
+        Term::Computed(op, left, right) => {
+            out.needs(3);
+            out.byte(12);
+            out.byte(match op {
+                ArithOp::Add => 0,
+                ArithOp::Sub => 1,
+                ArithOp::Mul => 2,
+            });
+            term(out, left);
+            term(out, right);
+        }
+    }
+}
+
+fn value(out: &mut Bytes, value: &Value) {
+    match value {
+        Value::Entity { type_name, id } => {
+            out.byte(1);
+            out.text(type_name);
+            out.text(id);
+        }
+        Value::Integer(number) => {
+            out.byte(2);
+            out.0.extend(number.to_be_bytes());
+        }
+        Value::Decimal(Decimal(number)) => {
+            let magnitude = number.unsigned_abs();
+            let sign = if *number < 0 { "-" } else { "" };
+            out.byte(3);
+            out.text(&format!("{sign}{}.{:04}", magnitude / 10_000, magnitude % 10_000));
+        }
+        Value::String(text) => {
+            out.byte(4);
+            out.text(text);
+        }
+        Value::Bool(truth) => {
+            out.byte(5);
+            out.byte(if *truth { 1 } else { 0 });
+        }
     }
 }
 
