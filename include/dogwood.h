@@ -48,7 +48,10 @@ extern "C" {
  */
 #define DOGWOOD_STRICT 1
 
-/* Why there is no answer. The numbers 1 to 10 and 13 are met while a record is read, the first one from the left counts. */
+/*
+ * Why there is no answer. The numbers 1 to 10, 13, 15 and 16 are met while a record is read, the first one from the left
+ * counts, and at one field the lowest.
+ */
 enum dogwood_cause {
     DOGWOOD_ACCEPTED = 0,              /* no refusal */
     DOGWOOD_TOO_LONG = 1,              /* the record is above 32,768 bytes */
@@ -64,7 +67,9 @@ enum dogwood_cause {
     DOGWOOD_NO_SPACE = 11,             /* the output is longer than the lent buffer */
     DOGWOOD_NO_SUCH_TARGET = 12,       /* the path's position is not in the list of targets */
     DOGWOOD_WINDOW_OUT_OF_RANGE = 13,  /* a window that is negative or above 2^63 - 1 seconds */
-    DOGWOOD_NO_PERIOD = 14             /* the period of a listing is 0 */
+    DOGWOOD_NO_PERIOD = 14,            /* the period of a listing is 0 */
+    DOGWOOD_MALFORMED_DECIMAL = 15,    /* a decimal whose text is not of a decimal's shape */
+    DOGWOOD_DECIMAL_OUT_OF_RANGE = 16  /* a decimal whose text is, and whose value is beyond 64 bits */
 };
 
 /* The record that a refusal is about. */
@@ -103,8 +108,11 @@ struct dogwood_check_answer {
 };
 
 /*
- * Whether bytes are a schema, condition, targets or path record: 0, or the number (1 to 10, of a condition 13 too) of the
- * first thing that is wrong with them.
+ * Whether bytes are a schema, condition, targets or path record: 0, or the number (1 to 10, of a condition 13, 15 and 16
+ * too) of the first thing that is wrong with them.
+ *
+ * All functions that take a condition read its versions 1 to 3: version 2 has the windows, version 3 the values of
+ * literals, the ids of entities and the operators of arithmetic too. No report depends on any of these.
  */
 uint8_t dogwood_read_schema(const uint8_t *bytes, size_t length);
 uint8_t dogwood_read_condition(const uint8_t *bytes, size_t length);
@@ -143,7 +151,7 @@ struct dogwood_check_answer dogwood_check(const uint8_t *schema, size_t schema_l
  * reports fall on the same slots, which then takes as long as one without workspace (docs/BENCHMARKS.md). A caller who
  * takes requests from strangers puts a random number into the first slot before each call. The answer is the same for every
  * key. The key of dogwood_check's own slots is 0.
- * A refused record (1 to 10, 13) leaves the workspace as it was. Otherwise its contents afterwards mean nothing. It need
+ * A refused record (1 to 10, 13, 15, 16) leaves the workspace as it was. Otherwise its contents afterwards mean nothing. It need
  * not be cleared before a call; a call clears it, so that more slots than are needed cost time.
  */
 struct dogwood_check_answer dogwood_check_with(uint8_t rules,

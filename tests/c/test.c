@@ -71,6 +71,19 @@ static void test(int holds, const char *claim, int line) {
 #define LONGEST_WINDOW "DWC\0\2" "\4" AT_FIVE "\0\0" "\177\377\377\377\377\377\377\377" CALL
 #define NO_WINDOW "DWC\0\1" "\4" AT_FIVE CALL
 
+/* An equality of version 3 at 0 to 0, up to its left operand; and decimals of these texts. */
+#define VALUED "DWC\0\3" "\10" ZERO_SPAN "\4"
+#define LOWEST "\3\25" "-922337203685477.5808"
+#define BELOW "\3\25" "-922337203685477.5809"
+#define HIGHEST "\3\24" "922337203685477.5807"
+#define ABOVE "\3\24" "922337203685477.5808"
+#define FIVE_DIGITS "\3\7" "1.00000"
+
+/* `true < 1` at 0 to 8 in version 3, and `a + b == 1` with entities, below a window. */
+#define VALUED_COMPARISON "DWC\0\3" "\10" "\0\0\0\0\0\0\0\10" "\1" "\5\1" "\2" "\0\0\0\0\0\0\0\1"
+#define VALUED_SUM "\14\0" "\1\1U\1a" "\1\1U\1b"
+#define VALUED_WINDOW "DWC\0\3" "\4" AT_FIVE MINUTES_90 "\10" ZERO_SPAN "\4" VALUED_SUM "\2" "\0\0\0\0\0\0\0\1"
+
 /* No narrowing, the target "view". */
 #define TARGETS "DWT\0\1" "\0\0" "\1" "\0\4view"
 
@@ -387,7 +400,71 @@ static void test_windows(void) {
     TEST(dogwood_read_condition(BYTES(LONG_WINDOW)) == DOGWOOD_WINDOW_OUT_OF_RANGE);
     TEST(refuses(dogwood_sums(BYTES(LONG_WINDOW), fresh(), SPACE), DOGWOOD_WINDOW_OUT_OF_RANGE, DOGWOOD_CONDITION));
     TEST(dogwood_read_condition(BYTES(PARAMETER_WINDOW)) == DOGWOOD_ACCEPTED);
-    TEST(dogwood_read_condition(BYTES("DWC\0\3" "\13" ZERO_SPAN)) == DOGWOOD_OTHER_VERSION);
+    TEST(dogwood_read_condition(BYTES("DWC\0\4" "\13" ZERO_SPAN)) == DOGWOOD_OTHER_VERSION);
+}
+
+/* ─── Values ─── */
+
+/* What an equality of version 3 with these operands is refused by. */
+#define REFUSAL(operands) dogwood_read_condition(BYTES(VALUED operands))
+
+/* Where each value stands, and what is wrong with one that is cut, undefined or outside its class. */
+static void test_values(void) {
+    TEST(REFUSAL("\1\1U\1x" "\1\1U\0") == DOGWOOD_ACCEPTED);
+    TEST(REFUSAL("\2\200\0\0\0\0\0\0\0" "\2\177\377\377\377\377\377\377\377") == DOGWOOD_ACCEPTED);
+    TEST(REFUSAL("\5\0" "\5\1") == DOGWOOD_ACCEPTED);
+    TEST(REFUSAL("\4\1" "a" "\3\3" "1.5") == DOGWOOD_ACCEPTED);
+    TEST(REFUSAL("\14\2\11\11" "\12\1\14\0\11\11") == DOGWOOD_ACCEPTED);
+    TEST(REFUSAL("\1\1U") == DOGWOOD_CUT);
+    TEST(REFUSAL("\1\1U\1\"") == DOGWOOD_OUTSIDE_CLASS);
+    TEST(REFUSAL("\2\0\0\0\0\0\0\0") == DOGWOOD_CUT);
+    TEST(REFUSAL("\5\2") == DOGWOOD_UNDEFINED_CHOICE);
+    TEST(REFUSAL("\14\3") == DOGWOOD_UNDEFINED_CHOICE);
+    TEST(REFUSAL("\14\2\17") == DOGWOOD_UNDEFINED_CHOICE);
+    TEST(REFUSAL("\12\1\14\0\13") == DOGWOOD_AGGREGATE_BELOW_ARRAY);
+    TEST(dogwood_read_condition(BYTES("DWC\0\3" "\4" AT_FIVE CALL)) == DOGWOOD_UNDEFINED_CHOICE);
+    TEST(dogwood_read_condition(BYTES("DWC\0\2" "\10" ZERO_SPAN "\4\2\2")) == DOGWOOD_ACCEPTED);
+}
+
+/* At the text of a decimal 2, 6, 15 and 16 are met in this order. */
+static void test_decimals(void) {
+    TEST(REFUSAL(HIGHEST LOWEST) == DOGWOOD_ACCEPTED);
+    TEST(REFUSAL("\3\4" "-0.0" "\3\4" "00.5") == DOGWOOD_ACCEPTED);
+    TEST(REFUSAL("\3\4" "1.") == DOGWOOD_CUT);
+    TEST(REFUSAL("\3\2" "1\"") == DOGWOOD_OUTSIDE_CLASS);
+    TEST(REFUSAL(FIVE_DIGITS) == DOGWOOD_MALFORMED_DECIMAL);
+    TEST(REFUSAL("\3\0") == DOGWOOD_MALFORMED_DECIMAL);
+    TEST(REFUSAL("\3\2" ".5") == DOGWOOD_MALFORMED_DECIMAL);
+    TEST(REFUSAL("\3\2" "5.") == DOGWOOD_MALFORMED_DECIMAL);
+    TEST(REFUSAL("\3\4" "+1.0") == DOGWOOD_MALFORMED_DECIMAL);
+    TEST(REFUSAL("\3\32" "99999999999999999999.00000") == DOGWOOD_MALFORMED_DECIMAL);
+    TEST(REFUSAL("\3\26" "99999999999999999999.0") == DOGWOOD_DECIMAL_OUT_OF_RANGE);
+    TEST(REFUSAL(ABOVE) == DOGWOOD_DECIMAL_OUT_OF_RANGE);
+    TEST(REFUSAL(BELOW) == DOGWOOD_DECIMAL_OUT_OF_RANGE);
+}
+
+/* Every operation that reads a condition reads version 3, and meets 15 and 16. */
+static void test_valued_operations(void) {
+    struct dogwood_check_answer checked =
+        dogwood_check(BYTES(EMPTY_SCHEMA), BYTES(VALUED_COMPARISON), BYTES(TARGETS), fresh(), SPACE);
+    struct dogwood_answer answer;
+    struct dogwood_report report;
+    struct dogwood_window window;
+
+    dogwood_next_report(buffer, &report);
+    TEST(checks(checked, DOGWOOD_ACCEPTED, DOGWOOD_NO_RECORD, 1, 1) && reports(&report, 0, 8, MESSAGE));
+    TEST(answers(dogwood_sums(BYTES(VALUED_WINDOW), fresh(), SPACE), 0, 0, 0) && untouched_from(0));
+    answer = dogwood_windows(BYTES(VALUED_WINDOW), 3600, fresh(), SPACE);
+    dogwood_next_window(buffer, &window);
+    TEST(answers(answer, 0, 0, 1) && has_window(&window, 5, 1, 1800));
+
+    checked = dogwood_check(BYTES(EMPTY_SCHEMA), BYTES(VALUED FIVE_DIGITS), BYTES(TARGETS), fresh(), SPACE);
+    TEST(refuses_check(checked, DOGWOOD_MALFORMED_DECIMAL, DOGWOOD_CONDITION));
+    checked = dogwood_check(BYTES(EMPTY_SCHEMA), BYTES(VALUED ABOVE), BYTES(TARGETS), fresh(), SPACE);
+    TEST(refuses_check(checked, DOGWOOD_DECIMAL_OUT_OF_RANGE, DOGWOOD_CONDITION));
+    TEST(refuses(dogwood_sums(BYTES(VALUED ABOVE), fresh(), SPACE), DOGWOOD_DECIMAL_OUT_OF_RANGE, DOGWOOD_CONDITION));
+    answer = dogwood_windows(BYTES(VALUED FIVE_DIGITS), 0, fresh(), SPACE);
+    TEST(refuses(answer, DOGWOOD_MALFORMED_DECIMAL, DOGWOOD_CONDITION));
 }
 
 /* ─── Lookup ─── */
@@ -460,6 +537,9 @@ int main(void) {
     test_check_with_refusals();
     test_sums();
     test_windows();
+    test_values();
+    test_decimals();
+    test_valued_operations();
     test_lookup();
     test_write_decimal();
     printf("the library from C: %d tests, %d failed\n", tests, failures);
