@@ -6,7 +6,7 @@
 use std::path::PathBuf;
 use std::{env, fs};
 
-const FUNCTIONS: [&str; 9] = [
+const FUNCTIONS: [&str; 10] = [
     "dogwood_read_schema",
     "dogwood_read_condition",
     "dogwood_read_targets",

@@ -3,5 +3,6 @@
 pub mod bytes;
 pub mod rules;
 pub mod strict;
+pub mod values;
 pub mod visits;
 pub mod windows;

@@ -6,6 +6,7 @@ pub mod conditions;
 pub mod damage;
 pub mod large;
 pub mod mutations;
+pub mod values;
 pub mod windows;
 pub mod worlds;
 
@@ -23,8 +24,15 @@ pub struct Scene {
     pub targets_count: usize,
 }
 
-/// A scene for an operation: terms want a comparison, sums want many sums.
+/// A scene for an operation. Each version of a condition is as frequent; of a listing nearly all have windows.
 pub fn scene(rng: &mut Rng, operation: Operation) -> Scene {
+    let versions: &[u8] = if operation == Operation::Windows { &[1, 2, 2, 2, 2, 3, 3, 3, 3] } else { &[1, 2, 3] };
+    let version = *rng.pick(versions);
+    scene_in(rng, operation, version)
+}
+
+/// A scene with a condition in this version: terms want a comparison, sums want many sums.
+fn scene_in(rng: &mut Rng, operation: Operation, version: u8) -> Scene {
     let world = World::random(rng);
     let condition = match operation {
         Operation::Terms => conditions::comparison_record(rng, &world),
@@ -32,10 +40,20 @@ pub fn scene(rng: &mut Rng, operation: Operation) -> Scene {
         Operation::Windows => conditions::looking_back_record(rng, &world),
         _ => conditions::condition_record(rng, &world),
     };
-    // every third condition is of version 2, with a window wherever one stands, and of a listing nearly all
-    let version_2 = if operation == Operation::Windows { !rng.chance(1, 12) } else { rng.chance(1, 3) };
-    let condition = if version_2 { windows::windowed(rng, &condition) } else { condition };
+    let condition = in_version(rng, condition, version);
     scene_with(rng, world, condition)
+}
+
+/// A condition of version 1 in this version: with a window wherever one stands, and then with a value.
+fn in_version(rng: &mut Rng, condition: Piece, version: u8) -> Piece {
+    if version == 1 {
+        return condition;
+    }
+    let windowed = windows::windowed(rng, &condition);
+    if version == 2 {
+        return windowed;
+    }
+    values::valued(rng, &windowed)
 }
 
 fn scene_with(rng: &mut Rng, world: World, condition: Piece) -> Scene {
@@ -47,6 +65,16 @@ fn scene_with(rng: &mut Rng, world: World, condition: Piece) -> Scene {
 /// A fresh draft for one operation; every fourth has a damaged record.
 pub fn draft(rng: &mut Rng, operation: Operation) -> Draft {
     let scene = scene(rng, operation);
+    draft_with(rng, operation, scene)
+}
+
+/// A fresh draft with a condition of version 3; every fourth has a damaged record.
+pub fn valued_draft(rng: &mut Rng, operation: Operation) -> Draft {
+    let scene = scene_in(rng, operation, 3);
+    draft_with(rng, operation, scene)
+}
+
+fn draft_with(rng: &mut Rng, operation: Operation, scene: Scene) -> Draft {
     let mut draft = draft_of(rng, operation, scene);
     if operation != Operation::Terms && rng.chance(1, 4) {
         // a listing's second record is a number, which cannot be damaged
@@ -60,10 +88,8 @@ pub fn draft(rng: &mut Rng, operation: Operation) -> Draft {
 /// A fresh draft with a large condition, undamaged.
 pub fn large_draft(rng: &mut Rng, operation: Operation) -> Draft {
     let world = World::random(rng);
-    let mut condition = conditions::large_record(rng, &world);
-    if rng.chance(1, 2) {
-        condition = windows::windowed(rng, &condition);
-    }
+    let (condition, version) = (conditions::large_record(rng, &world), rng.one(&[1, 2, 3]));
+    let condition = in_version(rng, condition, version);
     let scene = scene_with(rng, world, condition);
     let mut draft = draft_of(rng, operation, scene);
     draft.size = draft.size_from(rng);

@@ -1,8 +1,8 @@
 //! The stored lists of cases, with the oracle's answers. The same seed gives the same bytes.
 
-use crate::cases::{self, Case, Operation, Outcome};
+use crate::cases::{self, Case, Draft, Operation, Outcome};
 use crate::coverage::Coverage;
-use crate::examples::{bytes, rules, strict, visits, windows};
+use crate::examples::{bytes, rules, strict, values, visits, windows};
 use crate::generate::{self, boundaries, compared};
 use crate::pieces::{self, Piece};
 use crate::rng::Rng;
@@ -48,6 +48,12 @@ pub fn all() -> Vec<List> {
             file: "windows.cases",
             form: "w (condition, and the period in eight bytes). SIZE and OUTPUT as for k in check.cases.",
             cases: listings(),
+        },
+        List {
+            file: "values.cases",
+            form: "c (condition), k (schema, condition, targets), m (condition) and w (condition, period), as in the lists \
+                   of these letters. The conditions are of version 3, but for those that tell versions apart.",
+            cases: valued(),
         },
         List {
             file: "terms.cases",
@@ -97,12 +103,17 @@ fn case(operation: Operation, records: Vec<Vec<u8>>, size: usize) -> Case {
     Case { operation, records, size }
 }
 
-/// Random cases of an operation. Of those that show little only every fourth is kept.
+/// Random cases of an operation.
 fn random(seed: u64, operation: Operation, count: usize) -> Vec<Case> {
+    drafted(seed, operation, count, generate::draft)
+}
+
+/// Cases of an operation, as they are drafted. Of those that show little only every fourth is kept.
+fn drafted(seed: u64, operation: Operation, count: usize, draft: fn(&mut Rng, Operation) -> Draft) -> Vec<Case> {
     let mut rng = Rng::new(seed ^ operation.letter() as u64);
     let mut cases = Vec::new();
     while cases.len() < count {
-        let case = generate::draft(&mut rng, operation).case();
+        let case = draft(&mut rng, operation).case();
         if !shows_little(&case) || rng.chance(1, 4) {
             cases.push(case);
         }
@@ -224,6 +235,21 @@ fn listings() -> Vec<Case> {
         cases.push(case(Operation::Windows, vec![e.condition, windows::period_bytes(60)], 100));
     }
     cases.extend(random(SEED, Operation::Windows, 300));
+    once(cases)
+}
+
+/// The examples of version 3, read, checked, summed and listed, and random cases of each of these.
+fn valued() -> Vec<Case> {
+    let mut cases = Vec::new();
+    for e in values::all() {
+        cases.extend(at_three_sizes(Operation::Check, e.records(), &e.reports));
+        cases.extend(e.other_cases());
+    }
+    for (operation, count) in
+        [(Operation::ReadCondition, 120), (Operation::Check, 160), (Operation::Sums, 80), (Operation::Windows, 80)]
+    {
+        cases.extend(drafted(SEED ^ 3 << 32, operation, count, generate::valued_draft));
+    }
     once(cases)
 }
 

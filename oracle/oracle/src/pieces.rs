@@ -10,11 +10,11 @@ pub enum Sort {
 }
 
 impl Sort {
-    /// The smallest node of this sort.
+    /// The smallest node of this sort, the same in each version of a record.
     fn leaf(self) -> Piece {
         match self {
             Sort::Condition => condition(11, (0, 0), vec![]),
-            Sort::Term => term(2, vec![]),
+            Sort::Term => wildcard(),
             Sort::Type => ty(0, vec![]),
         }
     }
@@ -84,6 +84,20 @@ impl Piece {
         out
     }
 
+    /// Changes the parts of each node of a sort, from the outside in.
+    pub fn each_node(&mut self, sort: Sort, change: &mut impl FnMut(&mut Vec<Piece>)) {
+        match self {
+            Piece::Node(own, parts) if *own == sort => change(parts),
+            _ => {}
+        }
+        match self {
+            Piece::Field(_) => {}
+            Piece::Seq(parts) | Piece::List(_, parts) | Piece::Node(_, parts) => {
+                parts.iter_mut().for_each(|part| part.each_node(sort, change))
+            }
+        }
+    }
+
     /// The outermost nodes of a sort within this piece.
     fn push_nodes(&self, sort: Sort, out: &mut Vec<Piece>) {
         match self {
@@ -125,6 +139,11 @@ pub fn byte(b: u8) -> Piece {
 pub fn text(s: &str) -> Piece {
     let length = u8::try_from(s.len()).expect("a string of a record has at most 255 bytes");
     Piece::Field([&[length], s.as_bytes()].concat())
+}
+
+/// A signed number of 64 bits.
+pub fn number64(number: i64) -> Piece {
+    Piece::Field(number.to_be_bytes().to_vec())
 }
 
 pub fn texts<S: AsRef<str>>(all: &[S]) -> Piece {
@@ -189,7 +208,7 @@ pub fn condition(kind: u8, at: Span, parts: Vec<Piece>) -> Piece {
 
 /// The window behind a span in version 2: so many of a unit.
 pub fn window(unit: u8, amount: i64) -> Piece {
-    Piece::Seq(vec![byte(0), byte(unit), Piece::Field(amount.to_be_bytes().to_vec())])
+    Piece::Seq(vec![byte(0), byte(unit), number64(amount)])
 }
 
 /// The window that is a macro's parameter.
@@ -199,7 +218,50 @@ pub fn parameter_window() -> Piece {
 
 /// A record of version 2.
 pub fn windowed_record(root: Piece) -> Piece {
-    Piece::Seq(vec![Piece::Field(b"DWC".to_vec()), Piece::Field(vec![0, 2]), root])
+    versioned(2, condition_record(root))
+}
+
+/// A record of version 3.
+pub fn valued_record(root: Piece) -> Piece {
+    versioned(3, condition_record(root))
+}
+
+/// The same record with another version in its heading.
+fn versioned(version: u8, mut record: Piece) -> Piece {
+    if let Piece::Seq(parts) = &mut record {
+        parts[1] = Piece::Field(vec![0, version]);
+    }
+    record
+}
+
+/// A record of version 1 with a window wherever one stands in version 2.
+pub fn with_windows(record: &Piece, mut window: impl FnMut() -> Piece) -> Piece {
+    let mut windowed = versioned(2, record.clone());
+    windowed.each_node(Sort::Condition, &mut |parts| {
+        if matches!(kind_of(parts), 4..=6) {
+            parts.insert(3, window());
+        }
+    });
+    windowed
+}
+
+/// A record of version 2 with a value wherever one stands in version 3; `value` makes that of a term of this kind.
+pub fn with_values(record: &Piece, mut value: impl FnMut(u8) -> Piece) -> Piece {
+    let mut valued = versioned(3, record.clone());
+    valued.each_node(Sort::Term, &mut |parts| match kind_of(parts) {
+        kind @ 1..=5 => parts.push(value(kind)),
+        12 => parts.insert(1, value(12)),
+        _ => {}
+    });
+    valued
+}
+
+/// The kind of the node with these parts.
+fn kind_of(parts: &[Piece]) -> u8 {
+    match &parts[0] {
+        Piece::Field(bytes) => bytes[0],
+        _ => panic!("a node begins with its kind"),
+    }
 }
 
 pub fn comparison(at: Span, operator: u8, left: Piece, right: Piece) -> Piece {

@@ -26,6 +26,8 @@ pub const NOT_ASCENDING: Refusal = Refusal(8);
 pub const AGGREGATE_BELOW_ARRAY: Refusal = Refusal(9);
 pub const BYTES_AFTER: Refusal = Refusal(10);
 pub const WINDOW_OUT_OF_RANGE: Refusal = Refusal(13);
+pub const MALFORMED_DECIMAL: Refusal = Refusal(15);
+pub const DECIMAL_OUT_OF_RANGE: Refusal = Refusal(16);
 
 /// The longest record that is read.
 pub const LONGEST: usize = 32_768;

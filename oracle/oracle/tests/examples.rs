@@ -2,7 +2,7 @@
 
 use oracle::answers::{check, lookup, sums, windows, Answer};
 use oracle::cases::Outcome;
-use oracle::examples::{bytes, rules, visits, windows as windowed};
+use oracle::examples::{bytes, rules, values, visits, windows as windowed};
 use oracle::pieces::Piece;
 
 const FILL: u8 = 0xA5;
@@ -105,6 +105,31 @@ fn examples_of_windows() {
         if !e.entries.is_empty() || answer.count == 0 {
             assert_eq!(buffer[..expected.len()], expected, "{}", e.shows);
             assert!(buffer[expected.len()..].iter().all(|b| *b == FILL), "{}", e.shows);
+        }
+    }
+}
+
+/// Each line's answer to a check; a reader, sums and a listing refuse by the same number.
+#[test]
+fn examples_of_values() {
+    for e in values::all() {
+        let records = e.records();
+        let checked = |buffer: &mut [u8]| check(&records[0], &records[1], &records[2], buffer);
+        let mut buffer = filled(300);
+        let answer = checked(&mut buffer);
+        assert_eq!((answer.number, answer.record), (e.number, e.record), "{}", e.shows);
+        if e.number == 0 {
+            expect_reports(e.shows, &e.reports, checked);
+        } else {
+            assert_eq!((answer.count, buffer), (0, filled(300)), "{}", e.shows);
+        }
+        for case in e.other_cases() {
+            let number = match case.outcome() {
+                Some(Outcome::Number(number)) => number,
+                Some(Outcome::Answered(answer, _)) => answer.number,
+                _ => panic!("{}", e.shows),
+            };
+            assert_eq!(number, e.number, "{}", e.shows);
         }
     }
 }

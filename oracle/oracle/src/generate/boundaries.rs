@@ -41,6 +41,7 @@ pub fn samples() -> Vec<Record> {
         (Operation::ReadSchema, sample_schema()),
         (Operation::ReadCondition, sample_condition()),
         (Operation::ReadCondition, sample_windows()),
+        (Operation::ReadCondition, sample_values()),
         (Operation::ReadTargets, sample_targets()),
         (Operation::ReadPath, path(0, &["age", "zip"], 3)),
     ]
@@ -82,6 +83,19 @@ fn sample_windows() -> Piece {
     windowed_record(condition(6, (1, 2), vec![window(1, 90), former, previous]))
 }
 
+/// A condition of version 3 with each sort of value.
+fn sample_values() -> Piece {
+    let literals = array(vec![
+        term(2, vec![number64(-2)]),
+        term(3, vec![text("-0.25")]),
+        term(4, vec![text("a b")]),
+        term(5, vec![byte(1)]),
+    ]);
+    let computed = term(12, vec![byte(1), term(1, vec![text("A::B"), text("ann")]), literals]);
+    let compared = comparison((3, 4), 4, computed, term(2, vec![number64(1 << 40)]));
+    valued_record(condition(5, (1, 2), vec![window(0, 7), compared]))
+}
+
 fn sample_targets() -> Piece {
     targets(narrowing(4, "App::Group"), narrowing(2, "Doc"), vec![target("App", "view"), target("", "edit")])
 }
@@ -105,7 +119,7 @@ fn call() -> Piece {
 }
 
 fn kinds() -> Vec<Record> {
-    [condition_kinds(), window_kinds(), term_kinds(), type_kinds(), target_kinds()].concat()
+    [condition_kinds(), window_kinds(), term_kinds(), value_kinds(), type_kinds(), target_kinds()].concat()
 }
 
 fn condition_kinds() -> Vec<Record> {
@@ -154,6 +168,62 @@ fn term_kinds() -> Vec<Record> {
     all.push(aggregate_call((0, 1)));
     all.into_iter().map(in_comparison).collect()
 }
+
+/// A term of version 3 as an operand, as an argument, below an array and below arithmetic.
+fn in_valued(value: &Piece) -> Vec<Record> {
+    let operand = |left: Piece| comparison((0, 1), 4, left, wildcard());
+    let argued = predicate((0, 1), (2, 3), &NONE, "a", vec![argument("x", &["x"], value.clone())]);
+    let below = term(12, vec![byte(2), wildcard(), value.clone()]);
+    let roots = [operand(value.clone()), argued, operand(array(vec![value.clone()])), operand(below)];
+    roots.map(|root| (Operation::ReadCondition, valued_record(root))).to_vec()
+}
+
+/// Each literal with values at its ends, and the choice bytes and texts next to what they may be.
+fn value_kinds() -> Vec<Record> {
+    let mut all: Vec<Piece> = [0, 1, -1, i64::MIN, i64::MAX].map(|n| term(2, vec![number64(n)])).to_vec();
+    all.extend([0, 1, 2, 255].map(|truth| term(5, vec![byte(truth)])));
+    all.extend([0, 1, 2, 3, 255].map(|op| term(12, vec![byte(op), wildcard(), wildcard()])));
+    all.extend(["", "x", " ", "~"].map(|id| term(1, vec![text("A"), text(id)])));
+    all.extend(["", "x", "string"].map(|content| term(4, vec![text(content)])));
+    let zeros = "0".repeat(251);
+    all.extend([format!("{zeros}.0001"), format!("{zeros}1.00")].map(|long| term(3, vec![text(&long)])));
+    all.extend(DECIMALS.map(|decimal| term(3, vec![text(decimal)])));
+    all.iter().flat_map(in_valued).collect()
+}
+
+/// Texts at the edges of what a decimal is and of what 64 bits hold.
+const DECIMALS: [&str; 30] = [
+    "0.0",
+    "-0.0",
+    "00.5",
+    "1.2345",
+    "-0.0001",
+    "922337203685477.5807",
+    "-922337203685477.5808",
+    "922337203685477.5808",
+    "-922337203685477.5809",
+    "922337203685477.58",
+    "922337203685477.6",
+    "922337203685478.0",
+    "999999999999999.9999",
+    "1000000000000000.0",
+    "18446744073709551616.0",
+    "-99999999999999999999.0",
+    "99999999999999999999.00000",
+    "",
+    "-",
+    ".",
+    "1",
+    "1.",
+    ".1",
+    "-.1",
+    "1.00000",
+    "1..0",
+    "1.0.0",
+    "+1.0",
+    "--1.0",
+    "1.0 ",
+];
 
 fn type_kinds() -> Vec<Record> {
     let mut all: Vec<Piece> = [0, 1, 2, 5, 8, 9, 10].map(|kind| ty(kind, vec![])).to_vec();
@@ -307,6 +377,9 @@ fn strings() -> Vec<Record> {
         all.push((Operation::ReadTargets, targets(narrowing(3, s), byte(0), vec![])));
         all.push(in_comparison(entity(s)));
         all.push(in_comparison(var(s)));
+        all.push((Operation::ReadCondition, valued_record(comparison((0, 1), 4, wildcard(), term(4, vec![text(s)])))));
+        let id = term(1, vec![text("A"), text(s)]);
+        all.push((Operation::ReadCondition, valued_record(comparison((0, 1), 4, id, wildcard()))));
         all.push(in_condition(exists((0, 0), named("v", &[s]), call())));
         all.push(in_condition(exists((0, 0), named("v", &["Ok", s]), call())));
         all.push(in_condition(predicate((0, 0), (0, 0), &[s], "a", vec![])));

@@ -1,7 +1,7 @@
 //! Windows put into a condition: a record of version 1 becomes one of version 2 with a window wherever one stands.
 
 use crate::examples::windows::period_bytes;
-use crate::pieces::{self, Piece, Sort};
+use crate::pieces::{self, Piece};
 use crate::rng::Rng;
 
 /// The seconds of the units.
@@ -9,26 +9,8 @@ const UNITS: [i64; 4] = [1, 60, 3_600, 86_400];
 
 /// The record with windows, some of them a macro's parameter; one record in six has one that is out of range.
 pub fn windowed(rng: &mut Rng, record: &Piece) -> Piece {
-    let mut copy = record.clone();
-    let Piece::Seq(parts) = &mut copy else { return copy };
-    parts[1] = Piece::Field(vec![0, 2]);
     let spoilt = rng.chance(1, 6);
-    parts.iter_mut().for_each(|part| put_windows(rng, spoilt, part));
-    copy
-}
-
-fn put_windows(rng: &mut Rng, spoilt: bool, piece: &mut Piece) {
-    if let Piece::Node(Sort::Condition, parts) = piece {
-        if matches!(&parts[0], Piece::Field(kind) if matches!(kind[..], [4..=6])) {
-            parts.insert(3, window(rng, spoilt));
-        }
-    }
-    match piece {
-        Piece::Field(_) => {}
-        Piece::Seq(parts) | Piece::List(_, parts) | Piece::Node(_, parts) => {
-            parts.iter_mut().for_each(|part| put_windows(rng, spoilt, part))
-        }
-    }
+    pieces::with_windows(record, || window(rng, spoilt))
 }
 
 fn window(rng: &mut Rng, spoilt: bool) -> Piece {

@@ -6,8 +6,8 @@ use dogwood_rust::error::Span;
 use dogwood_rust::extension::temporal::ast::*;
 use dogwood_rust::field_paths::FieldPaths;
 
-/// The newest version of a condition that is read: 2 has the windows.
-const NEWEST: u16 = 2;
+/// The newest version of a condition that is read: 2 has the windows, 3 the values too.
+const NEWEST: u16 = 3;
 
 /// A condition, and the field paths of its arguments.
 pub struct ConditionRecord {
@@ -65,7 +65,7 @@ fn some_call(span: Span) -> Call {
     Call { span, name: "macro".to_string(), args: Vec::new() }
 }
 
-impl Reader<'_> {
+impl<'a> Reader<'a> {
     fn span(&mut self) -> Result<Span, Refusal> {
         let start = self.fields.number32()? as usize;
         let end = self.fields.number32()? as usize;
@@ -95,6 +95,19 @@ impl Reader<'_> {
             return Err(WINDOW_OUT_OF_RANGE);
         }
         Ok(WithinSpec::Concrete(interval))
+    }
+
+    /// What version 3 brought to a term. The versions below hold no such field: then it is some value, which no check
+    /// looks at.
+    fn given<T>(
+        &mut self,
+        otherwise: T,
+        read: impl FnOnce(&mut Fields<'a>) -> Result<T, Refusal>,
+    ) -> Result<T, Refusal> {
+        if self.fields.version < 3 {
+            return Ok(otherwise);
+        }
+        read(&mut self.fields)
     }
 
     fn boxed(&mut self, level: u32) -> Result<Box<Condition>, Refusal> {
@@ -179,25 +192,32 @@ impl Reader<'_> {
             return Err(AGGREGATE_BELOW_ARRAY);
         }
         Ok(match kind {
-            1 => Term::Entity { ty: self.fields.string(Class::PathName)?, id: "id".to_string() },
-            2 => Term::Integer(1),
-            3 => Term::Decimal("1.0".to_string()),
-            4 => Term::String("text".to_string()),
-            5 => Term::Bool(true),
+            1 => {
+                let ty = self.fields.string(Class::PathName)?;
+                Term::Entity { ty, id: self.given("id".to_string(), |fields| fields.string(Class::Plain))? }
+            }
+            2 => Term::Integer(self.given(1, Fields::signed64)?),
+            3 => Term::Decimal(self.given("1.0".to_string(), Fields::decimal)?),
+            4 => Term::String(self.given("text".to_string(), |fields| fields.string(Class::Plain))?),
+            5 => Term::Bool(self.given(true, |fields| Ok(fields.choice(0, 1)? == 1))?),
             6 => Term::ContextField(self.fields.path()?),
             7 => Term::ScopeField(self.fields.path()?),
             8 => Term::Var(self.fields.string(Class::Plain)?),
             9 => Term::Wildcard,
             10 => Term::Array(self.elements(place)?),
             11 => Term::Agg(Box::new(self.aggregate(place)?)),
-            12 => {
-                let left = Box::new(self.term(place.inner())?);
-                let right = Box::new(self.term(place.inner())?);
-                Term::Arith { op: ArithOp::Add, left, right }
-            }
+            12 => self.arith(place)?,
             13 => Term::ParamRef("p".to_string()),
             _ => Term::BinderRef("b".to_string()),
         })
+    }
+
+    fn arith(&mut self, place: Place) -> Result<Term, Refusal> {
+        const OPERATORS: [ArithOp; 3] = [ArithOp::Add, ArithOp::Sub, ArithOp::Mul];
+        let op = self.given(ArithOp::Add, |fields| Ok(OPERATORS[fields.choice(0, 2)? as usize]))?;
+        let left = Box::new(self.term(place.inner())?);
+        let right = Box::new(self.term(place.inner())?);
+        Ok(Term::Arith { op, left, right })
     }
 
     fn elements(&mut self, place: Place) -> Result<Vec<Term>, Refusal> {

@@ -1,6 +1,7 @@
 //! A record's fields, from left to right. At one field the offences are met in the order of their numbers.
 
 use super::*;
+use crate::decimals;
 
 /// The classes of strings.
 #[derive(Debug, Clone, Copy, PartialEq, Eq)]
@@ -134,6 +135,13 @@ impl<'a> Fields<'a> {
             return Err(OUTSIDE_CLASS);
         }
         Ok(String::from_utf8(bytes.to_vec()).expect("each class is ASCII"))
+    }
+
+    /// A plain string that is the text of a decimal: what it is as a string comes before what it is as a decimal.
+    pub fn decimal(&mut self) -> Result<String, Refusal> {
+        let text = self.string(Class::Plain)?;
+        decimals::value(&text)?;
+        Ok(text)
     }
 
     /// A string that must lie above the one before it in its list.
