@@ -160,7 +160,7 @@ static void test_readers(void) {
     TEST(dogwood_read_schema(large, DOGWOOD_MOST_BYTES + 1) == DOGWOOD_TOO_LONG);
 
     TEST(dogwood_read_condition(BYTES(CONDITION)) == DOGWOOD_ACCEPTED);
-    TEST(dogwood_read_condition(BYTES("DWC\0\3")) == DOGWOOD_OTHER_VERSION);
+    TEST(dogwood_read_condition(BYTES("DWC\0\4")) == DOGWOOD_OTHER_VERSION);
     TEST(dogwood_read_condition(BYTES("DWC\0\1\16")) == DOGWOOD_UNDEFINED_CHOICE);
     TEST(dogwood_read_condition(BYTES("DWC\0\1\10" ZERO_SPAN "\4\12\1\13")) == DOGWOOD_AGGREGATE_BELOW_ARRAY);
 

@@ -32,7 +32,7 @@ pub fn scene(rng: &mut Rng, operation: Operation) -> Scene {
 }
 
 /// A scene with a condition in this version: terms want a comparison, sums want many sums.
-fn scene_in(rng: &mut Rng, operation: Operation, version: u8) -> Scene {
+pub fn scene_in(rng: &mut Rng, operation: Operation, version: u8) -> Scene {
     let world = World::random(rng);
     let condition = match operation {
         Operation::Terms => conditions::comparison_record(rng, &world),

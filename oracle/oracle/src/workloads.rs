@@ -92,6 +92,21 @@ pub fn windowed() -> Vec<Workload> {
     ]
 }
 
+/// Conditions of version 3: the everyday one, and as many decimals as fit, compared with each other.
+pub fn valued() -> Vec<Workload> {
+    let price = || term(3, vec![text("922337203685477.5807")]);
+    let of =
+        |count: usize| valued_record(joined((0..count).map(|_| comparison((0, 9), 4, price(), price())).collect()));
+    let value = |kind: u8| match kind {
+        2 => number64(1_000),
+        _ => panic!("the everyday condition has whole numbers alone"),
+    };
+    let everyday = with_values(&windowed_record(everyday_within()), value);
+    let own =
+        |name: &str, condition: Piece| workload(name, false, shop(2, 4), condition, view_targets(2), path(0, &NONE, 0));
+    vec![own("everyday, with values", everyday), own("32 KB of decimals", of(most(LONGEST, of)))]
+}
+
 /// Conditions of growing size under one target.
 pub fn sizes() -> Vec<Workload> {
     let sized = |power: u32| {

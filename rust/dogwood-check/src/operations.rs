@@ -176,7 +176,7 @@ pub fn lookup_into(schema: &[u8], targets: &[u8], path: &[u8], output: &mut [u8]
 /// Writes a number of ten-thousandths as the text of a decimal, with a lent buffer for the text.
 ///
 /// Without refusal the buffer begins with [`count`](Answer::count) bytes of ASCII, and is as it was behind them. Where
-/// the text is longer than the buffer it is as it was; [`MOST_DECIMAL`] bytes are always enough.
+/// the text is longer than the buffer it is as it was; [`MOST_DECIMAL`](crate::MOST_DECIMAL) bytes are always enough.
 pub fn write_decimal_into(value: i64, output: &mut [u8]) -> Answer {
     Answer::new(ffi::write_decimal(value, output))
 }

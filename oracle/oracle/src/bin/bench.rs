@@ -65,6 +65,11 @@ fn table(text: &str) -> String {
     for w in workloads::windowed().iter().filter(|w| w.name.contains(text)) {
         out += &row(&w.name, "windows", &windows(w));
     }
+    for w in workloads::valued().iter().filter(|w| w.name.contains(text)) {
+        let read = read(Operation::ReadCondition, &w.condition);
+        out += &row(&w.name, "check", &check(w));
+        out += &row(&format!("{} ({} bytes)", w.name, w.condition.len()), "read condition", &read);
+    }
     let all = workloads::all().into_iter().chain(workloads::crowded()).chain(workloads::searching());
     for w in all.filter(|w| w.name.contains(text)) {
         for (input, operation, times) in rows_of(&w) {

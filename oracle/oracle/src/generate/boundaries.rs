@@ -185,7 +185,7 @@ fn value_kinds() -> Vec<Record> {
     all.extend([0, 1, 2, 3, 255].map(|op| term(12, vec![byte(op), wildcard(), wildcard()])));
     all.extend(["", "x", " ", "~"].map(|id| term(1, vec![text("A"), text(id)])));
     all.extend(["", "x", "string"].map(|content| term(4, vec![text(content)])));
-    let zeros = "0".repeat(251);
+    let zeros = "0".repeat(250);
     all.extend([format!("{zeros}.0001"), format!("{zeros}1.00")].map(|long| term(3, vec![text(&long)])));
     all.extend(DECIMALS.map(|decimal| term(3, vec![text(decimal)])));
     all.iter().flat_map(in_valued).collect()

@@ -7,9 +7,9 @@ use crate::rng::Rng;
 /// Ids and texts, among them words of messages.
 const TEXTS: [&str; 6] = ["", "ann", "string", "1.5", "a b", "~"];
 
-/// The record with values; one record in six has decimals that are malformed or beyond 64 bits.
+/// The record with values; in one record of three every second decimal is malformed or beyond 64 bits.
 pub fn valued(rng: &mut Rng, record: &Piece) -> Piece {
-    let spoilt = rng.chance(1, 6);
+    let spoilt = rng.chance(1, 3);
     pieces::with_values(record, |kind| value(rng, kind, spoilt))
 }
 
