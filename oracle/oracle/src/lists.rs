@@ -258,7 +258,7 @@ fn terms() -> Vec<Case> {
     for e in rules::checked() {
         cases.push(case(Operation::Terms, [&e.schema, &e.condition, &e.targets].map(Piece::bytes).to_vec(), 0));
     }
-    cases.extend(random(SEED, Operation::Terms, 320));
+    cases.extend(random(SEED, Operation::Terms, 350));
     once(cases.into_iter().filter(|c| c.outcome().is_some()).collect())
 }
 
