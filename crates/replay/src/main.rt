@@ -327,5 +327,6 @@ fn main() {
     replay(b"sums.cases");
     replay(b"lookup.cases");
     replay(b"windows.cases");
+    replay(b"values.cases");
     replay(b"terms.cases");
 }
