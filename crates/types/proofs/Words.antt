@@ -23,20 +23,20 @@ use Rattle.types.specs.declared.Form.{Form}
 use Rattle.types.specs.declared.Form.the-variants as Form
 
 abbrev pub table : List ℕ
-table = text "intstringdecimalbooleantimepointobjectneverentityarraymixed-type arrayarray<?>entity:array<>"
+table = text "intstringdecimalbooleantimepointobjectneverdatetimedurationentityarraymixed-type arrayarray<?>entity:array<>"
 
 abbrev pub starts : List ℕ
-starts = 0 ∷ 3 ∷ 9 ∷ 16 ∷ 23 ∷ 32 ∷ 38 ∷ 43 ∷ 49 ∷ 54 ∷ 70 ∷ 78 ∷ 78 ∷ 85 ∷ 91 ∷ 92 ∷ []
+starts = 0 ∷ 3 ∷ 9 ∷ 16 ∷ 23 ∷ 32 ∷ 38 ∷ 43 ∷ 51 ∷ 59 ∷ 65 ∷ 70 ∷ 86 ∷ 94 ∷ 94 ∷ 101 ∷ 107 ∷ 108 ∷ []
 
 -- one computed test for the whole table
-pub at : (k : ℕ) → k < 15 → Entry table starts typeWord k
+pub at : (k : ℕ) → k < 17 → Entry table starts typeWord k
 unfolding words right rightBelow same text
-at k h = entry table starts typeWord 15 refl k h
+at k h = entry table starts typeWord 17 refl k h
 
-pub rises : (k : ℕ) → k < 15 → getD starts k 0 ≤ getD starts (k + 1) 0
+pub rises : (k : ℕ) → k < 17 → getD starts k 0 ≤ getD starts (k + 1) 0
 rises k h = at k h .start
 
-rank-below : (a : types.Scalar) → rank a < 15
+rank-below : (a : types.Scalar) → rank a < 17
 rank-below types.long = lit< tt
 rank-below types.string = lit< tt
 rank-below types.decimal = lit< tt
@@ -44,8 +44,10 @@ rank-below types.bool = lit< tt
 rank-below types.timepoint = lit< tt
 rank-below types.object = lit< tt
 rank-below types.never = lit< tt
+rank-below types.datetime = lit< tt
+rank-below types.duration = lit< tt
 
-word-below : (f : Form) (x : Base) → wordOf f x < 15
+word-below : (f : Form) (x : Base) → wordOf f x < 17
 word-below f (Base.Plain a) = rank-below (scalarOf a)
 word-below Form.Display (Base.Tagged t) = lit< tt
 word-below Form.Render (Base.Tagged t) = lit< tt
@@ -54,7 +56,7 @@ word-below f Base.AnyArray = lit< tt
 word-below Form.Display Base.MixedArray = lit< tt
 word-below Form.Render Base.MixedArray = lit< tt
 
-pub below : (f : Form) (x : Base) (k : ℕ) → k ≡ wordOf f x → k < 15
+pub below : (f : Form) (x : Base) (k : ℕ) → k ≡ wordOf f x → k < 17
 below f x k is = rw is (word-below f x)
 
 scalar-word : (a : types.Scalar) → word a ≡ typeWord (rank a)
@@ -66,6 +68,8 @@ scalar-word types.bool = refl
 scalar-word types.timepoint = refl
 scalar-word types.object = refl
 scalar-word types.never = refl
+scalar-word types.datetime = refl
+scalar-word types.duration = refl
 
 module _ (s c : List ℕ) where
   pub base-text : (f : Form) (x : Base) → textBy f (baseOf s c x) ≡ typeWord (wordOf f x) ++ tagPart s c x
@@ -98,7 +102,7 @@ pub repeated-room : (i n : ℕ) (s : List ℕ) → i < n → length (repeated i 
 repeated-room i n s h = rw (length-repeated i s, length-repeated n s, ← suc-mul i (length s)) (mul-le-mul-right (length s) h)
 
 -- the opening of each layer, the text under them, and the closing of each layer
-pub layers-text : (f : Form) (n : ℕ) (t : Ty) → textBy f (layered n t) ≡ repeated n (typeWord 13) ++ textBy f t ++ repeated n (typeWord 14)
+pub layers-text : (f : Form) (n : ℕ) (t : Ty) → textBy f (layered n t) ≡ repeated n (typeWord 15) ++ textBy f t ++ repeated n (typeWord 16)
 unfolding layered repeated words
 layers-text f zero t = sym (append-nil (textBy f t))
 layers-text f (suc n) t =
@@ -118,5 +122,5 @@ layers-text f (suc n) t =
       append-assoc (os ++ o) w (zs ++ z),
     )
 
-pub layers-length : (f : Form) (n : ℕ) (t : Ty) → length (textBy f (layered n t)) ≡ length (repeated n (typeWord 13)) + length (textBy f t) + length (repeated n (typeWord 14))
+pub layers-length : (f : Form) (n : ℕ) (t : Ty) → length (textBy f (layered n t)) ≡ length (repeated n (typeWord 15)) + length (textBy f t) + length (repeated n (typeWord 16))
 layers-length f n t = rw (layers-text f n t, length-append, length-append)

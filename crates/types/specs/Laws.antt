@@ -2,4 +2,5 @@
 pub mod Types
 pub mod Texts
 pub mod Relations
+pub mod Order
 pub mod Profiles

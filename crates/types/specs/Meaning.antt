@@ -1,7 +1,7 @@
 -- What the code's types mean, given the bytes of the schema and of the condition.
 use Prim.Native.Nat.{ℕ, zero, suc}
 use mathlib.Core.List.{List, []}
-use mathlib.Core.Option.{none, some}
+use mathlib.Core.Option.{Option, none, some}
 use lib.ListN.{take, drop}
 use Rattle.types.specs.Types.{Ty, scalar, entity, anyArray, mixedArray, array}
 use Rattle.types.specs.Types as types
@@ -9,6 +9,8 @@ use Rattle.types.specs.declared.Profile.{Profile}
 use Rattle.types.specs.declared.Profile.the-variants as Profile
 use Rattle.types.specs.declared.Scalar.{Scalar}
 use Rattle.types.specs.declared.Scalar.the-variants as Scalar
+use Rattle.types.specs.declared.TimeType.{TimeType}
+use Rattle.types.specs.declared.TimeType.the-variants as TimeType
 use Rattle.types.specs.declared.Source.{Source}
 use Rattle.types.specs.declared.Source.the-variants as Source
 use Rattle.types.specs.declared.Tag.{Tag}
@@ -24,6 +26,13 @@ scalarOf Scalar.Bool = types.bool
 scalarOf Scalar.Timepoint = types.timepoint
 scalarOf Scalar.Object = types.object
 scalarOf Scalar.Never = types.never
+scalarOf Scalar.Datetime = types.datetime
+scalarOf Scalar.Duration = types.duration
+
+-- the type that an answer of `time_type` names
+abbrev pub timeOf : TimeType → Option types.Scalar
+timeOf (TimeType.As a) = some (scalarOf a)
+timeOf TimeType.Nothing = none
 
 -- the profile that the code's enum stands for
 abbrev pub profileIn : Profile → types.Profile

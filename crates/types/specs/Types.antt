@@ -1,6 +1,6 @@
 -- The types that the checks compare, and their two tests and two renderings.
 use Prim.Native.Nat.{ℕ}
-use mathlib.Core.Bool.{Bool, true, false, _&&_}
+use mathlib.Core.Bool.{Bool, true, false, cond, _&&_, _||_}
 use mathlib.Core.List.{List, _++_}
 use mathlib.Core.Option.{Option, none, some}
 use lib.Dec.{eqb}
@@ -8,7 +8,7 @@ use Rattle.names.specs.Text.{text}
 use Rattle.names.specs.Names.{same}
 
 pub data Scalar : Type 0 where
-  long string decimal bool timepoint object never : Scalar
+  long string decimal bool timepoint object never datetime duration : Scalar
 
 pub data Ty : Type 0 where
   scalar : Scalar → Ty
@@ -26,6 +26,8 @@ rank bool = 3
 rank timepoint = 4
 rank object = 5
 rank never = 6
+rank datetime = 7
+rank duration = 8
 
 abbrev pub sameScalar : Scalar → Scalar → Bool
 sameScalar a b = eqb (rank a) (rank b)
@@ -97,9 +99,17 @@ compatible p = fits (tagsUnder p) true
 abbrev pub isNumeric : Ty → Bool
 isNumeric t = sameType t (scalar long)
 
--- what order wants of its two sides: two numbers
+-- the two types that are no numbers and have an order
+abbrev pub isTime : Ty → Bool
+isTime t = sameType t (scalar datetime) || sameType t (scalar duration)
+
+-- the types that have an order
+abbrev pub hasOrder : Ty → Bool
+hasOrder t = isNumeric t || isTime t
+
+-- what order wants of its two sides: two of one type that has an order
 abbrev pub areOrdered : Ty → Ty → Bool
-areOrdered l r = isNumeric l && isNumeric r
+areOrdered l r = hasOrder l && sameType l r
 
 abbrev pub word : Scalar → List ℕ
 word long = text "int"
@@ -109,6 +119,17 @@ word bool = text "boolean"
 word timepoint = text "timepoint"
 word object = text "object"
 word never = text "never"
+word datetime = text "datetime"
+word duration = text "duration"
+
+-- the words that name types: those of the published Rust, or those and `datetime` and `duration`
+pub data Vocabulary : Type 0 where
+  published dated : Vocabulary
+
+-- the type of its own that one of these two words names
+unfoldable pub timeType : Vocabulary → List ℕ → Option Scalar
+timeType published w = none
+timeType dated w = cond (same w (word datetime)) (some datetime) (cond (same w (word duration)) (some duration) none)
 
 unfoldable pub render : Ty → List ℕ
 render (scalar a) = word a

@@ -18,26 +18,26 @@ textBy Form.Render = render
 -- as rendered, what stands before a tag as displayed and as rendered, and what opens and closes a layer
 unfoldable pub words : List (List ℕ)
 words =
-    text "int" ∷ text "string" ∷ text "decimal" ∷ text "boolean" ∷ text "timepoint" ∷ text "object" ∷ text "never"
-    ∷ text "entity" ∷ text "array" ∷ text "mixed-type array" ∷ text "array<?>" ∷ text "" ∷ text "entity:" ∷ text "array<" ∷ text ">" ∷ []
+    text "int" ∷ text "string" ∷ text "decimal" ∷ text "boolean" ∷ text "timepoint" ∷ text "object" ∷ text "never" ∷ text "datetime"
+    ∷ text "duration" ∷ text "entity" ∷ text "array" ∷ text "mixed-type array" ∷ text "array<?>" ∷ text "" ∷ text "entity:" ∷ text "array<" ∷ text ">" ∷ []
 
 abbrev pub typeWord : ℕ → List ℕ
 typeWord k = getD words k []
 
 abbrev pub mixedWord : Form → ℕ
-mixedWord Form.Display = 9
-mixedWord Form.Render = 10
+mixedWord Form.Display = 11
+mixedWord Form.Render = 12
 
 abbrev pub tagMark : Form → ℕ
-tagMark Form.Display = 11
-tagMark Form.Render = 12
+tagMark Form.Display = 13
+tagMark Form.Render = 14
 
 -- the word of a base, which its tag follows where it has one
 abbrev pub wordOf : Form → Base → ℕ
 wordOf f (Base.Plain a) = rank (scalarOf a)
 wordOf f (Base.Tagged t) = tagMark f
-wordOf f Base.Untagged = 7
-wordOf f Base.AnyArray = 8
+wordOf f Base.Untagged = 9
+wordOf f Base.AnyArray = 10
 wordOf f Base.MixedArray = mixedWord f
 
 -- n times s

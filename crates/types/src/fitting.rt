@@ -8,7 +8,7 @@ use crate::Test;
 use crate::tags::tag_bytes;
 ghost use mathlib.Core.Path.{_≡_};
 ghost use mathlib.Core.Option.{some};
-ghost use Rattle.types.specs.Types.{rank, scalar, entity, timepoint, sameType, accepts, compatible, isNumeric, areOrdered};
+ghost use Rattle.types.specs.Types.{rank, scalar, entity, timepoint, sameType, accepts, compatible, isNumeric, hasOrder, areOrdered};
 ghost use Rattle.types.specs.Meaning.{scalarOf, profileIn, tagOf, baseOf, richOf};
 ghost use Rattle.types.specs.Rules.{isPlain, anyTags, loose, tagsBy, fitsBy, plainFits, untaggedFits, anyArrayFits, mixedArrayFits, unknownFits};
 
@@ -23,6 +23,8 @@ pub fn rank_of(s: Scalar) -> usize
         Scalar::Timepoint => 4,
         Scalar::Object => 5,
         Scalar::Never => 6,
+        Scalar::Datetime => 7,
+        Scalar::Duration => 8,
     }
 }
 
@@ -202,22 +204,42 @@ pub fn compatible<'a>(
     fits(schema, condition, Test::Compatible(profile), left, right)
 }
 
+// Whether a type is this scalar, with no layer.
+fn is_scalar<'a>(schema: &'a [u8], condition: &'a [u8], t: Rich, a: Scalar) -> bool
+    ensures { λ r. ⌜ r ≡ sameType (richOf (now (schema .entry)) (now (condition .entry)) t) (scalar (scalarOf a)) ⌝ }
+{
+    let wanted = Rich {
+        layers: 0,
+        base: Base::Plain(a),
+    };
+    equal(schema, condition, t, wanted)
+}
+
 pub fn is_numeric<'a>(schema: &'a [u8], condition: &'a [u8], t: Rich) -> bool
     ensures { λ r. ⌜ r ≡ isNumeric (richOf (now (schema .entry)) (now (condition .entry)) t) ⌝ }
 {
-    let long = Rich {
-        layers: 0,
-        base: Base::Plain(Scalar::Long),
-    };
-    equal(schema, condition, t, long)
+    is_scalar(schema, condition, t, Scalar::Long)
+}
+
+// Whether a type has an order.
+fn has_order<'a>(schema: &'a [u8], condition: &'a [u8], t: Rich) -> bool
+    ensures { λ r. ⌜ r ≡ hasOrder (richOf (now (schema .entry)) (now (condition .entry)) t) ⌝ }
+{
+    if is_scalar(schema, condition, t, Scalar::Long) {
+        return true;
+    }
+    if is_scalar(schema, condition, t, Scalar::Datetime) {
+        return true;
+    }
+    is_scalar(schema, condition, t, Scalar::Duration)
 }
 
 // Whether two types may stand on the sides of an order.
 pub fn are_ordered<'a>(schema: &'a [u8], condition: &'a [u8], l: Rich, r: Rich) -> bool
     ensures { λ b. ⌜ b ≡ areOrdered (richOf (now (schema .entry)) (now (condition .entry)) l) (richOf (now (schema .entry)) (now (condition .entry)) r) ⌝ }
 {
-    if is_numeric(schema, condition, l) {
-        return is_numeric(schema, condition, r);
+    if has_order(schema, condition, l) {
+        return equal(schema, condition, l, r);
     }
     false
 }
@@ -225,9 +247,5 @@ pub fn are_ordered<'a>(schema: &'a [u8], condition: &'a [u8], l: Rich, r: Rich) 
 pub fn is_timepoint<'a>(schema: &'a [u8], condition: &'a [u8], t: Rich) -> bool
     ensures { λ r. ⌜ r ≡ sameType (richOf (now (schema .entry)) (now (condition .entry)) t) (scalar timepoint) ⌝ }
 {
-    let timepoint = Rich {
-        layers: 0,
-        base: Base::Plain(Scalar::Timepoint),
-    };
-    equal(schema, condition, t, timepoint)
+    is_scalar(schema, condition, t, Scalar::Timepoint)
 }

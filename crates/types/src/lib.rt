@@ -2,6 +2,7 @@
 mod fitting;
 mod tags;
 mod texts;
+mod times;
 
 pub use fitting::accepts;
 pub use fitting::are_ordered;
@@ -13,6 +14,7 @@ pub use tags::tag_bytes;
 pub use texts::display;
 pub use texts::render;
 pub use texts::text_length;
+pub use times::time_type;
 
 pub enum Scalar {
     Long,
@@ -22,6 +24,14 @@ pub enum Scalar {
     Timepoint,
     Object,
     Never,
+    Datetime,
+    Duration,
+}
+
+// The type that a word names, where it is `datetime` or `duration`.
+pub enum TimeType {
+    As(Scalar),
+    Nothing,
 }
 
 // The record that holds a tag.

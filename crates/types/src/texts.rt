@@ -13,25 +13,44 @@ ghost use Rattle.types.specs.Meaning.{baseOf, richOf};
 ghost use Rattle.types.specs.Words.{textBy, typeWord, mixedWord, tagMark, wordOf, repeated};
 
 // The words, one behind the other, and where each starts and the last one ends.
-const WORDS: [u8; 92] =
-    *b"intstringdecimalbooleantimepointobjectneverentityarraymixed-type arrayarray<?>entity:array<>";
+const WORDS: [u8; 108] =
+    *b"intstringdecimalbooleantimepointobjectneverdatetimedurationentityarraymixed-type arrayarray<?>entity:array<>";
 
-const STARTS: [usize; 16] = [0, 3, 9, 16, 23, 32, 38, 43, 49, 54, 70, 78, 78, 85, 91, 92];
+const STARTS: [usize; 18] = [
+    0,
+    3,
+    9,
+    16,
+    23,
+    32,
+    38,
+    43,
+    51,
+    59,
+    65,
+    70,
+    86,
+    94,
+    94,
+    101,
+    107,
+    108,
+];
 
-const ENTITY: usize = 7;
+const ENTITY: usize = 9;
 
-const ARRAY: usize = 8;
+const ARRAY: usize = 10;
 
-const OPEN: usize = 13;
+const OPEN: usize = 15;
 
-const CLOSE: usize = 14;
+const CLOSE: usize = 16;
 
 fn mixed_word(form: Form) -> usize
     ensures { λ r. ⌜ r ≡ mixedWord form ⌝ }
 {
     match form {
-        Form::Display => 9,
-        Form::Render => 10,
+        Form::Display => 11,
+        Form::Render => 12,
     }
 }
 
@@ -39,8 +58,8 @@ fn tag_mark(form: Form) -> usize
     ensures { λ r. ⌜ r ≡ tagMark form ⌝ }
 {
     match form {
-        Form::Display => 11,
-        Form::Render => 12,
+        Form::Display => 13,
+        Form::Render => 14,
     }
 }
 
@@ -58,14 +77,14 @@ fn word_of(form: Form, base: Base) -> usize
 }
 
 fn word_length(k: usize) -> usize
-    requires { ⌜ k < 15 ⌝ }
+    requires { ⌜ k < 17 ⌝ }
     ensures { λ r. ⌜ r ≡ length (typeWord k) ⌝ }
 {
     STARTS[k + 1] - STARTS[k]
 }
 
 fn put_word(buf: &mut [u8], at: usize, k: usize) -> usize
-    requires { ⌜ (k < 15) × (at + length (typeWord k) ≤ length (now buf)) ⌝ }
+    requires { ⌜ (k < 17) × (at + length (typeWord k) ≤ length (now buf)) ⌝ }
     ensures { λ r. ⌜ Stored (now (buf .entry)) at (typeWord k) (now (buf .exit)) r ⌝ }
 {
     let start = STARTS[k];
@@ -75,7 +94,7 @@ fn put_word(buf: &mut [u8], at: usize, k: usize) -> usize
 }
 
 fn put_words(buf: &mut [u8], at: usize, k: usize, n: usize) -> usize
-    requires { ⌜ (k < 15) × (at + length (repeated n (typeWord k)) ≤ length (now buf)) ⌝ }
+    requires { ⌜ (k < 17) × (at + length (repeated n (typeWord k)) ≤ length (now buf)) ⌝ }
     ensures { λ r. ⌜ Stored (now (buf .entry)) at (repeated n (typeWord k)) (now (buf .exit)) r ⌝ }
 {
     let mut next = at;

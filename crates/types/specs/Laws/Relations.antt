@@ -1,5 +1,6 @@
 -- The laws that rule writers rely on, and what does not hold. A scalar of its own adds a line to `unrank` and one to `unranked`. Assumes nothing.
 --     fits-itself, fits-swapped, fits-more     of `fits`, over any test of tags
+--     same-swapped                             of the test of two strings
 --     tag-itself, tag-swapped                  of the test of two tags
 --     relied, relied-in-code, refuted          the statements of Relations.antt
 use mathlib.Core.Path.{_≡_, refl, sym, ap, _∙_}
@@ -12,7 +13,7 @@ use borrow.Author.Tests.{eqb-true, eq-eqb}
 use Rattle.names.specs.Names.{same}
 use Rattle.names.specs.Text.{text}
 use Rattle.names.specs.Laws.Names.{same-refl, same-eq}
-use Rattle.types.specs.Types.{Scalar, long, string, decimal, bool, timepoint, object, never, Ty, scalar, entity, anyArray, mixedArray, array, rank, sameTag, tagFits, fits, plain, sameType, accepts, compatible}
+use Rattle.types.specs.Types.{Scalar, long, string, decimal, bool, timepoint, object, never, datetime, duration, Ty, scalar, entity, anyArray, mixedArray, array, rank, sameTag, tagFits, fits, plain, sameType, accepts, compatible}
 use Rattle.types.specs.Meaning.{richOf}
 use Rattle.types.specs.Relations.{isKnown, isTagged, Relied, ReliedInCode, Refuted}
 
@@ -28,7 +29,7 @@ both-ways p itself equal x y = go (p x y) (p y x) refl refl
 scalar-swapped : (a b : ℕ) → eqb a b ≡ eqb b a
 scalar-swapped = both-ways eqb (λ a. eq-eqb a a refl) eqb-true
 
-same-swapped : (x y : List ℕ) → same x y ≡ same y x
+pub same-swapped : (x y : List ℕ) → same x y ≡ same y x
 same-swapped = both-ways same same-refl same-eq
 
 module _ (tags : Option (List ℕ) → Option (List ℕ) → Bool) (unknown : Bool) where
@@ -198,7 +199,7 @@ tag-swapped (some x) (some y) = same-swapped x y
 -- ---- equality by structure is equality
 
 unrank : ℕ → Scalar
-unrank n = cond (eqb n 0) long (cond (eqb n 1) string (cond (eqb n 2) decimal (cond (eqb n 3) bool (cond (eqb n 4) timepoint (cond (eqb n 5) object never)))))
+unrank n = cond (eqb n 0) long (cond (eqb n 1) string (cond (eqb n 2) decimal (cond (eqb n 3) bool (cond (eqb n 4) timepoint (cond (eqb n 5) object (cond (eqb n 6) never (cond (eqb n 7) datetime duration)))))))
 
 unranked : (a : Scalar) → unrank (rank a) ≡ a
 unfolding unrank
@@ -209,6 +210,8 @@ unranked bool = refl
 unranked timepoint = refl
 unranked object = refl
 unranked never = refl
+unranked datetime = refl
+unranked duration = refl
 
 scalar-equal : (a b : Scalar) → eqb (rank a) (rank b) ≡ true → a ≡ b
 scalar-equal a b h = sym (unranked a) ∙ ap unrank (eqb-true (rank a) (rank b) h) ∙ unranked b

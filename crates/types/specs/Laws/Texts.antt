@@ -13,7 +13,7 @@ use native.Mathlib.Omega.{arith}
 use lib.ListN.{length, length-append, length-take}
 use lib.Dec.{lit≤}
 use Rattle.names.specs.Text.{text}
-use Rattle.types.specs.Types.{Ty, scalar, entity, anyArray, mixedArray, array, Scalar, long, string, decimal, bool, timepoint, object, never, word, display, render}
+use Rattle.types.specs.Types.{Ty, scalar, entity, anyArray, mixedArray, array, Scalar, long, string, decimal, bool, timepoint, object, never, datetime, duration, word, display, render}
 use Rattle.types.specs.Meaning.{tagPart, baseOf, layered, richOf}
 use Rattle.types.specs.Words.{textBy}
 use Rattle.types.specs.declared.Base.{Base}
@@ -71,6 +71,8 @@ word-bound bool = lit≤ tt
 word-bound timepoint = lit≤ tt
 word-bound object = lit≤ tt
 word-bound never = lit≤ tt
+word-bound datetime = lit≤ tt
+word-bound duration = lit≤ tt
 
 layers-bound : (f : Form) (t : Ty) → length (tagIn t) ≤ 255 → length (textBy f t) ≤ layersIn t * 7 + longest f
 unfolding display render layersIn tagIn text

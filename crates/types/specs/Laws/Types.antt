@@ -2,13 +2,14 @@
 --     any-array, any-array-right     an array of unknown elements passes with every array and with nothing else
 --     any-array-inside               and so does one under layers, beside an array under as many
 --     layers-same                    layers on both sides are taken off
+--     scalar-alone                   a scalar passes every test with itself alone
 --     only-long                      only Long is numeric
 use mathlib.Core.Path.{_≡_, refl}
 use mathlib.Core.Bool.{Bool, true, false}
 use mathlib.Core.List.{List}
 use mathlib.Core.Option.{Option}
 use Prim.Native.Nat.{ℕ, zero, suc}
-use Rattle.types.specs.Types.{Ty, scalar, entity, anyArray, mixedArray, array, long, string, decimal, bool, timepoint, object, never, fits, compatible, isNumeric}
+use Rattle.types.specs.Types.{Ty, Scalar, scalar, entity, anyArray, mixedArray, array, long, string, decimal, bool, timepoint, object, never, datetime, duration, fits, sameType, compatible, isNumeric}
 use Rattle.types.specs.Meaning.{layered}
 
 -- an array: of unknown elements, of mixed ones, or of one type
@@ -37,6 +38,14 @@ module _ (tags : Option (List ℕ) → Option (List ℕ) → Bool) where
   any-array-right (array t) = refl
 
   module _ (u : Bool) where
+    pub scalar-alone : (a : Scalar) (t : Ty) → fits tags u (scalar a) t ≡ sameType (scalar a) t
+    unfolding fits
+    scalar-alone a (scalar b) = refl
+    scalar-alone a (entity e) = refl
+    scalar-alone a anyArray = refl
+    scalar-alone a mixedArray = refl
+    scalar-alone a (array t) = refl
+
     pub layers-same : (n : ℕ) (a b : Ty) → fits tags u (layered n a) (layered n b) ≡ fits tags u a b
     unfolding fits layered
     layers-same zero a b = refl
@@ -62,6 +71,8 @@ only-long (scalar bool) h = cc
 only-long (scalar timepoint) h = cc
 only-long (scalar object) h = cc
 only-long (scalar never) h = cc
+only-long (scalar datetime) h = cc
+only-long (scalar duration) h = cc
 only-long (entity e) h = cc
 only-long anyArray h = cc
 only-long mixedArray h = cc

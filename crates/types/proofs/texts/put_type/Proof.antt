@@ -15,18 +15,18 @@ use Rattle.types.proofs.texts.put_type.Statement.{statement}
 use Rattle.types.proofs.texts.put_type.Tie as tie
 
 module _ (f : Form) (n : ℕ) (b : Ty) (s : List ℕ) (at : ℕ) (room : at + length (textBy f (layered n b)) ≤ length s) where
-  open-room : at + length (repeated n (typeWord 13)) ≤ length s
+  open-room : at + length (repeated n (typeWord 15)) ≤ length s
   open-room = omega (arith, layers-length f n b)
 
-  module _ (t : List ℕ) (m : ℕ) (opened : Stored s at (repeated n (typeWord 13)) t m) where
+  module _ (t : List ℕ) (m : ℕ) (opened : Stored s at (repeated n (typeWord 15)) t m) where
     base-room : m + length (textBy f b) ≤ length t
     base-room = omega (arith, layers-length f n b, opened .next, stored-length opened)
 
     module _ (u : List ℕ) (p : ℕ) (named : Stored t m (textBy f b) u p) where
-      close-room : p + length (repeated n (typeWord 14)) ≤ length u
+      close-room : p + length (repeated n (typeWord 16)) ≤ length u
       close-room = omega (arith, layers-length f n b, opened .next, named .next, stored-length opened, stored-length named)
 
-      all : (v : List ℕ) (r : ℕ) → Stored u p (repeated n (typeWord 14)) v r → Stored s at (textBy f (layered n b)) v r
+      all : (v : List ℕ) (r : ℕ) → Stored u p (repeated n (typeWord 16)) v r → Stored s at (textBy f (layered n b)) v r
       all v r closed = rw (layers-text f n b) (stored-more (stored-more opened named) closed)
 
 ruleset steps = (needs, open-room, base-room, close-room, all)

@@ -10,7 +10,7 @@ use borrow.Author.Needs.{needs}
 use Rattle.types.proofs.texts.put_word.Statement.{statement}
 use Rattle.types.proofs.texts.put_word.Tie as tie
 
-module _ (k : ℕ) (h : k < 15) where
+module _ (k : ℕ) (h : k < 17) where
   ends : getD starts (k + 1) 0 ≤ length table
   ends = at k h .end
 

@@ -9,7 +9,7 @@ use borrow.Author.Needs.{needs}
 use Rattle.types.proofs.texts.word_length.Statement.{statement}
 use Rattle.types.proofs.texts.word_length.Tie as tie
 
-module _ (k : ℕ) (h : k < 15) where
+module _ (k : ℕ) (h : k < 17) where
   between : getD starts (k + 1) 0 - getD starts k 0 ≡ length (typeWord k)
   between =
       let e = at k h in
