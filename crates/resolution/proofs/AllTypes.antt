@@ -20,7 +20,7 @@ use Rattle.names.specs.declared.Found.the-variants as Found
 use Rattle.names.specs.declared.Row.{Row}
 use Rattle.targets.specs.Targets.{Narrowing}
 use Rattle.resolution.specs.Resolution as Resolution
-use Rattle.resolution.specs.Resolution.{OnType, ambiguous, unknown, typed, typesOf, failed, agreed, failure, verdict, onEntity, onTypes, declaredAll, admittedBy, admitted, scopePath, renderings}
+use Rattle.resolution.specs.Resolution.{OnType, ambiguous, unknown, typed, typesOf, failed, agreed, failure, verdict, onEntity, onTypesBy, onTypes, declaredAll, admittedBy, admitted, scopePathBy, scopePath, renderings}
 use Rattle.resolution.specs.Places.{areSegments, segmentsIn, Behind, areTypes, typesIn, nextIn, Follows, nextFollows, NextOf, nextOf, NextPlaced, endOf, smallEnd, smallPath}
 use Rattle.resolution.specs.Passes.{scopeOf, briefly, endAlone, endBeside, endAmong, withEnd, aloneOf, amongOf}
 use Rattle.resolution.specs.declared.NextNear.{NextNear}
@@ -203,7 +203,7 @@ over S head rest a names = maybe unknown (λ es. onward a (onTypes head rest es)
 
 module _ (S : Schema) (head : List ℕ) (rest : List (List ℕ)) where
   over-all : (o : Option Narrowing) (names : List (List ℕ)) → over S head rest unknown (select (admittedBy S o) names) ≡ briefly (scopePath S o names (head ∷ rest))
-  unfolding scopePath admitted briefly
+  unfolding scopePathBy admitted briefly
   over-all o names = go (declaredAll S (select (admittedBy S o) names))
     where
       go : (d : Option (List EntityType)) → maybe unknown (λ es. onward unknown (onTypes head rest es)) d ≡ briefly (maybe unknown (λ es. verdict (onTypes head rest es)) d)
@@ -216,7 +216,7 @@ module _ (S : Schema) (head : List ℕ) (rest : List (List ℕ)) where
     over-undeclared e = rw e
 
     over-declared : (e : EntityType) → findEntity S name ≡ some e → over S head rest a (name ∷ names) ≡ over S head rest (withEnd a (onEntity head rest e)) names
-    unfolding declaredAll onward onTypes
+    unfolding declaredAll onward onTypesBy
     over-declared e i = rw i (go (declaredAll S names))
       where
         go : (d : Option (List EntityType)) → maybe unknown (λ es. onward a (onTypes head rest es)) (maybe none (λ es. some (e ∷ es)) d) ≡ maybe unknown (λ es. onward (withEnd a (onEntity head rest e)) (onTypes head rest es)) d
@@ -254,7 +254,7 @@ module _ (s c : List ℕ) (N : Option Narrowing) (head : ℕ) (rest : Row) (o : 
 
   module _ (row : Row) (a : ScopePath) (l : Passing row a) (x : NextNear) (next : NextPlaced s (admittedBy (schemaIn s) N) row x) where
     pub pass-over : x ≡ NextNear.Over → scopeOf s c a ≡ o
-    unfolding declaredAll onTypes onward
+    unfolding declaredAll onTypesBy onward
     pass-over e = rw (← (rw e at (next .next .value))) at (l .same)
 
     module _ (p : ℕ) (others near : Row) (e : x ≡ NextNear.Name p others near) where
@@ -294,7 +294,7 @@ pub ruleset passing = (needs, pass-start, pass-over, pass-small, pass-fewer, pas
 -- The whole path.
 module _ (s c : List ℕ) (S : Schema) (N : Option Narrowing) (names : List (List ℕ)) (path : Row) (are : areSegments c path ≡ true) where
   pub scope-empty : path .count ≡ 0 → scopeOf s c ScopePath.Unknown ≡ briefly (scopePath S N names (segmentsIn c path))
-  unfolding scopePath briefly
+  unfolding scopePathBy briefly
   scope-empty e = rw (← no-segments c path are (omega arith))
 
   pub scope-whole : (rest : Row) → Behind c path rest → (r : ScopePath) → scopeOf s c r ≡ briefly (scopePath S N names (wordAt c (path .at) ∷ segmentsIn c rest)) → scopeOf s c r ≡ briefly (scopePath S N names (segmentsIn c path))

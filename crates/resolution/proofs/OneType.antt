@@ -20,7 +20,7 @@ use Rattle.schema.specs.Find.{findAttribute}
 use Rattle.schema.specs.Places.{areFields, fieldsIn, entityIn, Standing}
 use Rattle.names.specs.declared.Row.{Row}
 use Rattle.resolution.specs.Resolution as Resolution
-use Rattle.resolution.specs.Resolution.{headMissing, nestedMissing, nested, descend, resolveIn, projection, unattributed, onEntity}
+use Rattle.resolution.specs.Resolution.{headMissing, nestedMissing, nested, descend, resolveInBy, resolveIn, projection, unattributed, onEntityBy, onEntity}
 use Rattle.resolution.specs.Places.{areSegments, segmentsIn, resolutionOf, endOf, smallResolution, smallEnd}
 use Rattle.resolution.specs.declared.PathResolution.{PathResolution}
 use Rattle.resolution.specs.declared.PathResolution.the-variants as PathResolution
@@ -71,7 +71,7 @@ of-nested other (Resolution.PathEnd.missing segment) = refl
 of-nested other (Resolution.PathEnd.nonRecord segment) = refl
 
 by-resolution : (segment : List ℕ) (rest : List (List ℕ)) (e : EntityType) → onResolution (unattributed segment rest) (resolveIn (e .attributes) segment rest) ≡ onEntity segment rest e
-unfolding resolveIn onEntity
+unfolding resolveInBy onEntityBy
 by-resolution segment rest e = go (findAttribute (e .attributes) segment)
   where
     go : (o : Option Declared) → onResolution (unattributed segment rest) (maybe headMissing (λ t. nested (descend t rest)) o) ≡ maybe (unattributed segment rest) (λ t. descend t rest) o

@@ -7,9 +7,9 @@ use Rattle.names.specs.Lists.{maybe, first, anyOf, every, select}
 use Rattle.names.specs.Names.{same, below, simpleName, joined}
 use Rattle.names.specs.Text.{text}
 use Rattle.types.specs.Types as types
-use Rattle.types.specs.Types.{Ty, scalar, render, sameType}
+use Rattle.types.specs.Types.{Ty, Vocabulary, dated, scalar, render, sameType}
 use Rattle.schema.specs.Schema.{Schema, Action, EntityType, Declared, Attributes}
-use Rattle.schema.specs.Find.{findAction, findEntity, findAttribute, fieldsOf, richType}
+use Rattle.schema.specs.Find.{findAction, findEntity, findAttribute, fieldsOf, richTypeBy}
 use Rattle.targets.specs.Targets.{Narrowing, Scope, any, isType, uid}
 
 -- how an attribute path ends on one type (the `Result` of `resolve_one`)
@@ -19,12 +19,15 @@ pub data PathEnd : Type 0 where
   missing nonRecord : List ℕ → PathEnd
 
 -- on from a type, by the segments that are left
-unfoldable pub descend : Declared → List (List ℕ) → PathEnd
-descend t [] = resolved (richType t)
-descend t (segment ∷ rest) =
+unfoldable pub descendBy : Vocabulary → Declared → List (List ℕ) → PathEnd
+descendBy v t [] = resolved (richTypeBy v t)
+descendBy v t (segment ∷ rest) =
     maybe (nonRecord segment)
-    (λ fields. maybe (missing segment) (λ u. descend u rest) (findAttribute fields segment))
+    (λ fields. maybe (missing segment) (λ u. descendBy v u rest) (findAttribute fields segment))
     (fieldsOf t)
+
+abbrev pub descend : Declared → List (List ℕ) → PathEnd
+descend = descendBy dated
 
 unfoldable pub typed : PathEnd → Option Ty
 typed (resolved t) = some t
@@ -44,13 +47,19 @@ nested (PathEnd.missing segment) = nestedMissing segment
 nested (PathEnd.nonRecord segment) = PathResolution.nonRecord segment
 
 -- `resolve_in`
-unfoldable pub resolveIn : Attributes → List ℕ → List (List ℕ) → PathResolution
-resolveIn fields head rest = maybe headMissing (λ t. nested (descend t rest)) (findAttribute fields head)
+unfoldable pub resolveInBy : Vocabulary → Attributes → List ℕ → List (List ℕ) → PathResolution
+resolveInBy v fields head rest = maybe headMissing (λ t. nested (descendBy v t rest)) (findAttribute fields head)
+
+abbrev pub resolveIn : Attributes → List ℕ → List (List ℕ) → PathResolution
+resolveIn = resolveInBy dated
 
 -- `resolve_context_path`: a context that is no record has no head either
-unfoldable pub contextPath : Declared → List (List ℕ) → PathResolution
-contextPath context [] = headMissing
-contextPath context (head ∷ rest) = maybe headMissing (λ fields. resolveIn fields head rest) (fieldsOf context)
+unfoldable pub contextPathBy : Vocabulary → Declared → List (List ℕ) → PathResolution
+contextPathBy v context [] = headMissing
+contextPathBy v context (head ∷ rest) = maybe headMissing (λ fields. resolveInBy v fields head rest) (fieldsOf context)
+
+abbrev pub contextPath : Declared → List (List ℕ) → PathResolution
+contextPath = contextPathBy dated
 
 abbrev pub typeAtEnd : PathResolution → Option Ty
 typeAtEnd (PathResolution.resolved t) = some t
@@ -58,8 +67,11 @@ typeAtEnd headMissing = none
 typeAtEnd (nestedMissing segment) = none
 typeAtEnd (PathResolution.nonRecord segment) = none
 
-unfoldable pub contextType : Option Action → List (List ℕ) → Option Ty
-contextType action path = maybe none (λ a. typeAtEnd (contextPath (a .context) path)) action
+unfoldable pub contextTypeBy : Vocabulary → Option Action → List (List ℕ) → Option Ty
+contextTypeBy v action path = maybe none (λ a. typeAtEnd (contextPathBy v (a .context) path)) action
+
+abbrev pub contextType : Option Action → List (List ℕ) → Option Ty
+contextType = contextTypeBy dated
 
 -- an undeclared entity type has no ancestors
 unfoldable pub ancestorsOf : Schema → List ℕ → List (List ℕ)
@@ -108,17 +120,23 @@ unattributed segment rest =
     cond (same segment (text "id") || same segment (text "type")) (projection segment rest) (missing segment)
 
 -- `resolve_one`: an attribute path on one entity type
-unfoldable pub onEntity : List ℕ → List (List ℕ) → EntityType → PathEnd
-onEntity segment rest e = maybe (unattributed segment rest) (λ t. descend t rest) (findAttribute (e .attributes) segment)
+unfoldable pub onEntityBy : Vocabulary → List ℕ → List (List ℕ) → EntityType → PathEnd
+onEntityBy v segment rest e = maybe (unattributed segment rest) (λ t. descendBy v t rest) (findAttribute (e .attributes) segment)
+
+abbrev pub onEntity : List ℕ → List (List ℕ) → EntityType → PathEnd
+onEntity = onEntityBy dated
 
 -- an entity type's name and how the path ends on it
 pub record OnType : Type 0 where
   pub name : List ℕ
   pub path : PathEnd
 
-unfoldable pub onTypes : List ℕ → List (List ℕ) → List EntityType → List OnType
-onTypes segment rest [] = []
-onTypes segment rest (e ∷ es) = record { name = e .name; path = onEntity segment rest e } ∷ onTypes segment rest es
+unfoldable pub onTypesBy : Vocabulary → List ℕ → List (List ℕ) → List EntityType → List OnType
+onTypesBy v segment rest [] = []
+onTypesBy v segment rest (e ∷ es) = record { name = e .name; path = onEntityBy v segment rest e } ∷ onTypesBy v segment rest es
+
+abbrev pub onTypes : List ℕ → List (List ℕ) → List EntityType → List OnType
+onTypes = onTypesBy dated
 
 unfoldable pub failed : PathEnd → Bool
 failed (resolved t) = false
@@ -177,10 +195,13 @@ declaredAll s (n ∷ rest) =
     maybe none (λ e. maybe none (λ es. some (e ∷ es)) (declaredAll s rest)) (findEntity s n)
 
 -- `resolve_scope_path`
-unfoldable pub scopePath : Schema → Option Narrowing → List (List ℕ) → List (List ℕ) → ScopePath
-scopePath s n candidates [] = unknown
-scopePath s n candidates (segment ∷ rest) =
-    maybe unknown (λ es. verdict (onTypes segment rest es)) (declaredAll s (admitted s n candidates))
+unfoldable pub scopePathBy : Vocabulary → Schema → Option Narrowing → List (List ℕ) → List (List ℕ) → ScopePath
+scopePathBy v s n candidates [] = unknown
+scopePathBy v s n candidates (segment ∷ rest) =
+    maybe unknown (λ es. verdict (onTypesBy v segment rest es)) (declaredAll s (admitted s n candidates))
+
+abbrev pub scopePath : Schema → Option Narrowing → List (List ℕ) → List (List ℕ) → ScopePath
+scopePath = scopePathBy dated
 
 -- `predicate_namespace`: a predicate's path without a last `Action`
 unfoldable pub withoutAction : List (List ℕ) → List (List ℕ)

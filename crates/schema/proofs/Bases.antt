@@ -14,16 +14,17 @@ use Rattle.names.specs.Text.{text}
 use Rattle.names.specs.Read.{wordAt}
 use Rattle.names.specs.Laws.Readers.{Split, split, string-view, accept, is-accepted, has-value, got-value, Each, each-below, _&_}
 use Rattle.names.specs.Laws.Walks.{part-of-part, take-at-most}
-use Rattle.types.specs.Types.{Ty, entity, array}
-use Rattle.types.specs.Meaning.{tagOf, baseOf, layered}
+use Rattle.types.specs.Types.{Ty, dated, entity, array}
+use Rattle.types.specs.Meaning.{scalarOf, tagOf, baseOf, layered}
 use Rattle.types.specs.declared.Source.the-variants as Source
+use Rattle.types.specs.declared.Scalar.{Scalar}
 use Rattle.types.specs.declared.Scalar.the-variants as Scalar
 use Rattle.types.specs.declared.Base.{Base}
 use Rattle.types.specs.declared.Base.the-variants as Base
 use Rattle.types.specs.declared.Tag.{Tag}
 use Rattle.schema.specs.Schema.{Declared, never, set, extension, kinds, typeAt, attributes}
 use Rattle.schema.specs.Schema as schema
-use Rattle.schema.specs.Find.{richType}
+use Rattle.schema.specs.Find.{extensionType, richTypeBy, richType}
 use Rattle.schema.specs.Places.{typeIn, isType, KindHere}
 use Rattle.schema.proofs.TypeViews.{open-type}
 use Rattle.schema.proofs.Levels.{type-wider}
@@ -55,27 +56,27 @@ module _ (s : List ℕ) (at : ℕ) (is : isType s at ≡ true) (k : ℕ) (op : K
       rw (has-value never (a .read), ← i) (open-type s at (a .read) .body)
 
   pub rich-long : k ≡ 0 → (c : List ℕ) → baseOf s c (Base.Plain Scalar.Long) ≡ richType (typeIn s at)
-  unfolding choose kinds richType
+  unfolding choose kinds richTypeBy
   rich-long e c = ap richType (got-value (at-kind 0 e))
 
   pub rich-string : k ≡ 1 → (c : List ℕ) → baseOf s c (Base.Plain Scalar.String) ≡ richType (typeIn s at)
-  unfolding choose kinds richType
+  unfolding choose kinds richTypeBy
   rich-string e c = ap richType (got-value (at-kind 1 e))
 
   pub rich-bool : k ≡ 2 → (c : List ℕ) → baseOf s c (Base.Plain Scalar.Bool) ≡ richType (typeIn s at)
-  unfolding choose kinds richType
+  unfolding choose kinds richTypeBy
   rich-bool e c = ap richType (got-value (at-kind 2 e))
 
   pub rich-any-set : k ≡ 5 → (c : List ℕ) → baseOf s c Base.AnyArray ≡ richType (typeIn s at)
-  unfolding choose kinds richType
+  unfolding choose kinds richTypeBy
   rich-any-set e c = ap richType (got-value (at-kind 5 e))
 
   pub rich-never : k ≡ 10 → (c : List ℕ) → baseOf s c (Base.Plain Scalar.Never) ≡ richType (typeIn s at)
-  unfolding choose kinds richType
+  unfolding choose kinds richTypeBy
   rich-never e c = ap richType (got-value (at-kind 10 e))
 
   pub rich-object : k ≡ 6 → (c : List ℕ) → baseOf s c (Base.Plain Scalar.Object) ≡ richType (typeIn s at)
-  unfolding choose kinds richType
+  unfolding choose kinds richTypeBy
   rich-object e c = ap richType (got-value (split (attributes (typeAt 31) s (at + 1)) _ (at-kind 6 e) .rest))
 
   -- an extension and an entity have a name
@@ -84,14 +85,9 @@ module _ (s : List ℕ) (at : ℕ) (is : isType s at ≡ true) (k : ℕ) (op : K
     unfolding choose kinds
     is-extension = let a = split (stringOf pathName s (at + 1)) _ (at-kind 3 e) in ap extension (sym (string-view pathName s (at + 1) (a .first) .word)) ∙ got-value (a .rest)
 
-    module _ (v : List ℕ) (is-v : v ≡ wordAt s (at + 1)) (w : List ℕ) (is-w : w ≡ simpleName v) (b : Bool) (is-b : b ≡ same w (100 ∷ 101 ∷ 99 ∷ 105 ∷ 109 ∷ 97 ∷ 108 ∷ [])) where
-      pub rich-decimal : b ≡ true → (c : List ℕ) → baseOf s c (Base.Plain Scalar.Decimal) ≡ richType (typeIn s at)
-      unfolding richType text
-      rich-decimal f c = rw (← is-extension, ← is-v, ← is-w, ← is-b, f)
-
-      pub rich-extension : b ≡ false → (c : List ℕ) → baseOf s c (Base.Plain Scalar.String) ≡ richType (typeIn s at)
-      unfolding richType text
-      rich-extension f c = rw (← is-extension, ← is-v, ← is-w, ← is-b, f)
+    pub rich-extension : (v : List ℕ) → v ≡ wordAt s (at + 1) → (w : List ℕ) → w ≡ simpleName v → (a : Scalar) → scalarOf a ≡ extensionType dated w → (c : List ℕ) → baseOf s c (Base.Plain a) ≡ richType (typeIn s at)
+    unfolding richTypeBy
+    rich-extension v is-v w is-w a is-a c = rw (is-a, ← is-extension, ← is-v, ← is-w)
 
   module _ (e : k ≡ 7) where
     named : Split (stringOf pathName s (at + 1)) (λ w n. got (schema.entity w) n) (typeIn s at) (accept _ is .place)
@@ -102,13 +98,13 @@ module _ (s : List ℕ) (at : ℕ) (is : isType s at ≡ true) (k : ℕ) (op : K
     name-inside = let v = string-view pathName s (at + 1) (named .first) in omega (arith, v .place, v .inside)
 
     pub rich-entity : (tag : Tag) → ((c : List ℕ) → tagOf s c tag ≡ simpleName (wordAt s (at + 1))) → (c : List ℕ) → baseOf s c (Base.Tagged tag) ≡ richType (typeIn s at)
-    unfolding richType
+    unfolding richTypeBy
     rich-entity tag is-tag c =
         let w = string-view pathName s (at + 1) (named .first) .word in
         rw (is-tag c, ← w, ← got-value (named .rest))
 
   pub rich-untagged : (getD s at 0 ≡ 4 → ⊥) → (k ≡ 0 → ⊥) → (k ≡ 1 → ⊥) → (k ≡ 2 → ⊥) → (k ≡ 3 → ⊥) → (k ≡ 5 → ⊥) → (k ≡ 6 → ⊥) → (k ≡ 7 → ⊥) → (k ≡ 10 → ⊥) → (c : List ℕ) → baseOf s c Base.Untagged ≡ richType (typeIn s at)
-  unfolding choose kinds richType Each
+  unfolding choose kinds richTypeBy Each
   rich-untagged n4 n0 n1 n2 n3 n5 n6 n7 n10 c =
       let known : k < 11 = rw (op .kind) (open-type s at (accept _ is .read) .known) in
       each-below (λ j. k ≡ j → entity none ≡ richType (typeIn s at)) 11 (
@@ -139,7 +135,7 @@ module _ (s : List ℕ) (at : ℕ) (is : isType s at ≡ true) (k : ℕ) (op : K
     set-element = is-accepted element-wide
 
     pub set-layer : (n : ℕ) (o : Ty) → layered n (richType (typeIn s at)) ≡ o → layered (n + 1) (richType (typeIn s (at + 1))) ≡ o
-    unfolding richType
+    unfolding richTypeBy
     set-layer n o inv =
         let i : typeIn s at ≡ set (typeIn s (at + 1)) = sym (got-value (element .rest)) ∙ ap set (sym (has-value never element-wide)) in
         layered-more n (richType (typeIn s (at + 1))) ∙ sym (ap (λ (t : Declared). layered n (richType t)) i) ∙ inv
@@ -155,6 +151,6 @@ no-layer t = refl
 pub all-layers : (s : List ℕ) (n : ℕ) (t o : Ty) (b : Base) → layered n t ≡ o → ((c : List ℕ) → baseOf s c b ≡ t) → (c : List ℕ) → layered n (baseOf s c b) ≡ o
 all-layers s n t o b inv is c = ap (layered n) (is c) ∙ inv
 
-pub ruleset bases = (needs, rich-long, rich-string, rich-bool, rich-any-set, rich-never, rich-object, rich-decimal, rich-extension, name-inside, rich-entity, rich-untagged)
+pub ruleset bases = (needs, rich-long, rich-string, rich-bool, rich-any-set, rich-never, rich-object, rich-extension, name-inside, rich-entity, rich-untagged)
 
 pub ruleset riches = (needs, set-element, set-layer, not-set, no-layer, all-layers)

@@ -4,6 +4,7 @@ use types::Rich;
 use types::Scalar;
 use types::Source;
 use types::Tag;
+use types::TimeType;
 ghost use mathlib.Core.Path.{_≡_};
 ghost use mathlib.Core.Bool.{true};
 ghost use mathlib.Core.List.{List};
@@ -11,8 +12,9 @@ ghost use Prim.Native.Nat.{ℕ, _+_, _≤_};
 ghost use lib.ListN.{length, getD};
 ghost use Rattle.names.specs.Names.{simpleName};
 ghost use Rattle.names.specs.Read.{wordAt};
-ghost use Rattle.types.specs.Meaning.{richOf, baseOf, tagOf};
-ghost use Rattle.schema.specs.Find.{richType};
+ghost use Rattle.types.specs.Types.{dated};
+ghost use Rattle.types.specs.Meaning.{scalarOf, richOf, baseOf, tagOf};
+ghost use Rattle.schema.specs.Find.{extensionType, richType};
 ghost use Rattle.schema.specs.Places.{isType, typeIn, KindHere};
 
 // The first byte of a type.
@@ -38,6 +40,19 @@ pub fn tag_at(s: &[u8], at: usize) -> Tag
     }
 }
 
+// The type of an extension, by its simple name.
+fn extension_type(word: &[u8]) -> Scalar
+    ensures { λ r. ⌜ scalarOf r ≡ extensionType dated (now (word .entry)) ⌝ }
+{
+    if names::same(word, b"decimal") {
+        return Scalar::Decimal;
+    }
+    let TimeType::As(time) = types::time_type(word) else {
+        return Scalar::String;
+    };
+    time
+}
+
 // The type below the array layers.
 fn base_at(s: &[u8], at: usize) -> Base
     requires { ⌜ isType (now s) at ≡ true ⌝ }
@@ -55,10 +70,8 @@ fn base_at(s: &[u8], at: usize) -> Base
         return Base::Plain(Scalar::Bool);
     }
     if kind == 3 {
-        if names::same(names::simple_name(names::word(s, at + 1)), b"decimal") {
-            return Base::Plain(Scalar::Decimal);
-        }
-        return Base::Plain(Scalar::String);
+        let scalar = extension_type(names::simple_name(names::word(s, at + 1)));
+        return Base::Plain(scalar);
     }
     if kind == 5 {
         return Base::AnyArray;

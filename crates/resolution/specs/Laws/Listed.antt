@@ -17,7 +17,7 @@ use Rattle.schema.specs.Schema.{Schema, EntityType}
 use Rattle.schema.specs.Find.{findEntity}
 use Rattle.targets.specs.Targets.{Narrowing}
 use Rattle.resolution.specs.Resolution as Resolution
-use Rattle.resolution.specs.Resolution.{OnType, ambiguous, unknown, failed, missingAt, namesOf, typesOf, agreed, failure, verdict, onEntity, onTypes, declaredAll, admittedBy, admitted, scopePath, renderings}
+use Rattle.resolution.specs.Resolution.{OnType, ambiguous, unknown, failed, missingAt, namesOf, typesOf, agreed, failure, verdict, onEntity, onTypesBy, onTypes, declaredAll, admittedBy, admitted, scopePathBy, scopePath, renderings}
 use Rattle.resolution.specs.Passes.{briefly, listed, withList, failsAt, failing, above, typeOn, typesOn, renderingsOn}
 use Rattle.resolution.specs.Laws.Failing.{both}
 
@@ -59,7 +59,7 @@ module _ (S : Schema) (head : List ℕ) (rest : List (List ℕ)) where
   Chosen w names es = namesOf (select (λ e. missingAt w (e .path)) (onTypes head rest es)) ≡ select (failsAt S (head ∷ rest) w) names
 
   chosen-more : (w name : List ℕ) (names : List (List ℕ)) (e : EntityType) (es : List EntityType) → findEntity S name ≡ some e → Chosen w names es → Chosen w (name ∷ names) (e ∷ es)
-  unfolding onTypes select namesOf failsAt
+  unfolding onTypesBy select namesOf failsAt
   chosen-more w name names e es h others = rw h (go (missingAt w (onEntity head rest e)))
     where
       go : (b : Bool) → namesOf (cond b (record { name = e .name; path = onEntity head rest e } ∷ select (λ d. missingAt w (d .path)) (onTypes head rest es)) (select (λ d. missingAt w (d .path)) (onTypes head rest es))) ≡ cond b (name ∷ select (failsAt S (head ∷ rest) w) names) (select (failsAt S (head ∷ rest) w) names)
@@ -67,7 +67,7 @@ module _ (S : Schema) (head : List ℕ) (rest : List (List ℕ)) where
       go false = others
 
   chosen : (w : List ℕ) (names : List (List ℕ)) (es : List EntityType) → declaredAll S names ≡ some es → Chosen w names es
-  unfolding onTypes select namesOf
+  unfolding onTypesBy select namesOf
   chosen w = all-declared S (Chosen w) refl (chosen-more w)
 
   -- and the types are those of the names
@@ -75,11 +75,11 @@ module _ (S : Schema) (head : List ℕ) (rest : List (List ℕ)) where
   SameTypes names es = typesOf (onTypes head rest es) ≡ typesOn S (head ∷ rest) names
 
   types-more : (name : List ℕ) (names : List (List ℕ)) (e : EntityType) (es : List EntityType) → findEntity S name ≡ some e → SameTypes names es → SameTypes (name ∷ names) (e ∷ es)
-  unfolding onTypes typesOf typesOn typeOn
+  unfolding onTypesBy typesOf typesOn typeOn
   types-more name names e es h others = rw (h, others)
 
   same-types : (names : List (List ℕ)) (es : List EntityType) → declaredAll S names ≡ some es → SameTypes names es
-  unfolding onTypes typesOf typesOn
+  unfolding onTypesBy typesOf typesOn
   same-types = all-declared S SameTypes refl types-more
 
 agreed-brief : (ts : List Ty) (w : List ℕ) (ws : List (List ℕ)) → briefly (agreed ts) ≡ Resolution.ScopePath.missing w ws → ⊥
@@ -105,7 +105,7 @@ verdict-missing es w ws i = go (first (λ e. failed (e .path)) es) i
     go (some e) i = of (e .path) i
 
 pub missing-listed : (S : Schema) (N : Option Narrowing) (names path : List (List ℕ)) (w : List ℕ) (ws : List (List ℕ)) → briefly (scopePath S N names path) ≡ Resolution.ScopePath.missing w ws → listed (scopePath S N names path) ≡ select (failing S N path w) names
-unfolding scopePath admitted briefly
+unfolding scopePathBy admitted briefly
 missing-listed S N names [] w ws i = let z : _≡_ {A = ℕ} 0 1 = cc in absurd (omega arith)
 missing-listed S N names (head ∷ rest) w ws i = go (declaredAll S (select (admittedBy S N) names)) (chosen S head rest w (select (admittedBy S N) names)) i
   where
@@ -135,7 +135,7 @@ verdict-ambiguous es ws i = go (first (λ e. failed (e .path)) es) i
     go (some e) i = of (e .path) i
 
 pub ambiguous-listed : (S : Schema) (N : Option Narrowing) (names path : List (List ℕ)) (ws : List (List ℕ)) → briefly (scopePath S N names path) ≡ ambiguous ws → listed (scopePath S N names path) ≡ renderingsOn S N names path
-unfolding scopePath admitted briefly
+unfolding scopePathBy admitted briefly
 ambiguous-listed S N names [] ws i = let z : _≡_ {A = ℕ} 0 1 = cc in absurd (omega arith)
 ambiguous-listed S N names (head ∷ rest) ws i = go (declaredAll S (select (admittedBy S N) names)) (same-types S head rest (select (admittedBy S N) names)) i
   where

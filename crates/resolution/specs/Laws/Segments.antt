@@ -22,7 +22,7 @@ use Rattle.names.specs.declared.Found.{Found}
 use Rattle.names.specs.declared.Found.the-variants as Found
 use Rattle.names.specs.declared.Row.{Row}
 use Rattle.resolution.specs.Resolution as Resolution
-use Rattle.resolution.specs.Resolution.{nested, descend, resolveIn, contextPath, contextType, typeAtEnd}
+use Rattle.resolution.specs.Resolution.{nested, descendBy, descend, resolveInBy, resolveIn, contextPathBy, contextPath, contextTypeBy, contextType, typeAtEnd}
 use Rattle.resolution.specs.Places.{areSegments, segmentsIn, Behind, resolutionOf, typedOf, leafOf, smallResolution, smallType}
 use Rattle.resolution.specs.Laws.Sizes.{Bytes, type-small}
 use Rattle.resolution.specs.declared.PathResolution.{PathResolution}
@@ -37,13 +37,13 @@ pub record Left (s c : List ℕ) (o : Resolution.PathResolution) (n at t : ℕ) 
 
 module _ (s c : List ℕ) (f : ℕ) (head : ℕ) (rest : Row) (w : List ℕ) (is-w : w ≡ wordAt c head) (x : Found) (finds : Finds s (findAttribute (fieldsIn s f) w) x) where
   pub head-missing : x ≡ Found.Absent → resolutionOf s c PathResolution.HeadMissing ≡ resolveIn (fieldsIn s f) (wordAt c head) (segmentsIn c rest)
-  unfolding resolveIn
+  unfolding resolveInBy
   head-missing e =
       let i : findAttribute (fieldsIn s f) (wordAt c head) ≡ none = rw (← is-w) (sym (finds .value) ∙ rw e) in
       rw i
 
   pub head-found : (t : ℕ) → x ≡ Found.At t → areSegments c rest ≡ true → Left s c (resolveIn (fieldsIn s f) (wordAt c head) (segmentsIn c rest)) (rest .count) (rest .at) t
-  unfolding resolveIn
+  unfolding resolveInBy
   head-found t e are =
       let i : findAttribute (fieldsIn s f) (wordAt c head) ≡ some (typeIn s t) = rw (← is-w) (sym (finds .value) ∙ rw e) in
       record {
@@ -53,7 +53,7 @@ module _ (s c : List ℕ) (f : ℕ) (head : ℕ) (rest : Row) (w : List ℕ) (is
 
 module _ (s c : List ℕ) (o : Resolution.PathResolution) (n at t : ℕ) (l : Left s c o n at t) where
   pub path-resolved : n ≤ 0 → (r : Rich) → ((d : List ℕ) → richOf s d r ≡ richType (typeIn s t)) → resolutionOf s c (PathResolution.Resolved r) ≡ o
-  unfolding descend
+  unfolding descendBy
   path-resolved h r is = ap Resolution.PathResolution.resolved (is c) ∙ remaining-over (stringOf plain) c (λ ws. nested (descend (typeIn s t) ws)) o n at h (l .there)
 
   pub path-small : Bytes s → (r : Rich) → ((d : List ℕ) → richOf s d r ≡ richType (typeIn s t)) → Small (richOf s c r)
@@ -68,7 +68,7 @@ module _ (s c : List ℕ) (o : Resolution.PathResolution) (n at t : ℕ) (l : Le
 
     module _ (y : Found) (inner : FindsFields s (fieldsOf (typeIn s t)) y) where
       pub path-non-record : y ≡ Found.Absent → resolutionOf s c (PathResolution.NonRecord at) ≡ o
-      unfolding descend
+      unfolding descendBy
       path-non-record e =
           let i : fieldsOf (typeIn s t) ≡ none = sym (inner .value) ∙ rw e in
           rw i at (opened .same)
@@ -79,7 +79,7 @@ module _ (s c : List ℕ) (o : Resolution.PathResolution) (n at t : ℕ) (l : Le
 
         module _ (w : List ℕ) (is-w : w ≡ wordAt c at) (z : Found) (finds : Finds s (findAttribute (fieldsIn s f) w) z) where
           onward : (d : Option Declared) → findAttribute (fieldsIn s f) w ≡ d → nested (maybe (Resolution.PathEnd.missing (wordAt c at)) (λ u. descend u (opened .others)) d) ≡ o
-          unfolding descend
+          unfolding descendBy
           onward d g =
               let i : fieldsOf (typeIn s t) ≡ some (fieldsIn s f) = sym (inner .value) ∙ rw e in
               let j : findAttribute (fieldsIn s f) (wordAt c at) ≡ d = rw (← is-w) g in
@@ -119,12 +119,12 @@ no-segments c path are h =
 -- A path into a context.
 module _ (s c : List ℕ) (t : ℕ) (path : Row) (are : areSegments c path ≡ true) where
   pub context-empty : path .count ≡ 0 → resolutionOf s c PathResolution.HeadMissing ≡ contextPath (typeIn s t) (segmentsIn c path)
-  unfolding contextPath
+  unfolding contextPathBy
   context-empty e = rw (← no-segments c path are (omega arith))
 
   module _ (y : Found) (inner : FindsFields s (fieldsOf (typeIn s t)) y) where
     pub context-plain : (path .count ≡ 0 → ⊥) → y ≡ Found.Absent → resolutionOf s c PathResolution.HeadMissing ≡ contextPath (typeIn s t) (segmentsIn c path)
-    unfolding contextPath
+    unfolding contextPathBy
     context-plain h e =
         let i : fieldsOf (typeIn s t) ≡ none = sym (inner .value) ∙ rw e in
         rw (← first-segment c path are (omega arith) .same, i)
@@ -133,7 +133,7 @@ module _ (s c : List ℕ) (t : ℕ) (path : Row) (are : areSegments c path ≡ t
     context-fields f e = rw e at (inner .stands)
 
     pub context-record : (f : ℕ) → y ≡ Found.At f → (rest : Row) → Behind c path rest → (r : PathResolution) → resolutionOf s c r ≡ resolveIn (fieldsIn s f) (wordAt c (path .at)) (segmentsIn c rest) → resolutionOf s c r ≡ contextPath (typeIn s t) (segmentsIn c path)
-    unfolding contextPath
+    unfolding contextPathBy
     context-record f e rest b r is =
         let i : fieldsOf (typeIn s t) ≡ some (fieldsIn s f) = sym (inner .value) ∙ rw e in
         rw (← b .value, i) is
@@ -152,7 +152,7 @@ module _ (s c : List ℕ) where
   leaf-type (PathResolution.NonRecord p) = refl
 
   pub context-typed : (a t : ℕ) → Standing (isType s) (typeIn s) (actionIn s a .context) t → (path : Row) (e : PathResolution) → resolutionOf s c e ≡ contextPath (typeIn s t) (segmentsIn c path) → (r : Typed) → r ≡ leafOf e → typedOf s c r ≡ contextType (some (actionIn s a)) (segmentsIn c path)
-  unfolding contextType
+  unfolding contextTypeBy
   context-typed a t st path e is r i = rw i (leaf-type e ∙ ap typeAtEnd (is ∙ ap (λ (d : Declared). contextPath d (segmentsIn c path)) (st .value)))
 
   leaf-small : (e : PathResolution) → smallResolution (resolutionOf s c e) → smallType (typedOf s c (leafOf e))

@@ -20,7 +20,7 @@ use Rattle.types.specs.Types as types
 use Rattle.types.specs.Types.{scalar}
 use Rattle.types.specs.Laws.Texts.{layersIn, tagIn, Small}
 use Rattle.schema.specs.Schema.{Declared, long, string, bool, extension, set, anySet, object, entity, severalEntities, anyEntity, never, kinds, typeAt, attributes}
-use Rattle.schema.specs.Find.{richType}
+use Rattle.schema.specs.Find.{richTypeBy, richType}
 use Rattle.schema.specs.Places.{typeIn, isType}
 use Rattle.schema.specs.Laws.ByKind.{choose-above}
 
@@ -40,7 +40,7 @@ plain-within : (l : ℕ) (t : Declared) → layersIn (richType t) ≡ 0 → tagI
 plain-within l t a b = record { layers = rw a (omega arith); tag = rw b (omega arith) }
 
 extension-layers : (name : List ℕ) → layersIn (richType (extension name)) ≡ 0
-unfolding richType layersIn
+unfolding richTypeBy layersIn
 extension-layers name = go (same (simpleName name) (text "decimal"))
   where
     go : (b : Bool) → layersIn (cond b (scalar types.decimal) (scalar types.string)) ≡ 0
@@ -48,7 +48,7 @@ extension-layers name = go (same (simpleName name) (text "decimal"))
     go false = refl
 
 extension-tag : (name : List ℕ) → tagIn (richType (extension name)) ≡ []
-unfolding richType tagIn
+unfolding richTypeBy tagIn
 extension-tag name = go (same (simpleName name) (text "decimal"))
   where
     go : (b : Bool) → tagIn (cond b (scalar types.decimal) (scalar types.string)) ≡ []
@@ -56,11 +56,11 @@ extension-tag name = go (same (simpleName name) (text "decimal"))
     go false = refl
 
 set-within : (l : ℕ) (t : Declared) → Within l t → Within (suc l) (set t)
-unfolding richType layersIn tagIn
+unfolding richTypeBy layersIn tagIn
 set-within l t w = record { layers = omega (arith, w .layers); tag = w .tag }
 
 entity-within : (l : ℕ) (name : List ℕ) → length name ≤ 255 → Within l (entity name)
-unfolding richType layersIn tagIn
+unfolding richTypeBy layersIn tagIn
 entity-within l name h = record { layers = omega arith; tag = simple-short name h }
 
 module _ (s : List ℕ) (bytes : Bytes s) where
@@ -69,7 +69,7 @@ module _ (s : List ℕ) (bytes : Bytes s) where
 
   module _ (l : ℕ) (inner : (at : ℕ) (t : Declared) (n : ℕ) → typeAt l s at ≡ got t n → Within l t) (at : ℕ) (t : Declared) (n : ℕ) where
     by-kind : (k : ℕ) → k < 11 → choose k (kinds (typeAt l)) s at ≡ got t n → Within (suc l) t
-    unfolding choose kinds Each richType layersIn tagIn
+    unfolding choose kinds Each richTypeBy layersIn tagIn
     by-kind =
         each-below (λ k. choose k (kinds (typeAt l)) s at ≡ got t n → Within (suc l) t) 11 (
         tt
