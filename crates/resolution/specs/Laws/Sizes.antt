@@ -10,14 +10,11 @@ use lib.ListN.{length, getD, drop, length-append}
 use mir.Val.{Fits}
 use mir.Syntax.{w8}
 use Rattle.names.specs.Fields.{Got, got, bad, u8, choose, refuse, stringOf, levels}
-use Rattle.names.specs.Names.{pathName, same, simpleName}
+use Rattle.names.specs.Names.{pathName, simpleName}
 use Rattle.names.specs.Laws.Joined.{simple-end}
 use Rattle.names.specs.Read.{wordAt}
-use Rattle.names.specs.Text.{text}
 use Rattle.names.specs.Laws.Readers.{split, string-view, accept, has-value, got-value, Each, each-below, _&_}
 use Rattle.names.specs.Laws.Walks.{take-at-most}
-use Rattle.types.specs.Types as types
-use Rattle.types.specs.Types.{scalar}
 use Rattle.types.specs.Laws.Texts.{layersIn, tagIn, Small}
 use Rattle.schema.specs.Schema.{Declared, long, string, bool, extension, set, anySet, object, entity, severalEntities, anyEntity, never, kinds, typeAt, attributes}
 use Rattle.schema.specs.Find.{richTypeBy, richType}
@@ -38,22 +35,6 @@ record Within (l : ℕ) (t : Declared) : Type 0 where
 
 plain-within : (l : ℕ) (t : Declared) → layersIn (richType t) ≡ 0 → tagIn (richType t) ≡ [] → Within l t
 plain-within l t a b = record { layers = rw a (omega arith); tag = rw b (omega arith) }
-
-extension-layers : (name : List ℕ) → layersIn (richType (extension name)) ≡ 0
-unfolding richTypeBy layersIn
-extension-layers name = go (same (simpleName name) (text "decimal"))
-  where
-    go : (b : Bool) → layersIn (cond b (scalar types.decimal) (scalar types.string)) ≡ 0
-    go true = refl
-    go false = refl
-
-extension-tag : (name : List ℕ) → tagIn (richType (extension name)) ≡ []
-unfolding richTypeBy tagIn
-extension-tag name = go (same (simpleName name) (text "decimal"))
-  where
-    go : (b : Bool) → tagIn (cond b (scalar types.decimal) (scalar types.string)) ≡ []
-    go true = refl
-    go false = refl
 
 set-within : (l : ℕ) (t : Declared) → Within l t → Within (suc l) (set t)
 unfolding richTypeBy layersIn tagIn
@@ -76,7 +57,7 @@ module _ (s : List ℕ) (bytes : Bytes s) where
         & (λ e. rw (← got-value e) (plain-within (suc l) long refl refl))
         & (λ e. rw (← got-value e) (plain-within (suc l) string refl refl))
         & (λ e. rw (← got-value e) (plain-within (suc l) bool refl refl))
-        & (λ e. let a = split (stringOf pathName s at) _ e in rw (← got-value (a .rest)) (plain-within (suc l) (extension (a .value)) (extension-layers (a .value)) (extension-tag (a .value))))
+        & (λ e. let a = split (stringOf pathName s at) _ e in rw (← got-value (a .rest)) (plain-within (suc l) (extension (a .value)) refl refl))
         & (λ e. let a = split (typeAt l s at) _ e in rw (← got-value (a .rest)) (set-within l (a .value) (inner at (a .value) (a .place) (a .first))))
         & (λ e. rw (← got-value e) (plain-within (suc l) anySet refl refl))
         & (λ e. let a = split (attributes (typeAt l) s at) _ e in rw (← got-value (a .rest)) (plain-within (suc l) (object (a .value)) refl refl))
