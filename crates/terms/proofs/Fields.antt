@@ -12,11 +12,13 @@ use Rattle.names.specs.Names.{same, lastOf}
 use Rattle.names.specs.Read.{wordAt}
 use Rattle.names.specs.Text.{text}
 use Rattle.names.specs.Laws.Walks.{past-end}
-use Rattle.types.specs.Types.{Ty}
-use Rattle.types.specs.Meaning.{richOf, layered}
+use Rattle.types.specs.Types.{Ty, dated, timeType}
+use Rattle.types.specs.Meaning.{richOf, timeOf, layered}
 use Rattle.types.specs.declared.Source.the-variants as Source
 use Rattle.types.specs.declared.Scalar.{Scalar}
 use Rattle.types.specs.declared.Scalar.the-variants as Scalar
+use Rattle.types.specs.declared.TimeType.{TimeType}
+use Rattle.types.specs.declared.TimeType.the-variants as TimeType
 use Rattle.types.specs.declared.Tag.{Tag}
 use Rattle.types.specs.declared.Base.the-variants as Base
 use Rattle.types.specs.declared.Rich.{Rich}
@@ -30,8 +32,8 @@ use Rattle.nodes.specs.Parts.{segmentsIn}
 use Rattle.resolution.specs.Laws.Sizes.{Bytes, type-small}
 use Rattle.resolution.specs.declared.Typed.{Typed}
 use Rattle.resolution.specs.declared.Typed.the-variants.{As, Nothing}
-use Rattle.terms.specs.Terms.{wordType, annotationType, fieldType, inputType}
-use Rattle.terms.specs.Answers.{WordTag, WordTyped, AnnotationTyped, TypedBy}
+use Rattle.terms.specs.Terms.{otherType, wordTypeBy, wordType, annotationTypeBy, fieldTypeBy, fieldType, inputTypeBy, inputType}
+use Rattle.terms.specs.Answers.{WordTag, OtherTyped, WordTyped, AnnotationTyped, TypedBy}
 use Rattle.terms.specs.declared.Facts.{Facts}
 
 -- A string as a tag; past the end there is none.
@@ -44,52 +46,64 @@ module _ (c : List ℕ) (at : ℕ) where
 
 pub ruleset word-tags = (needs, tag-past, tag-here)
 
--- The words of the language, each where none before it fits.
 abbrev plainRich : Scalar → Rich
 plainRich a = record { layers = 0; base = Base.Plain a }
 
+-- A word that the published Rust has no type for.
+module _ (c : List ℕ) (at : ℕ) (w : List ℕ) (is-w : w ≡ wordAt c at) (t : TimeType) (answer : timeOf t ≡ timeType dated w) where
+  pub other-time : (a : Scalar) → t ≡ TimeType.As a → OtherTyped c at (plainRich a)
+  unfolding otherType layered
+  other-time a is = record { value = λ s. rw (← is-w, ← answer, is); within = record { layers = omega arith; tag = omega arith } }
+
+  pub other-entity : t ≡ TimeType.Nothing → (tag : Tag) → WordTag c at tag → OtherTyped c at (record { layers = 0; base = Base.Tagged tag })
+  unfolding otherType layered
+  other-entity is tag h = record { value = λ s. rw (h .value s, ← is-w, ← answer, is); within = record { layers = omega arith; tag = h .short } }
+
+pub ruleset other-types = (needs, other-time, other-entity)
+
+-- The words of the language, each where none before it fits.
 module _ (c : List ℕ) (at : ℕ) (w : List ℕ) (is-w : w ≡ wordAt c at) where
   scalar-word : (a : Scalar) → ((s : List ℕ) → richOf s c (plainRich a) ≡ wordType w) → WordTyped c at (plainRich a)
   scalar-word a e = record { value = λ s. e s ∙ ap wordType is-w; within = record { layers = omega arith; tag = omega arith } }
 
   module _ (b₁ : Bool) (e₁ : b₁ ≡ same w (76 ∷ 111 ∷ 110 ∷ 103 ∷ [])) where
     pub word-long : b₁ ≡ true → WordTyped c at (plainRich Scalar.Long)
-    unfolding wordType text layered
+    unfolding wordTypeBy text layered
     word-long t = scalar-word Scalar.Long λ s. rw (← e₁, t)
 
     module _ (n₁ : b₁ ≡ false) (b₂ : Bool) (e₂ : b₂ ≡ same w (83 ∷ 116 ∷ 114 ∷ 105 ∷ 110 ∷ 103 ∷ [])) where
       pub word-string : b₂ ≡ true → WordTyped c at (plainRich Scalar.String)
-      unfolding wordType text layered
+      unfolding wordTypeBy text layered
       word-string t = scalar-word Scalar.String λ s. rw (← e₁, n₁, ← e₂, t)
 
       module _ (n₂ : b₂ ≡ false) (b₃ : Bool) (e₃ : b₃ ≡ same w (66 ∷ 111 ∷ 111 ∷ 108 ∷ [])) where
         pub word-bool : b₃ ≡ true → WordTyped c at (plainRich Scalar.Bool)
-        unfolding wordType text layered
+        unfolding wordTypeBy text layered
         word-bool t = scalar-word Scalar.Bool λ s. rw (← e₁, n₁, ← e₂, n₂, ← e₃, t)
 
         module _ (n₃ : b₃ ≡ false) (b₄ : Bool) (e₄ : b₄ ≡ same w (66 ∷ 111 ∷ 111 ∷ 108 ∷ 101 ∷ 97 ∷ 110 ∷ [])) where
           pub word-boolean : b₄ ≡ true → WordTyped c at (plainRich Scalar.Bool)
-          unfolding wordType text layered
+          unfolding wordTypeBy text layered
           word-boolean t = scalar-word Scalar.Bool λ s. rw (← e₁, n₁, ← e₂, n₂, ← e₃, n₃, ← e₄, t)
 
           module _ (n₄ : b₄ ≡ false) (b₅ : Bool) (e₅ : b₅ ≡ same w (100 ∷ 101 ∷ 99 ∷ 105 ∷ 109 ∷ 97 ∷ 108 ∷ [])) where
             pub word-decimal : b₅ ≡ true → WordTyped c at (plainRich Scalar.Decimal)
-            unfolding wordType text layered
+            unfolding wordTypeBy text layered
             word-decimal t = scalar-word Scalar.Decimal λ s. rw (← e₁, n₁, ← e₂, n₂, ← e₃, n₃, ← e₄, n₄, ← e₅, t)
 
             module _ (n₅ : b₅ ≡ false) (b₆ : Bool) (e₆ : b₆ ≡ same w (68 ∷ 101 ∷ 99 ∷ 105 ∷ 109 ∷ 97 ∷ 108 ∷ [])) where
               pub word-Decimal : b₆ ≡ true → WordTyped c at (plainRich Scalar.Decimal)
-              unfolding wordType text layered
+              unfolding wordTypeBy text layered
               word-Decimal t = scalar-word Scalar.Decimal λ s. rw (← e₁, n₁, ← e₂, n₂, ← e₃, n₃, ← e₄, n₄, ← e₅, n₅, ← e₆, t)
 
-              pub word-entity : b₆ ≡ false → (tag : Tag) → WordTag c at tag → WordTyped c at (record { layers = 0; base = Base.Tagged tag })
-              unfolding wordType text layered
-              word-entity n₆ tag is = record {
-                value = λ s. rw (is .value s, ← is-w, ← e₁, n₁, ← e₂, n₂, ← e₃, n₃, ← e₄, n₄, ← e₅, n₅, ← e₆, n₆);
-                within = record { layers = omega arith; tag = is .short };
+              pub word-other : b₆ ≡ false → (r : Rich) → OtherTyped c at r → WordTyped c at r
+              unfolding wordTypeBy text
+              word-other n₆ r is = record {
+                value = λ s. is .value s ∙ rw (← is-w, ← e₁, n₁, ← e₂, n₂, ← e₃, n₃, ← e₄, n₄, ← e₅, n₅, ← e₆, n₆);
+                within = is .within;
               }
 
-pub ruleset word-types = (needs, word-long, word-string, word-bool, word-boolean, word-decimal, word-Decimal, word-entity)
+pub ruleset word-types = (needs, word-long, word-string, word-bool, word-boolean, word-decimal, word-Decimal, word-other)
 
 -- no type
 untyped : (s : List ℕ) (o : Option Ty) → o ≡ none → TypedBy s o Nothing
@@ -130,16 +144,16 @@ field-stands s o y u e finds = rw e at (finds .stands)
 -- The type of a field.
 module _ (s : List ℕ) (t : ℕ) (name : List ℕ) (x : Found) (inner : FindsFields s (fieldsOf (typeIn s t)) x) where
   pub field-none : x ≡ Found.Absent → TypedBy s (fieldType name (typeIn s t)) Nothing
-  unfolding fieldType
+  unfolding fieldTypeBy
   field-none e = untyped s _ (within-none s t x inner name (λ u. some (richType u)) e)
 
   module _ (p : ℕ) (e : x ≡ Found.At p) (y : Found) (finds : Finds s (findAttribute (fieldsIn s p) name) y) where
     pub field-missing : y ≡ Found.Absent → TypedBy s (fieldType name (typeIn s t)) Nothing
-    unfolding fieldType
+    unfolding fieldTypeBy
     field-missing i = untyped s _ (within-missing s t x inner p e name y finds (λ u. some (richType u)) i)
 
     pub field-found : (u : ℕ) → y ≡ Found.At u → Bytes s → (r : Rich) → ((d : List ℕ) → richOf s d r ≡ richType (typeIn s u)) → TypedBy s (fieldType name (typeIn s t)) (As r)
-    unfolding fieldType
+    unfolding fieldTypeBy
     field-found u i bytes r is =
         let j = within-found s t x inner p e name y finds (λ v. some (richType v)) u i in
         let small = type-small s bytes u (field-stands s _ y u i finds) in
@@ -148,7 +162,7 @@ module _ (s : List ℕ) (t : ℕ) (name : List ℕ) (x : Found) (inner : FindsFi
 -- The type of a field of the input record.
 module _ (s : List ℕ) (a at : ℕ) (there : Standing (isType s) (typeIn s) (actionIn s a .context) at) (x : Found) (inner : FindsFields s (fieldsOf (typeIn s at)) x) where
   input-within : (name : List ℕ) → inputType (some (actionIn s a)) name ≡ within (typeIn s at) (text "input") (fieldType name)
-  unfolding inputType
+  unfolding inputTypeBy
   input-within name = ap (λ (t : Declared). within t (text "input") (fieldType name)) (sym (there .value))
 
   pub input-none : (name : List ℕ) → x ≡ Found.Absent → TypedBy s (inputType (some (actionIn s a)) name) Nothing
@@ -174,7 +188,7 @@ action-stands s action p e h = rw e at h
 -- A name that no binder declares, under a declared action and under none.
 module _ (s : List ℕ) (facts : Facts) (name : List ℕ) where
   pub free-undeclared : facts .action ≡ Found.Absent → TypedBy s (inputType (foundIn (actionIn s) (facts .action)) name) Nothing
-  unfolding inputType
+  unfolding inputTypeBy
   free-undeclared e = untyped s _ (rw e)
 
   pub free-declared : (p : ℕ) → facts .action ≡ Found.At p → (r : Typed) → TypedBy s (inputType (some (actionIn s p)) name) r → TypedBy s (inputType (foundIn (actionIn s) (facts .action)) name) r
@@ -184,7 +198,7 @@ pub ruleset free-names = (needs, action-stands, free-undeclared, free-declared)
 
 -- An annotation is typed by its last segment.
 pub last-typed : (c : List ℕ) (at p : ℕ) → wordAt c p ≡ lastOf (segmentsIn c at) → (r : Rich) → WordTyped c p r → AnnotationTyped c (path (segmentsIn c at)) r
-unfolding annotationType
+unfolding annotationTypeBy
 last-typed c at p e r h = record { value = λ s. h .value s ∙ ap wordType e; within = h .within }
 
 pub ruleset annotations = (needs, last-typed)

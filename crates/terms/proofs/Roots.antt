@@ -25,7 +25,7 @@ use Rattle.resolution.specs.declared.Typed.{Typed}
 use Rattle.resolution.specs.declared.Typed.the-variants.{As, Nothing}
 use Rattle.resolution.specs.declared.ScopePath.{ScopePath}
 use Rattle.resolution.specs.declared.ScopePath.the-variants as ScopePath
-use Rattle.terms.specs.Terms.{ifResolved, sideType, rootType}
+use Rattle.terms.specs.Terms.{ifResolved, sideTypeBy, sideType, rootType}
 use Rattle.terms.specs.Facts.{factsIn}
 use Rattle.terms.specs.Answers.{TypeOf, resolvedOf}
 use Rattle.terms.specs.declared.Facts.{Facts}
@@ -66,11 +66,11 @@ module _ (s c : List ℕ) where
   -- One side.
   module _ (n : List ℕ) (x : Option Narrowing) (types : List (List ℕ)) (tail : Row) (are : areSegments c tail ≡ true) where
     pub side-bare : tail .count ≡ 0 → (r : Typed) → ((d : List ℕ) → typedOf s d r ≡ scopeType (schemaIn s) x types) → ((d : List ℕ) → smallType (typedOf s d r)) → TypeOf s c (sideType (schemaIn s) x types (segmentsIn c tail)) r
-    unfolding sideType
+    unfolding sideTypeBy
     side-bare e r is small = record { value = is c ∙ ap (sideType (schemaIn s) x types) (no-segments c tail are (omega arith)); small = small c }
 
     pub side-path : (tail .count ≡ 0 → ⊥) → (e : ScopePath) → scopeOf s c e ≡ briefly (scopePath (schemaIn s) x types (segmentsIn c tail)) → smallPath (scopeOf s c e) → (r : Typed) → r ≡ resolvedOf e → TypeOf s c (sideType (schemaIn s) x types (segmentsIn c tail)) r
-    unfolding sideType
+    unfolding sideTypeBy
     side-path h e is small r i =
         let v = first-segment c tail are (omega arith) in
         let j : ifResolved (scopePath (schemaIn s) x types (segmentsIn c tail)) ≡ sideType (schemaIn s) x types (segmentsIn c tail) = rw (← v .same) in

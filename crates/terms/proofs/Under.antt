@@ -27,12 +27,12 @@ use Rattle.nodes.specs.Looked.{TermKindHere}
 use Rattle.nodes.specs.Parts.{PathHere, segmentsIn, SegmentsHere, BoundBy}
 use Rattle.nodes.specs.declared.Bound.{Bound}
 use Rattle.nodes.specs.declared.Bound.the-variants as Bound
-use Rattle.resolution.specs.Resolution.{contextType}
+use Rattle.resolution.specs.Resolution.{contextTypeBy, contextType}
 use Rattle.resolution.specs.Places.{typedOf, smallType}
 use Rattle.resolution.specs.Places as resolution
 use Rattle.resolution.specs.declared.Typed.{Typed}
 use Rattle.resolution.specs.declared.Typed.the-variants.{As, Nothing}
-use Rattle.terms.specs.Terms.{factsOf, annotationType, inputType, varType, termType, rootType, scopeFieldType}
+use Rattle.terms.specs.Terms.{factsOf, annotationTypeBy, inputType, varType, termType, rootType, scopeFieldType}
 use Rattle.terms.specs.Terms as Terms
 use Rattle.terms.specs.Bounds.{Within}
 use Rattle.terms.specs.Facts.{factsIn, FactsOf, NameTyped}
@@ -53,7 +53,7 @@ pub ruleset making = (needs, facts-made)
 -- Under a declared action, and under none.
 module _ (s c : List ℕ) (at : ℕ) where
   pub context-undeclared : (action : Found) → action ≡ Found.Absent → TypeOf s c (contextType (foundIn (actionIn s) action) (pathIn c at)) Nothing
-  unfolding contextType
+  unfolding contextTypeBy
   context-undeclared action e = nothing-typed s c (rw e)
 
   pub scope-undeclared : (facts : Facts) (n : List ℕ) → facts .action ≡ Found.Absent → TypeOf s c (scopeFieldType (factsIn s c n facts) (pathIn c at)) Nothing
@@ -108,7 +108,7 @@ module _ (s c : List ℕ) (facts : Facts) (name : List ℕ) (b : Bound) (says : 
       record { value = λ n. ap some (h .value s) ∙ rw i; small = within-small s c (As r) (more (h .within)) }
 
   pub name-timepoint : b ≡ Bound.Timepoint → NameTyped s c facts name (plain Scalar.Timepoint)
-  unfolding varType annotationType layered
+  unfolding varType annotationTypeBy layered
   name-timepoint e =
       let i : lastNamed name (binders (recordIn c)) ≡ some timepoint = sym (says .value) ∙ rw e in
       record { value = λ n. rw i; small = within-small s c (plain Scalar.Timepoint) (record { layers = omega arith; tag = omega arith }) }

@@ -5,7 +5,7 @@ use mathlib.Core.Bool.{true}
 use mathlib.Core.List.{List}
 use mathlib.Core.Option.{Option}
 use Rattle.names.specs.Read.{wordAt}
-use Rattle.types.specs.Types.{Ty}
+use Rattle.types.specs.Types.{Ty, dated}
 use Rattle.types.specs.Meaning.{tagOf, richOf}
 use Rattle.types.specs.declared.Tag.{Tag}
 use Rattle.types.specs.declared.Rich.{Rich}
@@ -17,13 +17,18 @@ use Rattle.resolution.specs.declared.Typed.{Typed}
 use Rattle.resolution.specs.declared.Typed.the-variants.{As, Nothing}
 use Rattle.resolution.specs.declared.ScopePath.{ScopePath}
 use Rattle.resolution.specs.declared.ScopePath.the-variants as ScopePath
-use Rattle.terms.specs.Terms.{wordType, annotationType}
+use Rattle.terms.specs.Terms.{otherType, wordType, annotationType}
 use Rattle.terms.specs.Bounds.{Within}
 
 -- the string at a place as a tag of the condition
 pub record WordTag (c : List ℕ) (at : ℕ) (r : Tag) : Type 0 where
   pub value : (s : List ℕ) → tagOf s c r ≡ wordAt c at
   pub short : r .len ≤ 255
+
+-- the type of the word at a place, where the published Rust has none for it
+pub record OtherTyped (c : List ℕ) (at : ℕ) (r : Rich) : Type 0 where
+  pub value : (s : List ℕ) → richOf s c r ≡ otherType dated (wordAt c at)
+  pub within : Within 0 (As r)
 
 -- the type that the word at a place names
 pub record WordTyped (c : List ℕ) (at : ℕ) (r : Rich) : Type 0 where

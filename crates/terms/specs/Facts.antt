@@ -3,6 +3,7 @@ use Prim.Native.Nat.{ℕ}
 use mathlib.Core.Path.{_≡_}
 use mathlib.Core.Bool.{true}
 use mathlib.Core.List.{List}
+use Rattle.types.specs.Types.{dated}
 use Rattle.types.specs.Meaning.{profileIn}
 use Rattle.schema.specs.Places.{isSchema, schemaIn, isAction, actionIn, foundIn, foundStands, ActionsOf}
 use Rattle.targets.specs.Targets.{Scope}
@@ -23,7 +24,7 @@ scopeIn n f = record { principal = narrowed n (f .principal); resource = narrowe
 
 -- of the schema s, the condition c and the targets n; their binders are those of the flat environment, which the table has (`named`, below)
 abbrev pub factsIn : List ℕ → List ℕ → List ℕ → Facts → Terms.Facts
-factsIn s c n f = record { profile = profileIn (f .common .profile); schema = schemaIn s; scope = scopeIn n f; action = foundIn (actionIn s) (f .action); binders = binders (recordIn c) }
+factsIn s c n f = record { vocabulary = dated; profile = profileIn (f .common .profile); schema = schemaIn s; scope = scopeIn n f; action = foundIn (actionIn s) (f .action); binders = binders (recordIn c) }
 
 -- what is made ready once for all targets: the records are accepted, the environment has the binders by name, and the row is that of the schema's actions
 pub record Ready (s c env : List ℕ) (common : Common) : Type 0 where

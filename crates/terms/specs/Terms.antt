@@ -8,31 +8,42 @@ use Rattle.names.specs.Names.{same, simpleName, lastOf}
 use Rattle.condition.specs.Walk.{binders, lastNamed}
 use Rattle.names.specs.Text.{text}
 use Rattle.types.specs.Types as types
-use Rattle.types.specs.Types.{Ty, Profile, scalar, anyArray, mixedArray, sameType}
+use Rattle.types.specs.Types.{Ty, Vocabulary, dated, timeType, Profile, scalar, anyArray, mixedArray, sameType}
 use Rattle.schema.specs.Schema.{Schema, Action, Declared}
 use Rattle.targets.specs.Targets.{Narrowing, Scope}
-use Rattle.schema.specs.Find.{fieldsOf, findAttribute, richType}
-use Rattle.resolution.specs.Resolution.{contextType, scopeType, ScopePath, scopePath}
+use Rattle.schema.specs.Find.{fieldsOf, findAttribute, richTypeBy}
+use Rattle.resolution.specs.Resolution.{contextTypeBy, scopeType, ScopePath, scopePathBy}
 use Rattle.condition.specs.Condition as condition
 use Rattle.condition.specs.Condition.{Condition, Binder, Term, Terms, Annotation, timepoint, path, Literal, entity, literal, contextField, scopeField, var, wildcard, array, aggregate, arith, sigil, nil, cons}
 
--- the type that a word names: a word of the language, or an entity type
-unfoldable pub wordType : List ℕ → Ty
-wordType w =
+-- the type of a word that the published Rust has no type for: a type of its own, or an entity type
+unfoldable pub otherType : Vocabulary → List ℕ → Ty
+otherType v w = maybe (types.entity (some w)) scalar (timeType v w)
+
+-- the type that a word names
+unfoldable pub wordTypeBy : Vocabulary → List ℕ → Ty
+wordTypeBy v w =
     cond (same w (text "Long")) (scalar types.long)
     (cond (same w (text "String")) (scalar types.string)
     (cond (same w (text "Bool") || same w (text "Boolean")) (scalar types.bool)
     (cond (same w (text "decimal") || same w (text "Decimal")) (scalar types.decimal)
-    (types.entity (some w)))))
+    (otherType v w))))
+
+abbrev pub wordType : List ℕ → Ty
+wordType = wordTypeBy dated
 
 -- `rich_type_of_annotation`: the type of a named annotation is its last segment's
-unfoldable pub annotationType : Annotation → Ty
-annotationType timepoint = scalar types.timepoint
-annotationType (path segments) = wordType (lastOf segments)
+unfoldable pub annotationTypeBy : Vocabulary → Annotation → Ty
+annotationTypeBy v timepoint = scalar types.timepoint
+annotationTypeBy v (path segments) = wordTypeBy v (lastOf segments)
 
--- what a condition is checked under: the profile that the caller chose, the schema, the rule's scope, the target's action if it is declared, and the
--- binders that declare names, of which the last of a name counts. No type depends on the profile
+abbrev pub annotationType : Annotation → Ty
+annotationType = annotationTypeBy dated
+
+-- what a condition is checked under: the words known, the profile that the caller chose, the schema, the rule's scope, the target's action if it is
+-- declared, and the binders that declare names, of which the last of a name counts. No type depends on the profile
 pub record Facts : Type 0 where
+  pub vocabulary : Vocabulary
   pub profile : Profile
   pub schema : Schema
   pub scope : Scope
@@ -40,24 +51,33 @@ pub record Facts : Type 0 where
   pub binders : List Binder
 
 -- those of a target whose action is this one, or undeclared: in the flat environment all binders of the condition declare their names everywhere
+abbrev pub factsBy : Vocabulary → Profile → Schema → Condition → Scope → Option Action → Facts
+factsBy v p s c scope a = record { vocabulary = v; profile = p; schema = s; scope = scope; action = a; binders = binders c }
+
 abbrev pub factsOf : Profile → Schema → Condition → Scope → Option Action → Facts
-factsOf p s c scope a = record { profile = p; schema = s; scope = scope; action = a; binders = binders c }
+factsOf = factsBy dated
 
 -- the type of an attribute of a record
-unfoldable pub fieldType : List ℕ → Declared → Option Ty
-fieldType name t = maybe none (λ fields. maybe none (λ u. some (richType u)) (findAttribute fields name)) (fieldsOf t)
+unfoldable pub fieldTypeBy : Vocabulary → List ℕ → Declared → Option Ty
+fieldTypeBy v name t = maybe none (λ fields. maybe none (λ u. some (richTypeBy v u)) (findAttribute fields name)) (fieldsOf t)
+
+abbrev pub fieldType : List ℕ → Declared → Option Ty
+fieldType = fieldTypeBy dated
 
 -- the type of an `input` field of the action's context
-unfoldable pub inputType : Option Action → List ℕ → Option Ty
-inputType action name =
+unfoldable pub inputTypeBy : Vocabulary → Option Action → List ℕ → Option Ty
+inputTypeBy v action name =
     maybe none
-    (λ a. maybe none (λ fields. maybe none (fieldType name) (findAttribute fields (text "input"))) (fieldsOf (a .context)))
+    (λ a. maybe none (λ fields. maybe none (fieldTypeBy v name) (findAttribute fields (text "input"))) (fieldsOf (a .context)))
     action
+
+abbrev pub inputType : Option Action → List ℕ → Option Ty
+inputType = inputTypeBy dated
 
 -- a name's type in the flat environment (`build_type_env`): by the last binder of that name, else by the input field
 unfoldable pub varType : Facts → List ℕ → Option Ty
 varType f name =
-    maybe (inputType (f .action) name) (λ a. some (annotationType a)) (lastNamed name (f .binders))
+    maybe (inputTypeBy (f .vocabulary) (f .action) name) (λ a. some (annotationTypeBy (f .vocabulary) a)) (lastNamed name (f .binders))
 
 abbrev pub ifResolved : ScopePath → Option Ty
 ifResolved (ScopePath.resolved t) = some t
@@ -67,16 +87,19 @@ ifResolved (ScopePath.ambiguous ts) = none
 ifResolved ScopePath.unknown = none
 
 -- one side of the scope: the bare root, or a path of its attributes
-unfoldable pub sideType : Schema → Option Narrowing → List (List ℕ) → List (List ℕ) → Option Ty
-sideType s n candidates [] = scopeType s n candidates
-sideType s n candidates (seg ∷ rest) = ifResolved (scopePath s n candidates (seg ∷ rest))
+unfoldable pub sideTypeBy : Vocabulary → Schema → Option Narrowing → List (List ℕ) → List (List ℕ) → Option Ty
+sideTypeBy v s n candidates [] = scopeType s n candidates
+sideTypeBy v s n candidates (seg ∷ rest) = ifResolved (scopePathBy v s n candidates (seg ∷ rest))
+
+abbrev pub sideType : Schema → Option Narrowing → List (List ℕ) → List (List ℕ) → Option Ty
+sideType = sideTypeBy dated
 
 -- `principal` or `resource`, and what stands after it; another root has no type
 unfoldable pub rootType : Facts → Action → List (List ℕ) → Option Ty
 rootType f a [] = none
 rootType f a (root ∷ tail) =
-    cond (same root (text "principal")) (sideType (f .schema) (f .scope .principal) (a .principals) tail)
-    (cond (same root (text "resource")) (sideType (f .schema) (f .scope .resource) (a .resources) tail) none)
+    cond (same root (text "principal")) (sideTypeBy (f .vocabulary) (f .schema) (f .scope .principal) (a .principals) tail)
+    (cond (same root (text "resource")) (sideTypeBy (f .vocabulary) (f .schema) (f .scope .resource) (a .resources) tail) none)
 
 -- `scope_field_type`
 unfoldable pub scopeFieldType : Facts → List (List ℕ) → Option Ty
@@ -104,7 +127,7 @@ unfoldable mutual
   pub termType : Option Facts → Term → Option Ty
   termType f (entity n) = some (types.entity (some (simpleName (n .name))))
   termType f (literal l) = some (literalType l)
-  termType f (contextField p) = maybe none (λ g. contextType (g .action) p) f
+  termType f (contextField p) = maybe none (λ g. contextTypeBy (g .vocabulary) (g .action) p) f
   termType f (scopeField p) = maybe none (λ g. scopeFieldType g p) f
   termType f (var v) = maybe none (λ g. varType g v) f
   termType f wildcard = none

@@ -8,6 +8,7 @@ use types::Rich;
 use types::Scalar;
 use types::Source;
 use types::Tag;
+use types::TimeType;
 ghost use mathlib.Core.Path.{_≡_};
 ghost use mathlib.Core.Bool.{true};
 ghost use mathlib.Core.Option.{some};
@@ -19,7 +20,7 @@ ghost use Rattle.nodes.specs.Parts.{segmentsIn, SegmentsHere};
 ghost use Rattle.walk.specs.Environment.{Environment};
 ghost use Rattle.terms.specs.Terms.{fieldType, inputType};
 ghost use Rattle.terms.specs.Facts.{NameTyped};
-ghost use Rattle.terms.specs.Answers.{WordTag, WordTyped, AnnotationTyped, TypedBy};
+ghost use Rattle.terms.specs.Answers.{WordTag, OtherTyped, WordTyped, AnnotationTyped, TypedBy};
 
 // The string at `at` as a tag.
 fn word_tag(condition: &[u8], at: usize) -> Tag
@@ -37,6 +38,23 @@ fn word_tag(condition: &[u8], at: usize) -> Tag
         source: Source::Condition,
         at: at + 1,
         len,
+    }
+}
+
+// The type that the word at `at` names where it is no word of the published Rust: that of a word for times, else an entity type.
+fn other_type(condition: &[u8], at: usize) -> Rich
+    ensures { λ r. ⌜ OtherTyped (now (condition .entry)) at r ⌝ }
+{
+    let TimeType::As(time) = types::time_type(names::word(condition, at)) else {
+        let tag = word_tag(condition, at);
+        return Rich {
+            layers: 0,
+            base: Base::Tagged(tag),
+        };
+    };
+    Rich {
+        layers: 0,
+        base: Base::Plain(time),
     }
 }
 
@@ -81,9 +99,7 @@ fn word_type(condition: &[u8], at: usize) -> Rich
             base: Base::Plain(Scalar::Decimal),
         };
     }
-    let tag = word_tag(condition, at);
-    let base = Base::Tagged(tag);
-    Rich { layers: 0, base }
+    other_type(condition, at)
 }
 
 // The type of a field of the record at `at`.
