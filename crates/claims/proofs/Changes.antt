@@ -23,7 +23,7 @@ use Rattle.terms.specs.Terms.{Facts, factsOf, termType, elementTypes, arrayOf}
 use Rattle.reports.specs.Reports as reports
 use Rattle.reports.specs.Reports.{Breach, once, refusal, reported}
 use Rattle.rules.specs.Rules.{both, ordering, operandsBy, notLongHere, argumentBreach, argumentBreaches, leafBreaches, arithmeticBreaches, nodeBreaches}
-use Rattle.typecheck.specs.Check.{profileOf, breachesUnder, isChecked, visitsUnder, begun, CheckOutcome, unvisited, checked, checkWith}
+use Rattle.typecheck.specs.Check.{profileOf, breachesUnderBy, breachesUnder, isChecked, visitsUnderBy, visitsUnder, begun, CheckOutcome, unvisited, checkedBy, checked, checkWithBy, checkWith}
 use Rattle.sums.specs.Sums.{aggregateBreaches, termBreaches, termsBreaches, argumentsBreaches, conditionBreaches, breaches, sums}
 use Rattle.sweeps.specs.Windows.{concreteOf, concreteIn, concreteWindows, inSweeps, entries, swept, windows}
 use Rattle.claims.specs.Changes.{Change, KeepsTypes, KeepsWindows, changed, inArguments, inTerm, inTerms, inAggregate, Alike, ListedAlike, Unseen, ChangedOnce, Unlisted, ListedOnce}
@@ -208,7 +208,7 @@ module _ (change : Change) (keeps : KeepsTypes change) where
         ∙ gathered change (nodeBreaches (factsOf p s c scope a)) (nodeBreaches (factsOf p s c scope a)) (same-node (factsOf p s c scope a)) c
 
     same-under : (t : Target) → breachesUnder p s (changed change c) scope t ≡ breachesUnder p s c scope t
-    unfolding breachesUnder
+    unfolding breachesUnderBy
     same-under t = go (findAction s (t .namespace) (t .id))
       where
         go : (o : Option Action) → maybe (gather (nodeBreaches (factsOf p s (changed change c) scope none)) (reached (changed change c))) (λ a. cond (admitsAnyEnv s scope a) (gather (nodeBreaches (factsOf p s (changed change c) scope (some a))) (reached (changed change c))) []) o
@@ -224,11 +224,11 @@ module _ (change : Change) (keeps : KeepsTypes change) where
         ∙ sym (map-gathered (nodeBreaches (factsOf p s c scope a)) (reached c))
 
     same-visits : (t : Target) → visitsUnder p s (changed change c) scope t ≡ visitsUnder p s c scope t
-    unfolding visitsUnder
+    unfolding visitsUnderBy
     same-visits t = ap (λ visits. cond (isChecked s scope t) visits []) (same-made (findAction s (t .namespace) (t .id)))
 
   same-checked : (p : Profile) (s : Schema) (c : Condition) (ts : Targets) (buffer : List ℕ) → checked p s (changed change c) ts buffer ≡ checked p s c ts buffer
-  unfolding checked
+  unfolding checkedBy
   same-checked p s c ts buffer =
       λ i. record {
         outcome = ap (λ bs. reported (once [] bs) buffer) (gather-same (same-under p s c (ts .scope)) (ts .list)) i;
@@ -315,7 +315,7 @@ module _ (a b : List ℕ) (isA : isRecord a ≡ true) (isB : isRecord b ≡ true
     (checks : (p : Profile) (s : Schema) (ts : Targets) (buffer : List ℕ) → checked p s (recordIn a) ts buffer ≡ checked p s (recordIn b) ts buffer)
     (summed : breaches (recordIn a) ≡ breaches (recordIn b)) where
   checks-alike : (rules : ℕ) (schemaBytes targetBytes buffer : List ℕ) → checkWith rules schemaBytes a targetBytes buffer ≡ checkWith rules schemaBytes b targetBytes buffer
-  unfolding checkWith answered
+  unfolding checkWithBy answered
   checks-alike rules schemaBytes targetBytes buffer =
       ap (λ h. answered rules buffer (whole schemaRecord schemaBytes) h (whole targetRecord targetBytes)) (read a isA .reads)
       ∙ answered-alike (recordIn a) (recordIn b) (read a isA .end) (read b isB .end) checks rules buffer (whole schemaRecord schemaBytes) (whole targetRecord targetBytes)

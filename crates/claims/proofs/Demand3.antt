@@ -24,7 +24,7 @@ use Rattle.reports.specs.Laws.Sets.{in-left, in-right, in-append, length-same}
 use Rattle.reports.specs.Pairs.{_∈_, NoDup, Same, Pair, pairOf, pairs, space}
 use Rattle.terms.specs.Terms.{factsOf}
 use Rattle.rules.specs.Rules.{nodeBreaches}
-use Rattle.typecheck.specs.Check.{profileOf, breachesUnder, isChecked, CheckOutcome, checked, checkWith}
+use Rattle.typecheck.specs.Check.{profileOf, breachesUnderBy, breachesUnder, isChecked, CheckOutcome, checkedBy, checked, checkWithBy}
 use Rattle.typecheck.specs.Answers.{checkOutcomeOf}
 use Rattle.claims.specs.Written.{written}
 use Rattle.claims.specs.Breaches.{Accepted, BreachUnder, BreachOf, PairOf, Different, SpaceForAll, Run, reportedPairs, Shared, Exact, under, Alone, Taken, RunOf, Counts, Joined, Alike, Claim}
@@ -97,7 +97,7 @@ breaches rules s c ts = gather (breachesUnder (profileOf rules) s c (ts .scope))
 
 module _ (rules : ℕ) (s : Schema) (c : Condition) (ts : Targets) where
   is-breach : (b : Breach) → b ∈ breaches rules s c ts → BreachOf rules s c ts b
-  unfolding breachesUnder isChecked judged underAction
+  unfolding breachesUnderBy isChecked judged underAction
   is-breach b h =
       let r = source (breachesUnder (profileOf rules) s c (ts .scope)) (ts .list) b h in
       let t = r .own in
@@ -105,7 +105,7 @@ module _ (rules : ℕ) (s : Schema) (c : Condition) (ts : Targets) where
       record { target = t; listed = r .listed; checked = i .0; breach = record { node = i .1 .own; isReached = i .1 .listed; breaks = i .1 .gives } }
 
   breach-in : (b : Breach) → BreachOf rules s c ts b → b ∈ breaches rules s c ts
-  unfolding breachesUnder isChecked judged underAction
+  unfolding breachesUnderBy isChecked judged underAction
   breach-in b r =
       let t = r .target in
       gathered (breachesUnder (profileOf rules) s c (ts .scope)) (ts .list) b t (r .listed)
@@ -141,7 +141,7 @@ module _ (rules : ℕ) (schemaBytes conditionBytes : List ℕ) (s : Schema) (c :
     left = checkOutcomeOf (r .answer) (r .after) .outcome
 
     runs : left ≡ reported (once [] (breaches rules s c ts)) (r .before)
-    unfolding checkWith checked
+    unfolding checkWithBy checkedBy
     runs = ap (λ (o : CheckOutcome). o .outcome) (r .contract) ∙ rw (is .schema, is .condition, is .targets)
 
   enough : (ts : Targets) (buffer : List ℕ) → SpaceForAll rules s c ts buffer → space (pairs (once [] (breaches rules s c ts))) ≤ length buffer

@@ -16,13 +16,13 @@ use Rattle.types.specs.Meaning.{layered}
 use Rattle.schema.specs.Schema.{Schema, Action}
 use Rattle.schema.specs.Find.{findAction}
 use Rattle.targets.specs.Targets.{Target, Scope, Narrowing, any}
-use Rattle.resolution.specs.Resolution.{scopePath, admitted, declaredAll, onTypes, onEntity, unattributed, projection, verdict, failed, failure, typesOf, typed, agreed, sideAdmits, admitsAnyEnv}
+use Rattle.resolution.specs.Resolution.{scopePathBy, admitted, declaredAll, onTypesBy, onEntityBy, unattributed, projection, verdict, failed, failure, typesOf, typed, agreed, sideAdmits, admitsAnyEnv}
 use Rattle.condition.specs.Condition as condition
 use Rattle.condition.specs.Condition.{Span, Condition, Term, Annotation, Binder, Operator, path, comparison, entity, literal, contextField, scopeField, var, wildcard, array, nil, cons, aggregate, sigil}
 use Rattle.condition.specs.Walk.{reached, reachedIn, operandAggregates, operandBinders, declares, binders, namedHere, lastNamed}
-use Rattle.terms.specs.Terms.{Facts, factsOf, wordType, annotationType, inputType, varType, sideType, rootType, scopeFieldType, allLike, arrayOf, elementTypes, termType}
+use Rattle.terms.specs.Terms.{Facts, factsOf, wordTypeBy, annotationTypeBy, annotationType, inputType, varType, sideTypeBy, rootType, scopeFieldType, allLike, arrayOf, elementTypes, termType}
 use Rattle.rules.specs.Rules.{numericBreaches, likeBreaches, operandsBy, ordering, argumentBreach, argumentBreaches, leafBreaches, arithmeticBreaches, nodeBreaches}
-use Rattle.typecheck.specs.Check.{breachesUnder, isChecked}
+use Rattle.typecheck.specs.Check.{breachesUnderBy, breachesUnder, isChecked}
 use Rattle.reports.specs.Reports.{Breach}
 use Rattle.claims.specs.Rows.{Hold, end, _and_}
 use Rattle.claims.specs.Examples.{Checked, factsIn, typeIn, reports, Operands, compared, Entities, empty, BesideEmpty, ArrayField, argued, binderOf, Bound, Rebound, AnyName, WithoutId, id, partOfId, comparing, NoPrincipals, narrowedTo, integer, decimal, string, only, declaring, twice, edges}
@@ -35,7 +35,7 @@ module _ (s : Schema) (c : Condition) (scope : Scope) (t : Target) where
   broken a = gather (nodeBreaches (factsOf types.plain s c scope a)) (reached c)
 
   judged : isChecked s scope t ≡ true → breachesUnder types.plain s c scope t ≡ broken (findAction s (t .namespace) (t .id))
-  unfolding isChecked breachesUnder
+  unfolding isChecked breachesUnderBy
   judged is = go (findAction s (t .namespace) (t .id)) is
     where
       go : (o : Option Action) → maybe true (admitsAnyEnv s scope) o ≡ true → maybe (broken none) (λ a. cond (admitsAnyEnv s scope a) (broken (some a)) []) o ≡ broken o
@@ -133,22 +133,22 @@ module _ (under : Checked) (whole : Condition) (name type : List ℕ) (before af
   declared-type = rw (passes, last-binder name type before after last)
 
 bound : (x : Bound) → typeIn (x .under) (x .whole) (var (x .name)) ≡ some (scalar types.long)
-unfolding termType annotationType wordType lastOf same text
+unfolding termType annotationTypeBy wordTypeBy lastOf same text
 bound x = declared-type (x .under) (x .whole) (x .name) (text "Long") (x .before) (x .after) (x .passes) (x .last)
 
 rebound : (x : Rebound) → typeIn (x .under) (x .whole) (var (x .name)) ≡ some (scalar types.string)
-unfolding termType annotationType wordType lastOf same text
+unfolding termType annotationTypeBy wordTypeBy lastOf same text
 rebound x = declared-type (x .under) (x .whole) (x .name) (text "String") (x .before ++ (binderOf (x .name) (text "Long") ∷ x .between)) (x .after) (x .passes ∙ sym (append-assoc (x .before) _ _)) (x .last)
 
 -- ---- paths and scopes
 
 module _ (x : WithoutId) where
   id-string : (c : Condition) → typeIn (x .under) c id ≡ some (scalar types.string)
-  unfolding termType scopeFieldType rootType sideType scopePath declaredAll onTypes onEntity unattributed projection verdict failed typesOf typed agreed first every same text
+  unfolding termType scopeFieldType rootType sideTypeBy scopePathBy declaredAll onTypesBy onEntityBy unattributed projection verdict failed typesOf typed agreed first every same text
   id-string c = rw (x .found, x .left, x .declared, x .without)
 
   id-part : (c : Condition) → typeIn (x .under) c partOfId ≡ none
-  unfolding termType scopeFieldType rootType sideType scopePath declaredAll onTypes onEntity unattributed projection verdict failed failure first same text
+  unfolding termType scopeFieldType rootType sideTypeBy scopePathBy declaredAll onTypesBy onEntityBy unattributed projection verdict failed failure first same text
   id-part c = rw (x .found, x .left, x .declared, x .without)
 
   plain-id : (f : Facts) (at : Span) → Plain f at id
@@ -173,11 +173,11 @@ no-principal s a r e = rw e
 
 module _ (x : NoPrincipals) where
   any-skips : breachesUnder types.plain (x .schema) (x .whole) (narrowedTo (some any) x) (x .target) ≡ []
-  unfolding breachesUnder
+  unfolding breachesUnderBy
   any-skips = rw (x .found, no-principal (x .schema) (x .action) (x .resource) (x .empty))
 
   none-judged : (c : Condition) → breachesUnder types.plain (x .schema) c (narrowedTo none x) (x .target) ≡ gather (nodeBreaches (factsOf types.plain (x .schema) c (narrowedTo none x) (some (x .action)))) (reached c)
-  unfolding breachesUnder admitsAnyEnv sideAdmits
+  unfolding breachesUnderBy admitsAnyEnv sideAdmits
   none-judged c = rw (x .found, x .admits)
 
   none-reports : length (breachesUnder types.plain (x .schema) (comparison (x .at) condition.lt decimal decimal) (narrowedTo none x) (x .target)) ≡ 1
@@ -190,7 +190,7 @@ module _ (x : AnyName) where
   one = declaring x (λ at v. comparison at condition.eq v integer)
 
   one-long : varType (factsIn (x .under) one) (x .name) ≡ some (scalar types.long)
-  unfolding binders gather declares reached reachedIn operandBinders operandAggregates lastNamed annotationType wordType lastOf same text
+  unfolding binders gather declares reached reachedIn operandBinders operandAggregates lastNamed annotationTypeBy wordTypeBy lastOf same text
   one-long = declared-type (x .under) one (x .name) (text "Long") [] [] refl refl
 
   one-reports : reports (x .under) one ≡ 0
@@ -202,7 +202,7 @@ module _ (x : AnyName) where
   listed-reports = computed (x .under) _
 
   twice-string : varType (factsIn (x .under) (twice x)) (x .name) ≡ some (scalar types.string)
-  unfolding binders gather declares reached reachedIn operandBinders operandAggregates lastNamed annotationType wordType lastOf same text
+  unfolding binders gather declares reached reachedIn operandBinders operandAggregates lastNamed annotationTypeBy wordTypeBy lastOf same text
   twice-string = declared-type (x .under) (twice x) (x .name) (text "String") (binderOf (x .name) (text "Long") ∷ []) [] refl refl
 
   twice-reports : reports (x .under) (twice x) ≡ 1

@@ -16,7 +16,7 @@ use Rattle.types.specs.Laws.Profiles.{compatible-swapped}
 use Rattle.condition.specs.Condition as condition
 use Rattle.condition.specs.Condition.{Span, Condition, Term, Operator, comparison}
 use Rattle.condition.specs.Walk.{reached, reachedIn, reachedBody, operandAggregates, operandBinders, declaredBy, declares, binders, lastNamed}
-use Rattle.terms.specs.Terms.{Facts, wordType, annotationType, varType, termType}
+use Rattle.terms.specs.Terms.{Facts, wordTypeBy, annotationTypeBy, varType, termType}
 use Rattle.rules.specs.Rules.{breachIf, both, numericBreaches, likeBreaches, operandsBy, ordering, arithmeticBreaches, nodeBreaches}
 use Rattle.reports.specs.Reports.{Breach}
 use Rattle.claims.specs.Examples.{AnyName, factsIn, reports, binderOf}
@@ -90,11 +90,11 @@ module _ (x : AnyName) where
   in-front = comparison (x .under .at) condition.eq (otherCount x) (askingCount x)
 
   string-last : varType (factsIn (x .under) behind) (x .name) ≡ some (scalar types.string)
-  unfolding binders gather declares reached reachedIn reachedBody operandBinders operandAggregates declaredBy lastNamed annotationType wordType lastOf same text
+  unfolding binders gather declares reached reachedIn reachedBody operandBinders operandAggregates declaredBy lastNamed annotationTypeBy wordTypeBy lastOf same text
   string-last = declared-type (x .under) behind (x .name) (text "String") (binderOf (x .name) (text "Long") ∷ []) [] refl refl
 
   long-last : varType (factsIn (x .under) in-front) (x .name) ≡ some (scalar types.long)
-  unfolding binders gather declares reached reachedIn reachedBody operandBinders operandAggregates declaredBy lastNamed annotationType wordType lastOf same text
+  unfolding binders gather declares reached reachedIn reachedBody operandBinders operandAggregates declaredBy lastNamed annotationTypeBy wordTypeBy lastOf same text
   long-last = declared-type (x .under) in-front (x .name) (text "Long") (binderOf (x .name) (text "String") ∷ []) [] refl refl
 
   one-breach : reports (x .under) behind ≡ 1

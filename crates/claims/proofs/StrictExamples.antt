@@ -10,19 +10,19 @@ use Rattle.condition.specs.Condition.{conditionRecordUpTo, conditionRecord, con
 use Rattle.condition.specs.Walk.{reached, reachedIn}
 use Rattle.targets.specs.Targets.{targetRecord, narrowing, narrowings, target}
 use Rattle.resolution.specs.Resolution.{admitsAnyEnv, sideAdmits, admittedBy, admitted, entityOf, scopeType}
-use Rattle.terms.specs.Terms.{termType, elementTypes, arrayOf, allLike, scopeFieldType, rootType, sideType}
+use Rattle.terms.specs.Terms.{termType, elementTypes, arrayOf, allLike, scopeFieldType, rootType, sideTypeBy}
 use Rattle.types.specs.Types.{display, fits}
 use Rattle.reports.specs.Reports.{once, encoded, fitting, reported}
 use Rattle.reports.specs.Decode.{report, behind, reports}
 use Rattle.reports.specs.Messages.{parts, filled, from}
 use Rattle.names.specs.Text.{text}
 use Rattle.rules.specs.Rules.{nodeBreaches, arithmeticBreaches, numericBreaches, likeBreaches}
-use Rattle.typecheck.specs.Check.{profileOf, checkWith, checked, breachesUnder}
+use Rattle.typecheck.specs.Check.{profileOf, checkWithBy, checkedBy, breachesUnderBy}
 use Rattle.claims.specs.Rows.{Hold, end, _and_}
 use Rattle.claims.specs.StrictExamples.{lines}
 
 pub all-lines : Hold lines
-unfolding text whole heading bytes u8 number u16 u32 stringOf many counted finished choose digits letter letterOrDigit identifier pathName pathTail secondColon pathOrNone plain plainByte same below simpleFrom simpleName pathOf gather anyOf first every select after ascending attributesOf attributes kinds typeAt keyAfter action schemaRecord findAction actionType conditionRecordUpTo conditionRecord conditionAt termAt conditionKinds comparisonOf binary elements elementList termKinds given entityFields span operator operators reached reachedIn targetRecord narrowing narrowings target admitsAnyEnv sideAdmits admittedBy admitted entityOf scopeType termType elementTypes arrayOf allLike scopeFieldType rootType sideType display fits once encoded fitting reported report behind reports parts filled from checkWith profileOf checked breachesUnder nodeBreaches arithmeticBreaches numericBreaches likeBreaches
+unfolding text whole heading bytes u8 number u16 u32 stringOf many counted finished choose digits letter letterOrDigit identifier pathName pathTail secondColon pathOrNone plain plainByte same below simpleFrom simpleName pathOf gather anyOf first every select after ascending attributesOf attributes kinds typeAt keyAfter action schemaRecord findAction actionType conditionRecordUpTo conditionRecord conditionAt termAt conditionKinds comparisonOf binary elements elementList termKinds given entityFields span operator operators reached reachedIn targetRecord narrowing narrowings target admitsAnyEnv sideAdmits admittedBy admitted entityOf scopeType termType elementTypes arrayOf allLike scopeFieldType rootType sideTypeBy display fits once encoded fitting reported report behind reports parts filled from checkWithBy profileOf checkedBy breachesUnderBy nodeBreaches arithmeticBreaches numericBreaches likeBreaches
 all-lines =
     (λ x. refl)
     and (λ x. refl)

@@ -25,7 +25,7 @@ use Rattle.reports.specs.Reports.{Breach, once, encoded, fitting, reported}
 use Rattle.reports.specs.Decode.{size}
 use Rattle.reports.specs.Kept.{full-fewer}
 use Rattle.reports.specs.Laws.Once.{once-append}
-use Rattle.typecheck.specs.Check.{profileOf, isChecked, visitsUnder, begun, CheckOutcome, checked, checkWith, unvisited}
+use Rattle.typecheck.specs.Check.{profileOf, isChecked, visitsUnderBy, visitsUnder, begun, CheckOutcome, checkedBy, checked, checkWithBy, unvisited}
 use Rattle.typecheck.specs.Answers.{checkOutcomeOf}
 use Rattle.typecheck.specs.Run.{foundBy}
 use Rattle.typecheck.specs.Laws.Visits.{found-all}
@@ -139,7 +139,7 @@ module _ (buffer : List ℕ) where
 
 module _ (p : Profile) (s : Schema) (c : Condition) (scope : Scope) where
   by-target : (t : Target) → length (visitsUnder p s c scope t) ≡ cond (isChecked s scope t) (length (reached c)) 0
-  unfolding visitsUnder
+  unfolding visitsUnderBy
   by-target t = go (isChecked s scope t) (nodeBreaches _)
     where
       go : (b : Bool) (f : Condition → List Breach) → length (cond b (map f (reached c)) []) ≡ cond b (length (reached c)) 0
@@ -183,17 +183,17 @@ module _ (schemaBytes conditionBytes targetBytes : List ℕ) where
       all = visitsOf schemaBytes conditionBytes targetBytes s c ts rules
 
       run : checkOutcomeOf (r .answer) (r .after) ≡ checked (profileOf rules) s c ts (r .before)
-      unfolding checkWith
+      unfolding checkWithBy
       run = r .contract ∙ rw (is .schema, is .condition, is .targets)
 
       number-is : r .answer .number ≡ numberOf (r .before) (foundBy all)
-      unfolding checkOutcomeOf checked
+      unfolding checkOutcomeOf checkedBy
       number-is =
           ap (λ (o : CheckOutcome). o .outcome .answer .number) run
           ∙ ap (numberOf (r .before)) (sym (found-all (profileOf rules) s c (ts .scope) (ts .list)))
 
       visits-are : r .answer .visits ≡ begun (r .before) [] all
-      unfolding checkOutcomeOf checked
+      unfolding checkOutcomeOf checkedBy
       visits-are = ap (λ (o : CheckOutcome). o .visits) run
 
       product : r .answer .number ≡ 0 → r .answer .visits ≡ length (select (isChecked s (ts .scope)) (ts .list)) * length (reached c)
@@ -224,7 +224,7 @@ module _ (schemaBytes conditionBytes targetBytes : List ℕ) where
     None o = (o .outcome .answer .recordNumber ≡ 0 → ⊥) → o .visits ≡ 0
 
     none-targets : (s : Schema) (c : Condition) (g : Got Targets) → None (either (λ r. unvisited r 3 buffer) (λ ts. checked p s c ts buffer) g)
-    unfolding checked reported
+    unfolding checkedBy reported
     none-targets s c (got ts n) h = absurd (h refl)
     none-targets s c (bad r) h = refl
 
@@ -238,7 +238,7 @@ module _ (schemaBytes conditionBytes targetBytes : List ℕ) where
     none-schema (bad r) k l h = refl
 
   pub billed-of : BilledOf schemaBytes conditionBytes targetBytes
-  unfolding checkOutcomeOf checkWith
+  unfolding checkOutcomeOf checkWithBy
   billed-of = record {
     accepted = λ s c ts is. billed s c ts is;
     refused = λ rules r h.

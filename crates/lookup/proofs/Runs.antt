@@ -29,7 +29,7 @@ use Rattle.targets.specs.declared.Side.{Side}
 use Rattle.targets.specs.declared.Side.the-variants as Side
 use Rattle.resolution.specs.Resolution.{scopePath, unknown}
 use Rattle.reports.specs.Placed.{placed}
-use Rattle.lookup.specs.Lookup.{onSide, found, output, answered, lookup}
+use Rattle.lookup.specs.Lookup.{onSideBy, foundBy, found, output, answeredBy, answered, lookupBy, lookup}
 use Rattle.lookup.specs.Places.{Records, PathOf, SideOf, Asks, answerTo, QuestionOf}
 use Rattle.lookup.specs.declared.Question.{Question}
 
@@ -47,13 +47,13 @@ module _ (s n c : List ℕ) (action : ℕ) (read : Records s n c) (path : Row) (
   answer o names q d = rw (d .narrowing, d .types .value, d .path, is .value)
 
   pub principal-asked : x ≡ Side.Principal → (q : Question) → SideOf s n (targetsIn n .scope .principal) (actionIn s action .principals) path q → QuestionOf s n c action q
-  unfolding onSide
+  unfolding onSideBy
   principal-asked e q d =
       let h : PathRecord.principal ≡ queryIn c .side = rw e at side in
       record { asks = asked (targetsIn n .scope .principal) (actionIn s action .principals) q d; value = rw (← h) (answer (targetsIn n .scope .principal) (actionIn s action .principals) q d) }
 
   pub resource-asked : x ≡ Side.Resource → (q : Question) → SideOf s n (targetsIn n .scope .resource) (actionIn s action .resources) path q → QuestionOf s n c action q
-  unfolding onSide
+  unfolding onSideBy
   resource-asked e q d =
       let h : PathRecord.resource ≡ queryIn c .side = rw e at side in
       record { asks = asked (targetsIn n .scope .resource) (actionIn s action .resources) q d; value = rw (← h) (answer (targetsIn n .scope .resource) (actionIn s action .resources) q d) }
@@ -68,13 +68,13 @@ module _ (s n c : List ℕ) (at : ℕ) (w : List ℕ) (is-w : w ≡ targetIn n a
 
   module _ (b t : List ℕ) (a : Answer) where
     pub target-unknown : x ≡ Found.Absent → outcomeOf a t ≡ placed (output unknown) b → outcomeOf a t ≡ placed (output (found (schemaIn s) (targetsIn n) (queryIn c) (targetIn n at))) b
-    unfolding found
+    unfolding foundBy
     target-unknown e i =
         let h : none ≡ findAction (schemaIn s) (targetIn n at .namespace) (targetIn n at .id) = rw (← is-w, ← is-v) (rw e at (finds .value)) in
         rw (← h) i
 
     pub target-found : (action : ℕ) → x ≡ Found.At action → (q : Question) → QuestionOf s n c action q → outcomeOf a t ≡ placed (output (answerTo s n c q)) b → outcomeOf a t ≡ placed (output (found (schemaIn s) (targetsIn n) (queryIn c) (targetIn n at))) b
-    unfolding found
+    unfolding foundBy
     target-found action e q d i =
         let h : some (actionIn s action) ≡ findAction (schemaIn s) (targetIn n at .namespace) (targetIn n at .id) = rw (← is-w, ← is-v) (rw e at (finds .value)) in
         rw (← h, ← d .value) i
@@ -89,13 +89,13 @@ module _ (s n c : List ℕ) (position : ℕ) (is : position ≡ queryIn c .posit
 
   module _ (b : List ℕ) (a : Answer) where
     pub position-absent : x ≡ Found.Absent → Refuses 12 3 a → outcomeOf a b ≡ answered (schemaIn s) (targetsIn n) (queryIn c) b
-    unfolding answered
+    unfolding answeredBy
     position-absent e r =
         let h : none ≡ targetAt (queryIn c .position) (targetsIn n .list) = rw (← is) (rw e at (finds .value)) in
         rw (← h) (r .is b)
 
     pub position-found : (at : ℕ) → x ≡ Found.At at → (t : List ℕ) → outcomeOf a t ≡ placed (output (found (schemaIn s) (targetsIn n) (queryIn c) (targetIn n at))) b → outcomeOf a t ≡ answered (schemaIn s) (targetsIn n) (queryIn c) b
-    unfolding answered
+    unfolding answeredBy
     position-found at e t i =
         let h : some (targetIn n at) ≡ targetAt (queryIn c .position) (targetsIn n .list) = rw (← is) (rw e at (finds .value)) in
         rw (← h) i
@@ -106,19 +106,19 @@ pub ruleset positions = (needs, position-stands, position-absent, position-found
 
 module _ (s n c b : List ℕ) (x : Read) (is-x : x ≡ ending (whole schemaRecord s)) where
   pub schema-refused : (r : ℕ) → x ≡ Read.Refused r → (k : ℕ) → k ≡ readNumber x → (a : Answer) → Refuses k 1 a → outcomeOf a b ≡ lookup s n c b
-  unfolding lookup
+  unfolding lookupBy
   schema-refused r e k f a i = rw (refused-by (whole schemaRecord s) x r is-x e, ← refuses e f) (i .is b)
 
   module _ (p : ℕ) (e : x ≡ Read.Next p) (y : Read) (is-y : y ≡ ending (whole targetRecord n)) where
     pub targets-refused : (r : ℕ) → y ≡ Read.Refused r → (k : ℕ) → k ≡ readNumber y → (a : Answer) → Refuses k 3 a → outcomeOf a b ≡ lookup s n c b
-    unfolding lookup
+    unfolding lookupBy
     targets-refused r d k f a i =
         let g = accept (whole schemaRecord s) (passes (whole schemaRecord s) is-x e) in
         rw (g .read, refused-by (whole targetRecord n) y r is-y d, ← refuses d f) (i .is b)
 
     module _ (p′ : ℕ) (e′ : y ≡ Read.Next p′) (z : Read) (is-z : z ≡ ending (whole pathRecord c)) where
       pub path-refused : (r : ℕ) → z ≡ Read.Refused r → (k : ℕ) → k ≡ readNumber z → (a : Answer) → Refuses k 4 a → outcomeOf a b ≡ lookup s n c b
-      unfolding lookup
+      unfolding lookupBy
       path-refused r d k f a i =
           let g = accept (whole schemaRecord s) (passes (whole schemaRecord s) is-x e) in
           let h = accept (whole targetRecord n) (passes (whole targetRecord n) is-y e′) in
@@ -133,7 +133,7 @@ module _ (s n c b : List ℕ) (x : Read) (is-x : x ≡ ending (whole schemaRecor
         }
 
 pub all-answered : (s n c b : List ℕ) → Records s n c → (a : Answer) (t : List ℕ) → outcomeOf a t ≡ answered (schemaIn s) (targetsIn n) (queryIn c) b → outcomeOf a t ≡ lookup s n c b
-unfolding lookup valueOr
+unfolding lookupBy valueOr
 all-answered s n c b r a t i =
     let x = accept (whole schemaRecord s) (r .schema) in
     let y = accept (whole targetRecord n) (r .targets) in

@@ -20,7 +20,7 @@ use Rattle.nodes.specs.Laws.Pieces.{arguments-over}
 use Rattle.schema.specs.Schema.{Action}
 use Rattle.schema.specs.Places.{schemaIn, isAction, actionIn, Answers}
 use Rattle.names.specs.declared.Found.{Found}
-use Rattle.resolution.specs.Resolution.{contextType, predicateAction}
+use Rattle.resolution.specs.Resolution.{contextTypeBy, predicateAction}
 use Rattle.resolution.specs.Places.{typedOf}
 use Rattle.resolution.specs.declared.Typed.{Typed}
 use Rattle.terms.specs.Terms.{Facts, termType}
@@ -62,7 +62,7 @@ module _ (f : Facts) (s c : List ℕ) (own : Span) (name : List ℕ) (action : O
     arguing-over a h = record { still = a .still; is = rw (arguments-over c n at h) at (a .same) }
 
     pub arguing-turn : {whole : Sink} {now next table table′ : List ℕ} {st r : State} → Arguing whole (sink now st) table n at → (p : ArgumentAt) → ArgumentHere c n at p → {x : Said}
-        → Tells s c (both (contextType action (pathIn c (p .field))) (termType (some f) (termIn c (p .term))) (argumentBreach (wordAt c at) name)) x
+        → Tells s c (both (contextTypeBy (f .vocabulary) action (pathIn c (p .field))) (termType (some f) (termIn c (p .term))) (argumentBreach (wordAt c at) name)) x
         → Pushed now st (saidBreaches s c x own) next r table′ → Arguing whole (sink next r) table′ (n - 1) (p .next)
     unfolding argumentBreaches
     arguing-turn a p h g e = record {

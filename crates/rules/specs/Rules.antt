@@ -9,7 +9,7 @@ use Rattle.types.specs.Types as types
 use Rattle.types.specs.Types.{Ty, Profile, scalar, isNumeric, areOrdered, accepts, compatible}
 use Rattle.schema.specs.Schema.{Schema, Action}
 use Rattle.schema.specs.Find.{findAction}
-use Rattle.resolution.specs.Resolution.{contextType, predicateAction}
+use Rattle.resolution.specs.Resolution.{contextTypeBy, predicateAction}
 use Rattle.condition.specs.Condition.{Condition, Term, Arguments, Span, Slot, named, paramRef, binderRef, Operator, le, lt, ge, gt, eq, notEq, one, two, predicate, comparison, exists, tp, opaque, noArgument, argument, entity, literal, contextField, scopeField, var, wildcard, array, aggregate, arith, sigil}
 use Rattle.terms.specs.Terms.{Facts, termType, varType}
 use Rattle.reports.specs.Reports.{Breach}
@@ -64,7 +64,7 @@ module _ (f : Facts) where
   unfoldable pub argumentBreaches : List ℕ → Option Action → Arguments → Rule
   argumentBreaches name action noArgument own = []
   argumentBreaches name action (argument param field value rest) own =
-      both (contextType action field) (termType (some f) value) (argumentBreach param name) own
+      both (contextTypeBy (f .vocabulary) action field) (termType (some f) value) (argumentBreach param name) own
       ++ argumentBreaches name action rest own
 
   -- `check_arith_atoms`: a leaf is Long or has no type; a wildcard, though it has no type, is always a breach

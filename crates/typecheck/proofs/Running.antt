@@ -55,7 +55,7 @@ use Rattle.terms.specs.Terms.{factsOf}
 use Rattle.terms.specs.Facts.{factsIn, Ready, Known, FactsOf}
 use Rattle.terms.specs.Laws.Facts.{facts-mean}
 use Rattle.rules.specs.Rules.{nodeBreaches}
-use Rattle.typecheck.specs.Check.{profileOf, breachesUnder, isChecked, visitsUnder, begun, CheckOutcome, checked, checkWith, check}
+use Rattle.typecheck.specs.Check.{profileOf, breachesUnder, isChecked, visitsUnderBy, visitsUnder, begun, CheckOutcome, checkedBy, checked, checkWithBy, checkWith, check}
 use Rattle.typecheck.specs.Answers.{checkOutcomeOf, WithVisits, Spared}
 use Rattle.typecheck.specs.Run.{Accepted, ReadAs, underVisits, UnderKnown, UnderHere, foundBy, begunFrom, Visited}
 use Rattle.typecheck.specs.Laws.Visits.{found-all}
@@ -197,11 +197,11 @@ pub ruleset whether-checked = (needs, action-stands, admitted)
 
 module _ (p : types.Profile) (s : Schema) (c : Condition) (scope : Scope) (t : Target) (o : Option Action) (e : o ≡ findAction s (t .namespace) (t .id)) where
   under-checked : maybe true (admitsAnyEnv s scope) o ≡ true → map (nodeBreaches (factsOf p s c scope o)) (reached c) ≡ visitsUnder p s c scope t
-  unfolding visitsUnder isChecked
+  unfolding visitsUnderBy isChecked
   under-checked h = rw (← e, h)
 
   under-skips : maybe true (admitsAnyEnv s scope) o ≡ false → [] ≡ visitsUnder p s c scope t
-  unfolding visitsUnder isChecked
+  unfolding visitsUnderBy isChecked
   under-skips h = rw (← e, h)
 
 module _ (s n : List ℕ) (at : ℕ) (w : List ℕ) (is-w : w ≡ targetIn n at .namespace) (v : List ℕ) (is-v : v ≡ targetIn n at .id) (x : Found) (finds : FindsAction s (findAction (schemaIn s) w v) x)
@@ -300,7 +300,7 @@ begun-run old before (v ∷ vs) =
 
 pub all-checked : (p : types.Profile) (s : Schema) (c : Condition) (ts : Targets) (b : List ℕ) {t table : List ℕ} {end : Progress} → Visited b sinks.none (gather (visitsUnder p s c (ts .scope)) (ts .list)) t end table
     → {a : Answer} → Answers (end .state) a → {r : CheckAnswer} → WithVisits a (end .visits) r → checkOutcomeOf r t ≡ checked p s c ts b
-unfolding checked fold
+unfolding checkedBy fold
 all-checked p s c ts b {t} e a w =
     let visits = gather (visitsUnder p s c (ts .scope)) (ts .list) in
     w .is t
@@ -316,7 +316,7 @@ pub ruleset indexed = (needs, length-take-le, lent-start, all-ready, all-checked
 
 module _ (s c n : List ℕ) (x : Read) (is-x : x ≡ ending (whole schemaRecord s)) where
   pub schema-refused : (r : ℕ) → x ≡ Read.Refused r → (k : ℕ) → k ≡ readNumber x → ReadAs s c n (Records.Refused k 1)
-  unfolding checkWith
+  unfolding checkWithBy
   schema-refused r e k f rules b = rw (refused-by (whole schemaRecord s) x r is-x e, ← refuses e f)
 
   module _ (p : ℕ) (e : x ≡ Read.Next p) where
@@ -325,7 +325,7 @@ module _ (s c n : List ℕ) (x : Read) (is-x : x ≡ ending (whole schemaRecord 
 
     module _ (y : Read) (is-y : y ≡ ending (whole conditionRecord c)) where
       pub condition-refused : (r : ℕ) → y ≡ Read.Refused r → (k : ℕ) → k ≡ readNumber y → ReadAs s c n (Records.Refused k 2)
-      unfolding checkWith
+      unfolding checkWithBy
       condition-refused r d k f rules b =
           let g = accept (whole schemaRecord s) schema-read in
           rw (g .read, refused-by (whole conditionRecord c) y r is-y d, ← refuses d f)
@@ -336,7 +336,7 @@ module _ (s c n : List ℕ) (x : Read) (is-x : x ≡ ending (whole schemaRecord 
 
         module _ (z : Read) (is-z : z ≡ ending (whole targetRecord n)) where
           pub targets-refused : (r : ℕ) → z ≡ Read.Refused r → (k : ℕ) → k ≡ readNumber z → ReadAs s c n (Records.Refused k 3)
-          unfolding checkWith
+          unfolding checkWithBy
           targets-refused r d k f rules b =
               let g = accept (whole schemaRecord s) schema-read in
               let h = accept (whole conditionRecord c) condition-read in
@@ -369,7 +369,7 @@ module _ (s c n b : List ℕ) (x : Records) (is : ReadAs s c n x) where
     refused-records k w e f v = v .is b ∙ ap (λ (o : Outcome). record { outcome = o; visits = 0 }) (f .is b) ∙ (rw e at is) rules b
 
     pub records-checked : x ≡ Records.Read → (p : Profile) → profileIn p ≡ profileOf rules → (a : CheckAnswer) (t : List ℕ) → checkOutcomeOf a t ≡ checked (profileIn p) (schemaIn s) (recordIn c) (targetsIn n) b → checkOutcomeOf a t ≡ checkWith rules s c n b
-    unfolding checkWith valueOr recordIn
+    unfolding checkWithBy valueOr recordIn
     records-checked e p h a t i =
         let r = accepted-records e in
         let u = accept (whole schemaRecord s) (r .schema) in
@@ -395,7 +395,7 @@ pub spared-refused : (a : CheckAnswer) (table : List ℕ) → Spared a table tab
 spared-refused a table = record { same = λ h. refl }
 
 pub spared-checked : (p : types.Profile) (s : Schema) (c : Condition) (ts : Targets) (b : List ℕ) (a : CheckAnswer) (t : List ℕ) → checkOutcomeOf a t ≡ checked p s c ts b → (old new : List ℕ) → Spared a old new
-unfolding checkOutcomeOf checked reported
+unfolding checkOutcomeOf checkedBy reported
 spared-checked p s c ts b a t e old new = record { same = λ h. absurd (h (ap (λ (o : CheckOutcome). o .outcome .answer .recordNumber) e)) }
 
 pub ruleset answering = (needs, told-visits, zeros-empty, accepted-records, refused-records, records-checked, refused-plain, plain-checked, spared-refused, spared-checked)

@@ -6,7 +6,7 @@ use mathlib.Core.Option.{none, some}
 use lib.Dec.{eqb}
 use Rattle.names.specs.Lists.{maybe, gather}
 use Rattle.names.specs.Fields.{either, whole}
-use Rattle.types.specs.Types.{Profile, plain, strict}
+use Rattle.types.specs.Types.{Vocabulary, dated, Profile, plain, strict}
 use Rattle.schema.specs.Schema as schema
 use Rattle.schema.specs.Schema.{Schema}
 use Rattle.targets.specs.Targets as targets
@@ -16,7 +16,7 @@ use Rattle.resolution.specs.Resolution.{admitsAnyEnv}
 use Rattle.condition.specs.Condition as condition
 use Rattle.condition.specs.Condition.{Condition}
 use Rattle.condition.specs.Walk.{reached}
-use Rattle.terms.specs.Terms.{factsOf}
+use Rattle.terms.specs.Terms.{factsBy}
 use Rattle.reports.specs.Reports.{Breach, Outcome, once, refusal, reported}
 use Rattle.rules.specs.Rules.{nodeBreaches}
 
@@ -25,20 +25,26 @@ unfoldable pub profileOf : ℕ → Profile
 profileOf rules = cond (eqb (rules % 2) 1) strict plain
 
 -- `check_types_for_action`: the breaches of document 01 under one target, from profile, schema, condition, narrowing and that target alone: none where its action is declared and admits no environment
-unfoldable pub breachesUnder : Profile → Schema → Condition → Scope → Target → List Breach
-breachesUnder p s c scope t =
-    maybe (gather (nodeBreaches (factsOf p s c scope none)) (reached c))
-    (λ a. cond (admitsAnyEnv s scope a) (gather (nodeBreaches (factsOf p s c scope (some a))) (reached c)) [])
+unfoldable pub breachesUnderBy : Vocabulary → Profile → Schema → Condition → Scope → Target → List Breach
+breachesUnderBy v p s c scope t =
+    maybe (gather (nodeBreaches (factsBy v p s c scope none)) (reached c))
+    (λ a. cond (admitsAnyEnv s scope a) (gather (nodeBreaches (factsBy v p s c scope (some a))) (reached c)) [])
     (findAction s (t .namespace) (t .id))
+
+abbrev pub breachesUnder : Profile → Schema → Condition → Scope → Target → List Breach
+breachesUnder = breachesUnderBy dated
 
 -- a target that is checked, and not skipped: the schema has no action for its namespace and id, or the action admits an environment under the narrowing
 unfoldable pub isChecked : Schema → Scope → Target → Bool
 isChecked s scope t = maybe true (admitsAnyEnv s scope) (findAction s (t .namespace) (t .id))
 
 -- the visits under one target, each as the breaches that it finds: one for each reached node, and none where the target is skipped
-unfoldable pub visitsUnder : Profile → Schema → Condition → Scope → Target → List (List Breach)
-visitsUnder p s c scope t =
-    cond (isChecked s scope t) (map (nodeBreaches (factsOf p s c scope (findAction s (t .namespace) (t .id)))) (reached c)) []
+unfoldable pub visitsUnderBy : Vocabulary → Profile → Schema → Condition → Scope → Target → List (List Breach)
+visitsUnderBy v p s c scope t =
+    cond (isChecked s scope t) (map (nodeBreaches (factsBy v p s c scope (findAction s (t .namespace) (t .id)))) (reached c)) []
+
+abbrev pub visitsUnder : Profile → Schema → Condition → Scope → Target → List (List Breach)
+visitsUnder = visitsUnderBy dated
 
 -- how many of these visits are begun, `before` being what earlier ones found: each one before which every report fits in the buffer. So the last one
 -- is that whose report did not fit, if there is such a one
@@ -52,25 +58,31 @@ pub record CheckOutcome : Type 0 where
   pub visits : ℕ
 
 -- the check of three records that were read
-unfoldable pub checked : Profile → Schema → Condition → Targets → List ℕ → CheckOutcome
-checked p s c ts buffer =
+unfoldable pub checkedBy : Vocabulary → Profile → Schema → Condition → Targets → List ℕ → CheckOutcome
+checkedBy v p s c ts buffer =
     record {
-      outcome = reported (once [] (gather (breachesUnder p s c (ts .scope)) (ts .list))) buffer;
-      visits = begun buffer [] (gather (visitsUnder p s c (ts .scope)) (ts .list));
+      outcome = reported (once [] (gather (breachesUnderBy v p s c (ts .scope)) (ts .list))) buffer;
+      visits = begun buffer [] (gather (visitsUnderBy v p s c (ts .scope)) (ts .list));
     }
+
+abbrev pub checked : Profile → Schema → Condition → Targets → List ℕ → CheckOutcome
+checked = checkedBy dated
 
 -- where a record is refused no visit is begun
 abbrev pub unvisited : ℕ → ℕ → List ℕ → CheckOutcome
 unvisited number rec buffer = record { outcome = refusal number rec buffer; visits = 0 }
 
 -- the check with the caller's rules: the records are read in their order, and the first refusal stands
-unfoldable pub checkWith : ℕ → List ℕ → List ℕ → List ℕ → List ℕ → CheckOutcome
-checkWith rules schemaBytes conditionBytes targetBytes buffer =
+unfoldable pub checkWithBy : Vocabulary → ℕ → List ℕ → List ℕ → List ℕ → List ℕ → CheckOutcome
+checkWithBy v rules schemaBytes conditionBytes targetBytes buffer =
     either (λ r. unvisited r 1 buffer)
     (λ s. either (λ r. unvisited r 2 buffer)
-    (λ c. either (λ r. unvisited r 3 buffer) (λ ts. checked (profileOf rules) s c ts buffer) (whole targets.targetRecord targetBytes))
+    (λ c. either (λ r. unvisited r 3 buffer) (λ ts. checkedBy v (profileOf rules) s c ts buffer) (whole targets.targetRecord targetBytes))
     (whole condition.conditionRecord conditionBytes))
     (whole schema.schemaRecord schemaBytes)
+
+abbrev pub checkWith : ℕ → List ℕ → List ℕ → List ℕ → List ℕ → CheckOutcome
+checkWith = checkWithBy dated
 
 -- the check that the Rust measures: no rules
 unfoldable pub check : List ℕ → List ℕ → List ℕ → List ℕ → CheckOutcome

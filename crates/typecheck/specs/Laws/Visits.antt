@@ -15,12 +15,12 @@ use Rattle.resolution.specs.Resolution.{admitsAnyEnv}
 use Rattle.terms.specs.Terms.{factsOf}
 use Rattle.reports.specs.Reports.{Breach}
 use Rattle.rules.specs.Rules.{nodeBreaches}
-use Rattle.typecheck.specs.Check.{breachesUnder, isChecked, visitsUnder}
+use Rattle.typecheck.specs.Check.{breachesUnderBy, breachesUnder, isChecked, visitsUnderBy, visitsUnder}
 use Rattle.typecheck.specs.Run.{foundBy}
 
 -- under one target
 found-under : (p : Profile) (s : Schema) (c : Condition) (scope : Scope) (t : Target) → foundBy (visitsUnder p s c scope t) ≡ breachesUnder p s c scope t
-unfolding visitsUnder isChecked breachesUnder gather
+unfolding visitsUnderBy isChecked breachesUnderBy gather
 found-under p s c scope t = go (findAction s (t .namespace) (t .id))
   where
     each : (f : Condition → List Breach) (cs : List Condition) → foundBy (map f cs) ≡ gather f cs
