@@ -9,12 +9,12 @@ use Rattle.names.specs.Lists.{maybe, gather}
 use Rattle.names.specs.Laws.Lists.{gather-append}
 use Rattle.names.specs.Fields.{Got, got, bad, either, whole}
 use Rattle.names.specs.Laws.Readers.{accept, has-value}
-use Rattle.types.specs.Types.{Ty, Profile}
+use Rattle.types.specs.Types.{Ty, Profile, dated}
 use Rattle.types.specs.Types as types
 use Rattle.schema.specs.Schema.{Schema, Action, schemaRecord}
 use Rattle.schema.specs.Find.{findAction}
 use Rattle.targets.specs.Targets.{Target, Targets, Scope, targetRecord}
-use Rattle.resolution.specs.Resolution.{admitsAnyEnv, predicateAction, contextType}
+use Rattle.resolution.specs.Resolution.{admitsAnyEnv, predicateAction, contextTypeBy}
 use Rattle.condition.specs.Condition as tree
 use Rattle.condition.specs.Condition.{Slot, Span, Condition, Arguments, Term, Terms, Aggregate, Binder, one, two, predicate, comparison, exists, tp, opaque, noArgument, argument, entity, literal, contextField, scopeField, var, wildcard, array, aggregate, sigil, nil, cons, sum, count, call, named, paramRef, binderRef, conditionRecord}
 use Rattle.condition.specs.Walk.{declaredBy, operandAggregates, operandBinders, reached, reachedIn, reachedBody, declares, binders}
@@ -187,7 +187,7 @@ module _ (change : Change) (keeps : KeepsTypes change) where
     unfolding inArguments argumentBreaches
     same-arguments name action noArgument own = refl
     same-arguments name action (argument param field value rest) own =
-        ap₂ _++_ (ap (λ o. both (contextType action field) o (argumentBreach param name) own) (same-type (some f) value)) (same-arguments name action rest own)
+        ap₂ _++_ (ap (λ o. both (contextTypeBy (f .vocabulary) action field) o (argumentBreach param name) own) (same-type (some f) value)) (same-arguments name action rest own)
 
     same-node : (c : Condition) → nodeBreaches f (changed change c) ≡ nodeBreaches f c
     unfolding changed nodeBreaches
@@ -204,7 +204,7 @@ module _ (change : Change) (keeps : KeepsTypes change) where
   module _ (p : Profile) (s : Schema) (c : Condition) (scope : Scope) where
     same-reached : (a : Option Action) → gather (nodeBreaches (factsOf p s (changed change c) scope a)) (reached (changed change c)) ≡ gather (nodeBreaches (factsOf p s c scope a)) (reached c)
     same-reached a =
-        ap (λ bs. gather (nodeBreaches (record { profile = p; schema = s; scope = scope; action = a; binders = bs })) (reached (changed change c))) (same-binders change c)
+        ap (λ bs. gather (nodeBreaches (record { vocabulary = dated; profile = p; schema = s; scope = scope; action = a; binders = bs })) (reached (changed change c))) (same-binders change c)
         ∙ gathered change (nodeBreaches (factsOf p s c scope a)) (nodeBreaches (factsOf p s c scope a)) (same-node (factsOf p s c scope a)) c
 
     same-under : (t : Target) → breachesUnder p s (changed change c) scope t ≡ breachesUnder p s c scope t
@@ -218,7 +218,7 @@ module _ (change : Change) (keeps : KeepsTypes change) where
 
     same-made : (a : Option Action) → map (nodeBreaches (factsOf p s (changed change c) scope a)) (reached (changed change c)) ≡ map (nodeBreaches (factsOf p s c scope a)) (reached c)
     same-made a =
-        ap (λ bs. map (nodeBreaches (record { profile = p; schema = s; scope = scope; action = a; binders = bs })) (reached (changed change c))) (same-binders change c)
+        ap (λ bs. map (nodeBreaches (record { vocabulary = dated; profile = p; schema = s; scope = scope; action = a; binders = bs })) (reached (changed change c))) (same-binders change c)
         ∙ map-gathered (nodeBreaches (factsOf p s c scope a)) (reached (changed change c))
         ∙ gathered change (λ x. nodeBreaches (factsOf p s c scope a) x ∷ []) (λ x. nodeBreaches (factsOf p s c scope a) x ∷ []) (λ x. ap (λ bs. bs ∷ []) (same-node (factsOf p s c scope a) x)) c
         ∙ sym (map-gathered (nodeBreaches (factsOf p s c scope a)) (reached c))

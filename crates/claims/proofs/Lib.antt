@@ -15,3 +15,4 @@ pub mod Values
 pub mod WindowExamples
 pub mod SweepExamples
 pub mod ValueExamples
+pub mod Times

@@ -1,6 +1,6 @@
 -- Swapped operands. Assumes nothing.
 use mathlib.Core.Path.{_≡_, refl, sym, ap, ap₂, _∙_}
-use mathlib.Core.Bool.{Bool, true, false, not, _&&_}
+use mathlib.Core.Bool.{Bool, true, false, not}
 use mathlib.Core.Logic.{_↔_}
 use mathlib.Core.List.{List, [], _∷_, _++_, append-nil, append-assoc}
 use mathlib.Core.Option.{Option, none, some}
@@ -11,7 +11,8 @@ use Rattle.names.specs.Lists.{maybe, gather}
 use Rattle.names.specs.Names.{same, lastOf}
 use Rattle.names.specs.Text.{text}
 use Rattle.types.specs.Types as types
-use Rattle.types.specs.Types.{Ty, Profile, scalar, fits, compatible, areOrdered, isNumeric}
+use Rattle.types.specs.Types.{Ty, Profile, scalar, fits, compatible, areOrdered}
+use Rattle.types.specs.Laws.Order.{ordered-swapped}
 use Rattle.types.specs.Laws.Profiles.{compatible-swapped}
 use Rattle.condition.specs.Condition as condition
 use Rattle.condition.specs.Condition.{Span, Condition, Term, Operator, comparison}
@@ -26,12 +27,6 @@ use Rattle.claims.proofs.Examples.{computed, declared-type}
 
 -- ---- a node
 
-both-numeric : (a b : Bool) → (a && b) ≡ (b && a)
-both-numeric true true = refl
-both-numeric true false = refl
-both-numeric false true = refl
-both-numeric false false = refl
-
 module _ (at : Span) where
   judged : (ordered : Bool) (t u : Ty) (b : Bool) → Turned ordered at (breachIf b (shown ordered t u) at) (breachIf b (shown ordered u t) at)
   judged ordered t u true = shows t u
@@ -39,7 +34,7 @@ module _ (at : Span) where
 
   types-turned : (p : Profile) (ordered : Bool) (t u : Ty) → Turned ordered at (operandsBy p ordered t u at) (operandsBy p ordered u t at)
   unfolding numericBreaches likeBreaches
-  types-turned p true t u = rw (both-numeric (isNumeric u) (isNumeric t)) (judged true t u (not (areOrdered t u)))
+  types-turned p true t u = rw (ordered-swapped u t) (judged true t u (not (areOrdered t u)))
   types-turned p false t u = rw (compatible-swapped p u t) (judged false t u (not (compatible p t u)))
 
   turned-by : (p : Profile) (ordered : Bool) (o q : Option Ty) → Turned ordered at (both o q (operandsBy p ordered) at) (both q o (operandsBy p ordered) at)
