@@ -8,17 +8,19 @@ use Rattle.names.specs.Fields.{Got, got, bad, either, whole}
 use Rattle.names.specs.Lists.{maybe, first, every, gather}
 use Rattle.names.specs.Names.{same, simpleName, lastOf}
 use Rattle.names.specs.Text.{text}
-use Rattle.types.specs.Types.{Profile, array, datetime, duration, published, dated, timeType}
+use Rattle.types.specs.Types as types
+use Rattle.types.specs.Types.{Ty, Profile, scalar, mixedArray, array, datetime, duration, published, dated, timeType, fits, sameType, isNumeric, isTime, areOrdered}
+use Rattle.types.specs.Laws.Order.{ordered-before}
 use Rattle.schema.specs.Schema.{Schema, Action, EntityType, schemaRecord, Declared, Attributes, nothing, attribute, long, string, bool, extension, set, anySet, object, entity, severalEntities, anyEntity, never}
 use Rattle.schema.specs.Find.{findAction, findEntity, findAttribute, extensionType, richTypeBy, fieldsOf}
 use Rattle.targets.specs.Targets.{Narrowing, Scope, Target, Targets, targetRecord}
 use Rattle.targets.specs.PathRecord as asked
 use Rattle.targets.specs.PathRecord.{Query, Side, pathRecord, targetAt}
-use Rattle.resolution.specs.Resolution.{PathEnd, missing, nonRecord, headMissing, nested, typeAtEnd, descendBy, resolveInBy, contextPathBy, contextTypeBy, admitted, admitsAnyEnv, unattributed, OnType, onEntityBy, onTypesBy, verdict, declaredAll, ScopePath, unknown, scopePathBy, predicateAction}
+use Rattle.resolution.specs.Resolution.{PathEnd, typed, PathResolution, headMissing, nested, typeAtEnd, descendBy, resolveInBy, contextPathBy, contextTypeBy, admitted, admitsAnyEnv, projection, unattributed, OnType, onEntityBy, onTypesBy, failed, typesOf, renderings, agreed, failure, verdict, declaredAll, entityOf, scopeType, ScopePath, ambiguous, unknown, scopePathBy, predicateAction}
 use Rattle.condition.specs.Condition as condition
 use Rattle.condition.specs.Condition.{Condition, Binder, Slot, named, paramRef, binderRef, Annotation, timepoint, path, Span, Term, Arguments, noArgument, argument, one, two, predicate, comparison, exists, tp, opaque, conditionRecord}
 use Rattle.condition.specs.Walk.{reached, binders, namedHere, lastNamed}
-use Rattle.terms.specs.Terms.{Facts, factsBy, otherType, wordTypeBy, annotationTypeBy, fieldTypeBy, inputTypeBy, varType, ifResolved, sideTypeBy, rootType, scopeFieldType, termType}
+use Rattle.terms.specs.Terms.{Facts, factsBy, otherType, wordTypeBy, annotationTypeBy, fieldTypeBy, inputTypeBy, varType, ifResolved, sideTypeBy, rootType, scopeFieldType, literalType, allLike, arrayOf, elementTypes, termType}
 use Rattle.reports.specs.Reports.{Breach, once, refusal, reported}
 use Rattle.reports.specs.Placed.{placed}
 use Rattle.rules.specs.Rules.{both, notLongHere, ordering, operandsBy, argumentBreach, timepointBreach, argumentBreaches, leafBreaches, arithmeticBreaches, timepointBreaches, nodeBreaches}
@@ -398,3 +400,200 @@ all-lookups schemaBytes targetBytes queryBytes buffer readsSchema =
     (λ ts. read-any (λ r. refusal r 4 buffer) _ _ (λ q. answered-same s h ts q buffer) (whole pathRecord queryBytes))
     (whole targetRecord targetBytes))
     (whole schemaRecord schemaBytes) readsSchema
+
+-- ---- by the words of the published Rust no type is a time
+
+abbrev untimed : Ty → Bool
+untimed t = not (isTime t)
+
+abbrev untimedAt : Option Ty → Bool
+untimedAt = passes untimed
+
+module _ {A : Type 0} (q : A → Bool) where
+  cond-holds : (b : Bool) (x y : A) → q x ≡ true → q y ≡ true → q (cond b x y) ≡ true
+  cond-holds true x y h k = h
+  cond-holds false x y h k = k
+
+  maybe-holds : {B : Type 0} (x : A) (f : B → A) → q x ≡ true → ((b : B) → q (f b) ≡ true) → (o : Option B) → q (maybe x f o) ≡ true
+  maybe-holds x f h k none = h
+  maybe-holds x f h k (some b) = k b
+
+rich-untimed : (t : Declared) → untimed (richTypeBy published t) ≡ true
+unfolding richTypeBy extensionType timeType fits
+rich-untimed long = refl
+rich-untimed string = refl
+rich-untimed bool = refl
+rich-untimed (extension name) = cond-holds (λ a. untimed (scalar a)) (same (simpleName name) (text "decimal")) types.decimal types.string refl refl
+rich-untimed (set t) = refl
+rich-untimed anySet = refl
+rich-untimed (object fields) = refl
+rich-untimed (entity name) = refl
+rich-untimed severalEntities = refl
+rich-untimed anyEntity = refl
+rich-untimed never = refl
+
+-- ---- paths
+
+abbrev endUntimed : PathEnd → Bool
+endUntimed e = untimedAt (typed e)
+
+abbrev resolutionUntimed : PathResolution → Bool
+resolutionUntimed r = untimedAt (typeAtEnd r)
+
+abbrev pathUntimed : ScopePath → Bool
+pathUntimed p = untimedAt (ifResolved p)
+
+descend-untimed : (t : Declared) (way : List (List ℕ)) → endUntimed (descendBy published t way) ≡ true
+unfolding descendBy typed
+descend-untimed t [] = rich-untimed t
+descend-untimed t (segment ∷ rest) =
+    maybe-holds endUntimed (PathEnd.nonRecord segment) _ refl
+    (λ fields. maybe-holds endUntimed (PathEnd.missing segment) _ refl (λ u. descend-untimed u rest) (findAttribute fields segment))
+    (fieldsOf t)
+
+nested-untimed : (e : PathEnd) → endUntimed e ≡ true → resolutionUntimed (nested e) ≡ true
+unfolding typed
+nested-untimed (PathEnd.resolved t) h = h
+nested-untimed (PathEnd.missing segment) h = refl
+nested-untimed (PathEnd.nonRecord segment) h = refl
+
+context-path-untimed : (t : Declared) (way : List (List ℕ)) → resolutionUntimed (contextPathBy published t way) ≡ true
+unfolding contextPathBy resolveInBy
+context-path-untimed t [] = refl
+context-path-untimed t (head ∷ rest) =
+    maybe-holds resolutionUntimed headMissing _ refl
+    (λ fields. maybe-holds resolutionUntimed headMissing _ refl (λ u. nested-untimed (descendBy published u rest) (descend-untimed u rest)) (findAttribute fields head))
+    (fieldsOf t)
+
+context-untimed : (action : Option Action) (way : List (List ℕ)) → untimedAt (contextTypeBy published action way) ≡ true
+unfolding contextTypeBy
+context-untimed action way = maybe-holds untimedAt none _ refl (λ a. context-path-untimed (a .context) way) action
+
+projection-untimed : (segment : List ℕ) (rest : List (List ℕ)) → endUntimed (projection segment rest) ≡ true
+unfolding projection typed fits
+projection-untimed segment [] = refl
+projection-untimed segment (w ∷ rest) = refl
+
+entity-untimed : (segment : List ℕ) (rest : List (List ℕ)) (e : EntityType) → endUntimed (onEntityBy published segment rest e) ≡ true
+unfolding onEntityBy unattributed typed
+entity-untimed segment rest e =
+    maybe-holds endUntimed (unattributed segment rest) _
+    (cond-holds endUntimed (same segment (text "id") || same segment (text "type")) (projection segment rest) (PathEnd.missing segment) (projection-untimed segment rest) refl)
+    (λ t. descend-untimed t rest) (findAttribute (e .attributes) segment)
+
+types-untimed : (segment : List ℕ) (rest : List (List ℕ)) (es : List EntityType) → every untimed (typesOf (onTypesBy published segment rest es)) ≡ true
+unfolding every typesOf onTypesBy
+types-untimed segment rest [] = refl
+types-untimed segment rest (e ∷ es) = go (typed (onEntityBy published segment rest e)) (entity-untimed segment rest e) (typesOf (onTypesBy published segment rest es)) (types-untimed segment rest es)
+  where
+    go : (o : Option Ty) → untimedAt o ≡ true → (ts : List Ty) → every untimed ts ≡ true → every untimed (maybe ts (λ t. t ∷ ts) o) ≡ true
+    go none h ts k = k
+    go (some t) h ts k = both-true h k
+
+agreed-untimed : (ts : List Ty) → every untimed ts ≡ true → pathUntimed (agreed ts) ≡ true
+unfolding every agreed
+agreed-untimed [] h = refl
+agreed-untimed (t ∷ ts) h = cond-holds pathUntimed (every (λ u. sameType u t) ts) (ScopePath.resolved t) (ambiguous (renderings (t ∷ ts))) (and-left (untimed t) (every untimed ts) h) refl
+
+failure-untimed : (es : List OnType) (e : PathEnd) → pathUntimed (failure es e) ≡ true
+unfolding failure
+failure-untimed es (PathEnd.resolved t) = refl
+failure-untimed es (PathEnd.missing segment) = refl
+failure-untimed es (PathEnd.nonRecord segment) = refl
+
+scope-path-untimed : (s : Schema) (n : Option Narrowing) (candidates way : List (List ℕ)) → pathUntimed (scopePathBy published s n candidates way) ≡ true
+unfolding scopePathBy verdict
+scope-path-untimed s n candidates [] = refl
+scope-path-untimed s n candidates (segment ∷ rest) =
+    maybe-holds pathUntimed unknown _ refl
+    (λ es. maybe-holds pathUntimed (agreed (typesOf (onTypesBy published segment rest es))) _ (agreed-untimed (typesOf (onTypesBy published segment rest es)) (types-untimed segment rest es)) (λ e. failure-untimed (onTypesBy published segment rest es) (e .path)) (first (λ e. failed (e .path)) (onTypesBy published segment rest es)))
+    (declaredAll s (admitted s n candidates))
+
+entity-of-untimed : (names : List (List ℕ)) → untimedAt (entityOf names) ≡ true
+unfolding entityOf fits
+entity-of-untimed [] = refl
+entity-of-untimed (n ∷ []) = refl
+entity-of-untimed (n ∷ (m ∷ rest)) = refl
+
+side-untimed : (s : Schema) (n : Option Narrowing) (candidates way : List (List ℕ)) → untimedAt (sideTypeBy published s n candidates way) ≡ true
+unfolding sideTypeBy scopeType
+side-untimed s n candidates [] = entity-of-untimed (admitted s n candidates)
+side-untimed s n candidates (segment ∷ rest) = scope-path-untimed s n candidates (segment ∷ rest)
+
+-- ---- terms
+
+word-untimed : (w : List ℕ) → untimed (wordTypeBy published w) ≡ true
+unfolding wordTypeBy otherType timeType fits
+word-untimed w =
+    cond-holds untimed (same w (text "Long")) (scalar types.long) _ refl
+    (cond-holds untimed (same w (text "String")) (scalar types.string) _ refl
+    (cond-holds untimed (same w (text "Bool") || same w (text "Boolean")) (scalar types.bool) _ refl
+    (cond-holds untimed (same w (text "decimal") || same w (text "Decimal")) (scalar types.decimal) (types.entity (some w)) refl refl)))
+
+annotation-untimed : (n : Annotation) → untimed (annotationTypeBy published n) ≡ true
+unfolding annotationTypeBy fits
+annotation-untimed timepoint = refl
+annotation-untimed (path segments) = word-untimed (lastOf segments)
+
+input-untimed : (action : Option Action) (name : List ℕ) → untimedAt (inputTypeBy published action name) ≡ true
+unfolding inputTypeBy fieldTypeBy
+input-untimed action name =
+    maybe-holds untimedAt none _ refl
+    (λ a. maybe-holds untimedAt none _ refl
+    (λ fields. maybe-holds untimedAt none _ refl
+    (λ t. maybe-holds untimedAt none _ refl (λ inner. maybe-holds untimedAt none _ refl (λ u. rich-untimed u) (findAttribute inner name)) (fieldsOf t))
+    (findAttribute fields (text "input")))
+    (fieldsOf (a .context)))
+    action
+
+array-untimed : (os : List (Option Ty)) → untimed (arrayOf os) ≡ true
+unfolding arrayOf fits
+array-untimed [] = refl
+array-untimed (none ∷ rest) = refl
+array-untimed (some t ∷ rest) = cond-holds untimed (allLike t rest) (array t) mixedArray refl refl
+
+literal-untimed : (l : condition.Literal) → untimed (literalType l) ≡ true
+unfolding fits
+literal-untimed (condition.integer n) = refl
+literal-untimed (condition.decimal n) = refl
+literal-untimed (condition.string w) = refl
+literal-untimed (condition.bool b) = refl
+
+module _ (f : Facts) (e : f .vocabulary ≡ published) where
+  root-untimed : (a : Action) (way : List (List ℕ)) → untimedAt (rootType f a way) ≡ true
+  unfolding rootType
+  root-untimed a [] = refl
+  root-untimed a (root ∷ tail) =
+      rw e
+      (cond-holds untimedAt (same root (text "principal")) (sideTypeBy published (f .schema) (f .scope .principal) (a .principals) tail) _ (side-untimed (f .schema) (f .scope .principal) (a .principals) tail)
+      (cond-holds untimedAt (same root (text "resource")) (sideTypeBy published (f .schema) (f .scope .resource) (a .resources) tail) none (side-untimed (f .schema) (f .scope .resource) (a .resources) tail) refl))
+
+  var-untimed : (name : List ℕ) → untimedAt (varType f name) ≡ true
+  unfolding varType
+  var-untimed name = rw e (maybe-holds untimedAt (inputTypeBy published (f .action) name) _ (input-untimed (f .action) name) (λ n. annotation-untimed n) (lastNamed name (f .binders)))
+
+  type-untimed : (t : Term) → untimedAt (termType (some f) t) ≡ true
+  unfolding termType scopeFieldType fits
+  type-untimed (condition.entity n) = refl
+  type-untimed (condition.literal l) = literal-untimed l
+  type-untimed (condition.contextField q) = rw e (context-untimed (f .action) q)
+  type-untimed (condition.scopeField q) = maybe-holds untimedAt none _ refl (λ a. root-untimed a q) (f .action)
+  type-untimed (condition.var v) = var-untimed v
+  type-untimed condition.wildcard = refl
+  type-untimed (condition.array ts) = array-untimed (elementTypes ts)
+  type-untimed (condition.aggregate g) = refl
+  type-untimed (condition.arith op l r) = refl
+  type-untimed condition.sigil = refl
+
+no-time : (t : Ty) → untimed t ≡ true → isTime t ≡ false
+no-time t = go (isTime t)
+  where
+    go : (b : Bool) → not b ≡ true → b ≡ false
+    go true h = sym h
+    go false h = refl
+
+order-before : (f : Facts) → f .vocabulary ≡ published → (l : Term) (t u : Ty) → termType (some f) l ≡ some t → areOrdered t u ≡ (isNumeric t && isNumeric u)
+order-before f e l t u h = ordered-before t u (no-time t (sym (ap untimedAt h) ∙ type-untimed f e l))
+
+pub as-before : AsBefore
+as-before = record { checks = all-checks; lookups = all-lookups; order = order-before }
