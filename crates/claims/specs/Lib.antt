@@ -16,3 +16,4 @@ pub mod WindowExamples
 pub mod SweepExamples
 pub mod ValueExamples
 pub mod Times
+pub mod TimeExamples
