@@ -21,10 +21,10 @@ use Rattle.condition.specs.Condition as condition
 use Rattle.condition.specs.Condition.{Condition, Binder, Slot, named, paramRef, binderRef, Annotation, timepoint, path, Span, Term, Arguments, noArgument, argument, one, two, predicate, comparison, exists, tp, opaque, conditionRecord}
 use Rattle.condition.specs.Walk.{reached, binders, namedHere, lastNamed}
 use Rattle.terms.specs.Terms.{Facts, factsBy, otherType, wordTypeBy, annotationTypeBy, fieldTypeBy, inputTypeBy, varType, ifResolved, sideTypeBy, rootType, scopeFieldType, literalType, allLike, arrayOf, elementTypes, termType}
-use Rattle.reports.specs.Reports.{Breach, once, refusal, reported}
+use Rattle.reports.specs.Reports.{once, refusal, reported}
 use Rattle.reports.specs.Placed.{placed}
 use Rattle.rules.specs.Rules.{both, notLongHere, ordering, operandsBy, argumentBreach, timepointBreach, argumentBreaches, leafBreaches, arithmeticBreaches, timepointBreaches, nodeBreaches}
-use Rattle.typecheck.specs.Check.{CheckOutcome, profileOf, breachesUnderBy, isChecked, visitsUnderBy, begun, checkedBy, unvisited, checkWithBy}
+use Rattle.typecheck.specs.Check.{profileOf, breachesUnderBy, isChecked, visitsUnderBy, begun, checkedBy, unvisited, checkWithBy}
 use Rattle.lookup.specs.Lookup.{onSideBy, foundBy, output, answeredBy, lookupBy}
 use Rattle.claims.specs.Times.{isTimeWord, noTimesIn, noTimesAmong, noTimes, noTimeNamed, noTimesDeclared, Reads, AsBefore}
 

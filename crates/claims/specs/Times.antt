@@ -4,8 +4,8 @@
 use Prim.Native.Nat.{ℕ}
 use mathlib.Core.Path.{_≡_}
 use mathlib.Core.Bool.{Bool, true, _&&_, _||_, not}
-use mathlib.Core.List.{List, [], _∷_}
-use mathlib.Core.Option.{Option, some}
+use mathlib.Core.List.{List}
+use mathlib.Core.Option.{some}
 use Rattle.names.specs.Fields.{Reader, either, whole}
 use Rattle.names.specs.Lists.{every}
 use Rattle.names.specs.Names.{same, simpleName, lastOf}

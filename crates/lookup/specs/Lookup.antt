@@ -1,4 +1,4 @@
--- The lookup of a scope path for one target.
+-- The lookup of a scope path for one target. What is named `..By` takes the words known first; under the name without it, it is by those that the code knows.
 use Prim.Native.Nat.{ℕ}
 use mathlib.Core.List.{List, [], _∷_, _++_}
 use lib.ListN.{length}

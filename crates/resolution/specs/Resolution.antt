@@ -1,4 +1,4 @@
--- Attribute paths, and what a rule's scope admits.
+-- Attribute paths, and what a rule's scope admits. What is named `..By` takes the words known first; under the name without it, it is by those that the code knows.
 use Prim.Native.Nat.{ℕ}
 use mathlib.Core.Bool.{Bool, true, false, cond, _&&_, _||_}
 use mathlib.Core.List.{List, [], _∷_}

@@ -30,7 +30,7 @@ abbrev pub notLongHere : Option Ty → Rule
 notLongHere none at = []
 notLongHere (some t) at = breachIf (not (isNumeric t)) (notLong t) at
 
--- the operators that want numbers on both sides
+-- the operators of order
 abbrev pub ordering : Operator → Bool
 ordering le = true
 ordering lt = true
@@ -48,7 +48,7 @@ timepointBreach name (some t) at = breachIf (not (types.sameType t (scalar types
 unfoldable pub argumentBreach : List ℕ → List ℕ → Ty → Ty → Rule
 argumentBreach param name expected actual = breachIf (not (accepts expected actual)) (wrongArgument param name expected actual)
 
--- the types of two operands, by whether the operator wants numbers
+-- the types of two operands, by whether the operator is one of order
 unfoldable pub numericBreaches : Ty → Ty → Rule
 numericBreaches l r = breachIf (not (areOrdered l r)) (notNumeric l r)
 

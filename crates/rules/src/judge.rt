@@ -25,7 +25,7 @@ pub fn not_long<'a>(schema: &'a [u8], condition: &'a [u8], typed: Typed) -> Find
     Finding::NotLong(t)
 }
 
-// Two operands of an operator that wants numbers.
+// Two operands of an operator of order.
 fn not_numeric<'a>(schema: &'a [u8], condition: &'a [u8], l: Rich, r: Rich) -> Finding
     requires { ⌜ Small (richOf (now schema) (now condition) l) ⌝ }
     requires { ⌜ Small (richOf (now schema) (now condition) r) ⌝ }

@@ -1,7 +1,7 @@
 -- The type that the checks compare, by the first byte of a declared one. Assumes nothing.
 use mathlib.Core.Path.{_≡_, refl, sym, ap, _∙_}
-use mathlib.Core.Bool.{Bool, true, false}
-use mathlib.Core.List.{List, [], _∷_}
+use mathlib.Core.Bool.{true}
+use mathlib.Core.List.{List}
 use mathlib.Core.Option.{none}
 use Prim.Native.Nat.{ℕ, zero, suc, _+_, _-_, _≤_, _<_}
 use native.Mathlib.Numerals.{add-one}
@@ -9,8 +9,7 @@ use native.Mathlib.Omega.{arith}
 use lib.ListN.{length, getD, drop}
 use borrow.Author.Needs.{needs}
 use Rattle.names.specs.Fields.{got, choose, stringOf, levels}
-use Rattle.names.specs.Names.{pathName, same, simpleName}
-use Rattle.names.specs.Text.{text}
+use Rattle.names.specs.Names.{pathName, simpleName}
 use Rattle.names.specs.Read.{wordAt}
 use Rattle.names.specs.Laws.Readers.{Split, split, string-view, accept, is-accepted, has-value, got-value, Each, each-below, _&_}
 use Rattle.names.specs.Laws.Walks.{part-of-part, take-at-most}

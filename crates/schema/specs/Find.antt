@@ -1,4 +1,5 @@
--- What is looked up in a schema by name, and the type that a declared one is compared as.
+-- What is looked up in a schema by name, and the type that a declared one is compared as: by the words known (`richTypeBy`), and by those that the code
+-- knows (`richType`).
 use Prim.Native.Nat.{ℕ}
 use mathlib.Core.Bool.{cond, _&&_}
 use mathlib.Core.List.{List, [], _∷_, _++_}

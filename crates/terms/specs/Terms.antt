@@ -1,4 +1,4 @@
--- The flat environment of a condition, and the types of terms in it.
+-- The flat environment of a condition, and the types of terms in it. What is named `..By` takes the words known first; under the name without it, it is by those that the code knows.
 use Prim.Native.Nat.{ℕ}
 use mathlib.Core.Bool.{Bool, true, false, cond, _&&_, _||_}
 use mathlib.Core.List.{List, [], _∷_}

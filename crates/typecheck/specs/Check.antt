@@ -1,4 +1,5 @@
 -- The check: the reports of what a condition breaks at each node that the walk reaches, under each target, how many such visits are begun, and the answer.
+-- What is named `..By` takes the words known first; under the name without it, it is by those that the code knows.
 use Prim.Native.Nat.{ℕ, suc, _%_}
 use mathlib.Core.Bool.{Bool, true, cond}
 use mathlib.Core.List.{List, [], _∷_, _++_, map}

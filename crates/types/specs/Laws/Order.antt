@@ -1,12 +1,12 @@
 -- Laws of order. Assumes nothing.
 --     ordered-swapped     the sides may be swapped
 --     ordered-before      where the left type is neither datetime nor duration, order wants two numbers, as it did before there were these two
-use mathlib.Core.Path.{_≡_, refl, sym, _∙_}
-use mathlib.Core.Bool.{Bool, true, false, _&&_, _||_, false≢true}
+use mathlib.Core.Path.{_≡_, refl}
+use mathlib.Core.Bool.{Bool, true, false, _&&_, _||_}
 use mathlib.Core.List.{List}
 use mathlib.Core.Option.{Option, none, some}
 use Prim.Native.Nat.{ℕ}
-use Rattle.types.specs.Types.{Ty, scalar, long, sameTag, fits, sameType, isNumeric, isTime, hasOrder, areOrdered}
+use Rattle.types.specs.Types.{Ty, scalar, long, sameTag, sameType, isNumeric, isTime, hasOrder, areOrdered}
 use Rattle.types.specs.Laws.Types.{only-long}
 use Rattle.types.specs.Laws.Relations.{relied, same-swapped, fits-swapped}
 
