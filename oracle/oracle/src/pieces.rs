@@ -7,6 +7,7 @@ pub enum Sort {
     Condition,
     Term,
     Type,
+    Annotation,
 }
 
 impl Sort {
@@ -16,6 +17,7 @@ impl Sort {
             Sort::Condition => condition(11, (0, 0), vec![]),
             Sort::Term => wildcard(),
             Sort::Type => ty(0, vec![]),
+            Sort::Annotation => annotation::<&str>(&[]),
         }
     }
 }
@@ -28,7 +30,7 @@ pub enum Piece {
     Seq(Vec<Piece>),
     /// A count of this many bytes, then the items.
     List(usize, Vec<Piece>),
-    /// A condition, term or type.
+    /// A condition, term, type or annotation.
     Node(Sort, Vec<Piece>),
 }
 
@@ -234,6 +236,15 @@ fn versioned(version: u8, mut record: Piece) -> Piece {
     record
 }
 
+/// The same condition record with another root, made of its own.
+pub fn with_root(mut record: Piece, change: impl FnOnce(Piece) -> Piece) -> Piece {
+    if let Piece::Seq(parts) = &mut record {
+        let root = parts.pop().expect("a record has a root");
+        parts.push(change(root));
+    }
+    record
+}
+
 /// A record of version 1 with a window wherever one stands in version 2.
 pub fn with_windows(record: &Piece, mut window: impl FnMut() -> Piece) -> Piece {
     let mut windowed = versioned(2, record.clone());
@@ -256,8 +267,8 @@ pub fn with_values(record: &Piece, mut value: impl FnMut(u8) -> Piece) -> Piece 
     valued
 }
 
-/// The kind of the node with these parts.
-fn kind_of(parts: &[Piece]) -> u8 {
+/// The kind of the condition, term or type with these parts.
+pub fn kind_of(parts: &[Piece]) -> u8 {
     match &parts[0] {
         Piece::Field(bytes) => bytes[0],
         _ => panic!("a node begins with its kind"),
@@ -285,8 +296,13 @@ pub fn slot(name: Option<&str>, reference: u8) -> Piece {
     }
 }
 
-pub fn binder<S: AsRef<str>>(slot: Piece, annotation: &[S]) -> Piece {
-    Piece::Seq(vec![slot, texts(annotation)])
+/// The segments of a declared type; none of them is `Timepoint`.
+pub fn annotation<S: AsRef<str>>(segments: &[S]) -> Piece {
+    Piece::Node(Sort::Annotation, vec![texts(segments)])
+}
+
+pub fn binder<S: AsRef<str>>(slot: Piece, segments: &[S]) -> Piece {
+    Piece::Seq(vec![slot, annotation(segments)])
 }
 
 /// A binder with a name.

@@ -5,11 +5,13 @@ mod fields;
 mod path;
 mod schema;
 mod targets;
+mod words;
 
-pub use condition::{read_condition, read_numbered, ConditionRecord};
+pub use condition::{read_condition, read_numbered, words_of_condition, ConditionRecord};
 pub use path::{read_path, PathRecord, Scope};
-pub use schema::read_schema;
+pub use schema::{read_schema, words_of_schema};
 pub use targets::{read_targets, TargetsRecord};
+pub use words::{Named, Saying, Time, Words};
 
 /// The number of document 01's table that a record is refused with.
 #[derive(Debug, Clone, Copy, PartialEq, Eq)]

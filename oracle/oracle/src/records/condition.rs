@@ -13,6 +13,7 @@ const NEWEST: u16 = 3;
 pub struct ConditionRecord {
     pub condition: Condition,
     pub field_paths: FieldPaths,
+    words: Words,
 }
 
 pub fn read_condition(bytes: &[u8]) -> Result<ConditionRecord, Refusal> {
@@ -25,12 +26,17 @@ pub fn read_numbered(bytes: &[u8]) -> Result<ConditionRecord, Refusal> {
     read(bytes, Some(0))
 }
 
+/// The types that a condition names by a word, wherever they stand; none where it is refused.
+pub fn words_of_condition(bytes: &[u8]) -> Words {
+    read_condition(bytes).map_or(Words::default(), |read| read.words)
+}
+
 fn read(bytes: &[u8], numbers: Option<usize>) -> Result<ConditionRecord, Refusal> {
     let fields = Fields::open(bytes, b"DWC", NEWEST)?;
     let mut reader = Reader { fields, field_paths: FieldPaths::default(), numbers };
     let condition = reader.condition(1)?;
-    reader.fields.close()?;
-    Ok(ConditionRecord { condition, field_paths: reader.field_paths })
+    let words = reader.fields.close()?;
+    Ok(ConditionRecord { condition, field_paths: reader.field_paths, words })
 }
 
 struct Reader<'a> {
@@ -174,9 +180,14 @@ impl<'a> Reader<'a> {
     /// The annotation's byte is 0 for `Timepoint`, else a count of segments; it is no choice byte.
     fn binder(&mut self) -> Result<TypedBinder, Refusal> {
         let slot = self.slot()?;
-        let ty = match self.fields.byte()? {
-            0 => Type::Timepoint,
-            count => Type::Named(self.fields.strings_counted(count, Class::Identifier)?),
+        let start = self.fields.at();
+        let segments = self.fields.strings(Class::Identifier)?;
+        let ty = match segments.last() {
+            None => Type::Timepoint,
+            Some(last) => {
+                self.fields.words.annotation(last, start..self.fields.at());
+                Type::Named(segments)
+            }
         };
         Ok(TypedBinder { slot, ty })
     }
@@ -197,9 +208,15 @@ impl<'a> Reader<'a> {
                 Term::Entity { ty, id: self.given("id".to_string(), |fields| fields.string(Class::Plain))? }
             }
             2 => Term::Integer(self.given(1, Fields::signed64)?),
-            3 => Term::Decimal(self.given("1.0".to_string(), Fields::decimal)?),
+            3 => {
+                self.fields.words.decimal = true;
+                Term::Decimal(self.given("1.0".to_string(), Fields::decimal)?)
+            }
             4 => Term::String(self.given("text".to_string(), |fields| fields.string(Class::Plain))?),
-            5 => Term::Bool(self.given(true, |fields| Ok(fields.choice(0, 1)? == 1))?),
+            5 => {
+                self.fields.words.boolean = true;
+                Term::Bool(self.given(true, |fields| Ok(fields.choice(0, 1)? == 1))?)
+            }
             6 => Term::ContextField(self.fields.path()?),
             7 => Term::ScopeField(self.fields.path()?),
             8 => Term::Var(self.fields.string(Class::Plain)?),

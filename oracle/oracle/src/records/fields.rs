@@ -52,6 +52,8 @@ pub struct Fields<'a> {
     at: usize,
     /// The version that the record says.
     pub version: u16,
+    /// The types that it names by a word, so far.
+    pub words: Words,
 }
 
 impl<'a> Fields<'a> {
@@ -60,7 +62,7 @@ impl<'a> Fields<'a> {
         if bytes.len() > LONGEST {
             return Err(TOO_LONG);
         }
-        let mut fields = Fields { bytes, at: 0, version: 0 };
+        let mut fields = Fields { bytes, at: 0, version: 0, words: Words::default() };
         if fields.take(3)? != mark {
             return Err(OTHER_MARK);
         }
@@ -71,12 +73,17 @@ impl<'a> Fields<'a> {
         Ok(fields)
     }
 
-    /// The record's end.
-    pub fn close(self) -> Result<(), Refusal> {
+    /// The record's end; what was noted of its words.
+    pub fn close(self) -> Result<Words, Refusal> {
         if self.at < self.bytes.len() {
             return Err(BYTES_AFTER);
         }
-        Ok(())
+        Ok(self.words)
+    }
+
+    /// The place of the next field.
+    pub fn at(&self) -> usize {
+        self.at
     }
 
     fn take(&mut self, count: usize) -> Result<&'a [u8], Refusal> {
@@ -172,11 +179,6 @@ impl<'a> Fields<'a> {
     /// An 8-bit count of strings of one class, in any order.
     pub fn strings(&mut self, class: Class) -> Result<Vec<String>, Refusal> {
         let count = self.byte()?;
-        (0..count).map(|_| self.string(class)).collect()
-    }
-
-    /// As many strings as said, in any order.
-    pub fn strings_counted(&mut self, count: u8, class: Class) -> Result<Vec<String>, Refusal> {
         (0..count).map(|_| self.string(class)).collect()
     }
 }

@@ -8,11 +8,20 @@ use cedar_policy_core::validator::{ValidatorActionId, ValidatorEntityType, Valid
 use std::sync::Arc;
 
 pub fn read_schema(bytes: &[u8]) -> Result<ValidatorSchema, Refusal> {
+    Ok(read(bytes)?.0)
+}
+
+/// The types that a schema names by a word; none where it is refused.
+pub fn words_of_schema(bytes: &[u8]) -> Words {
+    read(bytes).map_or(Words::default(), |(_, words)| words)
+}
+
+fn read(bytes: &[u8]) -> Result<(ValidatorSchema, Words), Refusal> {
     let mut fields = Fields::open(bytes, b"DWS", 1)?;
     let entity_types = read_entity_types(&mut fields)?;
     let actions = read_actions(&mut fields)?;
-    fields.close()?;
-    Ok(ValidatorSchema::new(entity_types, actions))
+    let words = fields.close()?;
+    Ok((ValidatorSchema::new(entity_types, actions), words))
 }
 
 fn read_entity_types(fields: &mut Fields) -> Result<Vec<ValidatorEntityType>, Refusal> {
@@ -70,8 +79,11 @@ fn read_type(fields: &mut Fields, level: u32) -> Result<Type, Refusal> {
     Ok(match fields.choice_at(0, 10, level)? {
         0 => Type::Long,
         1 => Type::String,
-        2 => Type::Bool(BoolType::AnyBool),
-        3 => Type::ExtensionType { name: Name::new(fields.string(Class::PathName)?) },
+        2 => {
+            fields.words.boolean = true;
+            Type::Bool(BoolType::AnyBool)
+        }
+        3 => read_extension(fields)?,
         4 => Type::Set { element_type: Some(Arc::new(read_type(fields, level + 1)?)) },
         5 => Type::Set { element_type: None },
         6 => Type::Record { attrs: read_attributes(fields, level + 1)?, open: false },
@@ -80,4 +92,12 @@ fn read_type(fields: &mut Fields, level: u32) -> Result<Type, Refusal> {
         9 => Type::Entity(EntityKind::AnyEntity),
         _ => Type::Never,
     })
+}
+
+/// The extension whose byte was read.
+fn read_extension(fields: &mut Fields) -> Result<Type, Refusal> {
+    let start = fields.at() - 1;
+    let name = Name::new(fields.string(Class::PathName)?);
+    fields.words.extension(name.basename().as_ref(), start..fields.at());
+    Ok(Type::ExtensionType { name })
 }
