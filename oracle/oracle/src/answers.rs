@@ -83,17 +83,25 @@ fn window_bytes(start: usize, seconds: i64, period: u64) -> Vec<u8> {
 }
 
 pub fn lookup(schema: &[u8], targets: &[u8], path: &[u8], output: &mut [u8]) -> Answer {
-    match lookup_bytes(schema, targets, path) {
-        Ok(bytes) if bytes.len() > output.len() => Answer::full(0),
-        Ok(bytes) => {
-            output[..bytes.len()].copy_from_slice(&bytes);
-            Answer::done(bytes.len())
-        }
+    match look_up(schema, targets, path) {
+        Ok(found) => found.write(output),
         Err(answer) => answer,
     }
 }
 
-fn lookup_bytes(schema: &[u8], targets: &[u8], path: &[u8]) -> Result<Vec<u8>, Answer> {
+/// What a lookup finds: a case byte, and its strings.
+#[derive(Debug, Clone, PartialEq, Eq)]
+pub struct Found {
+    pub case: u8,
+    pub strings: Vec<String>,
+}
+
+/// The cases of a lookup whose strings are types.
+pub const RESOLVED: u8 = 0;
+pub const AMBIGUOUS: u8 = 3;
+
+/// What a lookup finds before it is written, or the answer that refuses a record.
+pub fn look_up(schema: &[u8], targets: &[u8], path: &[u8]) -> Result<Found, Answer> {
     let schema = records::read_schema(schema).map_err(|r| Answer::refused(SCHEMA, r))?;
     let targets = records::read_targets(targets).map_err(|r| Answer::refused(TARGETS, r))?;
     let path = records::read_path(path).map_err(|r| Answer::refused(PATH, r))?;
@@ -104,7 +112,7 @@ fn lookup_bytes(schema: &[u8], targets: &[u8], path: &[u8]) -> Result<Vec<u8>, A
         Some(action) => action.resolve_scope_path(path.scope.root(), &path.path, narrowing_of(&targets, path.scope)),
         None => ScopePath::Unknown,
     };
-    Ok(lookup_output(found))
+    Ok(Found::of(found))
 }
 
 fn narrowing_of(targets: &TargetsRecord, scope: Scope) -> Option<&dogwood_rust::api::ScopeConstraint> {
@@ -114,22 +122,38 @@ fn narrowing_of(targets: &TargetsRecord, scope: Scope) -> Option<&dogwood_rust::
     }
 }
 
-/// A case byte, a 16-bit count of strings, the strings with 16-bit lengths.
-fn lookup_output(found: ScopePath) -> Vec<u8> {
-    let (case, strings) = match found {
-        ScopePath::Resolved(ty) => (0, vec![ty.render()]),
-        ScopePath::Missing { entities, segment } => (1, [vec![segment], entities].concat()),
-        ScopePath::NonRecord { segment } => (2, vec![segment]),
-        ScopePath::Ambiguous { types } => (3, types),
-        ScopePath::Unknown => (4, Vec::new()),
-    };
-    let mut bytes = vec![case];
-    bytes.extend(number16(strings.len()));
-    for text in strings {
-        bytes.extend(number16(text.len()));
-        bytes.extend(text.as_bytes());
+impl Found {
+    fn of(path: ScopePath) -> Found {
+        let (case, strings) = match path {
+            ScopePath::Resolved(ty) => (RESOLVED, vec![ty.render()]),
+            ScopePath::Missing { entities, segment } => (1, [vec![segment], entities].concat()),
+            ScopePath::NonRecord { segment } => (2, vec![segment]),
+            ScopePath::Ambiguous { types } => (AMBIGUOUS, types),
+            ScopePath::Unknown => (4, Vec::new()),
+        };
+        Found { case, strings }
     }
-    bytes
+
+    /// A case byte, a 16-bit count of strings, the strings with 16-bit lengths.
+    pub fn bytes(&self) -> Vec<u8> {
+        let mut bytes = vec![self.case];
+        bytes.extend(number16(self.strings.len()));
+        for text in &self.strings {
+            bytes.extend(number16(text.len()));
+            bytes.extend(text.as_bytes());
+        }
+        bytes
+    }
+
+    /// Written whole, or not at all.
+    pub fn write(&self, output: &mut [u8]) -> Answer {
+        let bytes = self.bytes();
+        if bytes.len() > output.len() {
+            return Answer::full(0);
+        }
+        output[..bytes.len()].copy_from_slice(&bytes);
+        Answer::done(bytes.len())
+    }
 }
 
 /// The types of a comparison's operands under the target at `position`, rendered, where all three records are read.

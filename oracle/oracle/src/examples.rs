@@ -3,6 +3,7 @@
 pub mod bytes;
 pub mod rules;
 pub mod strict;
+pub mod times;
 pub mod values;
 pub mod visits;
 pub mod windows;

@@ -19,6 +19,7 @@ pub mod rng;
 pub mod search;
 pub mod shrink;
 pub mod stack;
+pub mod times;
 pub mod timing;
 pub mod visits;
 pub mod workloads;

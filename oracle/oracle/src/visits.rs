@@ -9,11 +9,21 @@ use std::collections::{HashMap, HashSet};
 
 /// The answer of a check of these records, lent a buffer of this size, with its visits.
 pub fn counted(answer: Answer, records: &[Vec<u8>], size: usize) -> Answer {
-    Answer { visits: begun(records, size).unwrap_or(0), ..answer }
+    counted_saying(answer, records, size, Some)
+}
+
+/// The same where a breach is reported by another message than the Rust's, or by none.
+pub fn counted_saying(
+    answer: Answer,
+    records: &[Vec<u8>],
+    size: usize,
+    said: impl Fn(String) -> Option<String>,
+) -> Answer {
+    Answer { visits: begun(records, size, said).unwrap_or(0), ..answer }
 }
 
 /// None where a record is refused.
-fn begun(r: &[Vec<u8>], size: usize) -> Option<usize> {
+fn begun(r: &[Vec<u8>], size: usize, said: impl Fn(String) -> Option<String>) -> Option<usize> {
     let schema = records::read_schema(&r[0]).ok()?;
     let starts = validate::oracle_starts(&records::read_condition(&r[1]).ok()?.condition);
     let read = records::read_numbered(&r[1]).ok()?;
@@ -32,7 +42,7 @@ fn begun(r: &[Vec<u8>], size: usize) -> Option<usize> {
         }
         for (number, start) in numbers.iter().zip(&starts) {
             visits += 1;
-            for message in found.remove(number).unwrap_or_default() {
+            for message in found.remove(number).unwrap_or_default().into_iter().filter_map(&said) {
                 let long = 10 + message.len();
                 if reported.insert((message, *start)) {
                     used += long;
