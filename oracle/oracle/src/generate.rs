@@ -6,6 +6,7 @@ pub mod conditions;
 pub mod damage;
 pub mod large;
 pub mod mutations;
+pub mod times;
 pub mod values;
 pub mod windows;
 pub mod worlds;
@@ -34,14 +35,35 @@ pub fn scene(rng: &mut Rng, operation: Operation) -> Scene {
 /// A scene with a condition in this version: terms want a comparison, sums want many sums.
 pub fn scene_in(rng: &mut Rng, operation: Operation, version: u8) -> Scene {
     let world = World::random(rng);
-    let condition = match operation {
-        Operation::Terms => conditions::comparison_record(rng, &world),
-        Operation::Sums => conditions::summing_record(rng, &world),
-        Operation::Windows => conditions::looking_back_record(rng, &world),
-        _ => conditions::condition_record(rng, &world),
-    };
+    let condition = condition_for(rng, operation, &world);
     let condition = in_version(rng, condition, version);
     scene_with(rng, world, condition)
+}
+
+/// A condition of version 1 for an operation.
+fn condition_for(rng: &mut Rng, operation: Operation, world: &World) -> Piece {
+    match operation {
+        Operation::Terms => conditions::comparison_record(rng, world),
+        Operation::Sums => conditions::summing_record(rng, world),
+        Operation::Windows => conditions::looking_back_record(rng, world),
+        _ => conditions::condition_record(rng, world),
+    }
+}
+
+/// A scene with the types `datetime` and `duration` and names that are nearly theirs, in any version; three of four are
+/// without decimals and Bools, so that these can stand for the two.
+fn timed_scene(rng: &mut Rng, operation: Operation) -> Scene {
+    let world = World::random(rng);
+    let (alone, version) = (rng.chance(3, 4), rng.one(&[1, 2, 3]));
+    let condition = condition_for(rng, operation, &world);
+    let mut condition = times::in_condition(rng, &condition, alone);
+    if operation != Operation::Terms {
+        // terms want a comparison as their root
+        condition = times::with_variables(rng, &condition);
+    }
+    let condition = in_version(rng, condition, version);
+    let scene = scene_with(rng, world, condition);
+    Scene { schema: times::in_schema(rng, &scene.schema, alone), ..scene }
 }
 
 /// A condition of version 1 in this version: with a window wherever one stands, and then with a value.
@@ -71,6 +93,12 @@ pub fn draft(rng: &mut Rng, operation: Operation) -> Draft {
 /// A fresh draft with a condition of version 3; every fourth has a damaged record.
 pub fn valued_draft(rng: &mut Rng, operation: Operation) -> Draft {
     let scene = scene_in(rng, operation, 3);
+    draft_with(rng, operation, scene)
+}
+
+/// A fresh draft with the types `datetime` and `duration`; every fourth has a damaged record.
+pub fn timed_draft(rng: &mut Rng, operation: Operation) -> Draft {
+    let scene = timed_scene(rng, operation);
     draft_with(rng, operation, scene)
 }
 

@@ -35,7 +35,8 @@ const ACTION_TYPES: [&str; 6] = ["A::B::Action", "Action", "App::Action", "App::
 
 const ACTION_IDS: [&str; 6] = ["", "a b", "chat", "edit", "string", "view"];
 
-const EXTENSIONS: [&str; 5] = ["decimal", "App::decimal", "datetime", "ipaddr", "Decimal"];
+/// None of these is a type that the Rust does not know; `times` puts such in.
+const EXTENSIONS: [&str; 5] = ["decimal", "App::decimal", "Datetime", "ipaddr", "Decimal"];
 
 /// A schema type.
 #[derive(Debug, Clone)]
