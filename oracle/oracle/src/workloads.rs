@@ -107,6 +107,22 @@ pub fn valued() -> Vec<Workload> {
     vec![own("everyday, with values", everyday), own("32 KB of decimals", of(most(LONGEST, of)))]
 }
 
+/// As many orders as fit of two fields of a type: of Long, and of datetime, of which the Rust has a report, since it takes
+/// them for strings.
+pub fn timed() -> Vec<Workload> {
+    let field = || context_field(&["input", "at"]);
+    let of =
+        |count: usize| condition_record(joined((0..count).map(|_| comparison((0, 9), 1, field(), field())).collect()));
+    let condition = of(most(LONGEST, of));
+    let own = |name: &str, at: Piece| {
+        let input = record_type(vec![("at", at)]);
+        let view = action("App::Action", "view000", &["App::User"], &["App::Bot"], record_type(vec![("input", input)]));
+        workload(name, false, schema(vec![], vec![view]), condition.clone(), view_targets(1), path(0, &NONE, 0))
+    };
+    let datetime = ty(3, vec![text("datetime")]);
+    vec![own("32 KB of orders of Long", ty(0, vec![])), own("32 KB of orders of datetime", datetime)]
+}
+
 /// Conditions of growing size under one target.
 pub fn sizes() -> Vec<Workload> {
     let sized = |power: u32| {
@@ -482,6 +498,7 @@ fn deep_array(depth: usize) -> Piece {
 mod tests {
     use super::*;
     use crate::answers;
+    use crate::cases::Outcome;
 
     /// How many reports a workload has in a buffer of this size.
     fn reported(w: &Workload, space: usize) -> (u8, usize) {
@@ -496,6 +513,17 @@ mod tests {
             assert_eq!(reported(&all[row], all[row].space), (0, count));
         }
         assert!(all.iter().all(|w| w.schema.len() + w.condition.len() + w.targets.len() <= 50_000));
+    }
+
+    /// The Rust has one report of all orders of datetimes, and the rules here none.
+    #[test]
+    fn orders_of_datetimes_are_clean_here() {
+        let [long, datetime] = <[Workload; 2]>::try_from(timed()).ok().unwrap();
+        assert_eq!((reported(&long, SPACE), reported(&datetime, SPACE)), ((0, 0), (0, 1)));
+        let [same, ..] = &datetime.cases()[..] else { panic!("a check comes first") };
+        assert!(
+            matches!(same.outcome(), Some(Outcome::Answered(answer, _)) if answer.count == 0 && answer.visits > 1_000)
+        );
     }
 
     #[test]

@@ -70,6 +70,9 @@ fn table(text: &str) -> String {
         out += &row(&w.name, "check", &check(w));
         out += &row(&format!("{} ({} bytes)", w.name, w.condition.len()), "read condition", &read);
     }
+    for w in workloads::timed().iter().filter(|w| w.name.contains(text)) {
+        out += &row(&w.name, "check", &check(w));
+    }
     let all = workloads::all().into_iter().chain(workloads::crowded()).chain(workloads::searching());
     for w in all.filter(|w| w.name.contains(text)) {
         for (input, operation, times) in rows_of(&w) {
