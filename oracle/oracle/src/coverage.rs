@@ -1,6 +1,7 @@
 //! What a run of cases covered: reports by message, lookups by case, refusals by number and record.
 
 use crate::cases::{Case, Operation, Outcome};
+use crate::times;
 use std::collections::BTreeMap;
 
 /// A message is known by a part that no other has.
@@ -26,6 +27,9 @@ pub struct Coverage {
 impl Coverage {
     pub fn note(&mut self, case: &Case, outcome: &Outcome) {
         self.add(format!("cases      {}", case.operation.letter()), 1);
+        if times::is_marked(case) {
+            self.add(format!("marked     {}, judged whole", case.operation.letter()), 1);
+        }
         match outcome {
             Outcome::Number(number) => self.add(format!("number     {} {number:2}", case.operation.letter()), 1),
             Outcome::Answered(answer, buffer) => {
@@ -40,6 +44,11 @@ impl Coverage {
             }
             Outcome::Types(types) => types.iter().for_each(|t| self.note_type(t)),
         }
+    }
+
+    /// A marked case of whose outcome only a part is known.
+    pub fn note_in_part(&mut self, case: &Case) {
+        self.add(format!("marked     {}, judged in part", case.operation.letter()), 1);
     }
 
     fn add(&mut self, name: String, times: usize) {

@@ -5,13 +5,16 @@
 //! made with lent workspace of random size and contents and rules of no effect, and held against the one without; and it
 //! is made strictly, with space for all reports, where every pair of the plain one has to be among the strict ones, and the
 //! visits are as many. As many numbers are written as decimals, and read back.
+//!
+//! A case with the types `datetime` and `duration` is marked, and not held to what the Rust says of it: `oracle::times` has
+//! what is known of its outcome, the whole of it where other types can stand for the two, and else a part.
 
 #[path = "../library.rs"]
 mod library;
 
 use oracle::cases::{Case, Draft, Operation, Outcome, FILL};
 use oracle::coverage::Coverage;
-use oracle::{decimals, generate, hex, lists, rng::Rng, shrink, workloads};
+use oracle::{decimals, generate, hex, lists, rng::Rng, shrink, times, workloads};
 use std::collections::BTreeSet;
 use std::time::{SystemTime, UNIX_EPOCH};
 
@@ -50,7 +53,8 @@ fn seed_from_clock() -> u64 {
 fn compare_stored(operations: &[Operation]) -> usize {
     let crowded = [workloads::differing("reports", 200, 20, 1 << 20), workloads::alike("one start", 3, 1 << 20)];
     let names = [workloads::many_principals("principals", 255, 1), workloads::many_actions("actions", 2)];
-    let large = workloads::all().into_iter().chain(crowded).chain(names).flat_map(|w| w.cases());
+    let large =
+        workloads::all().into_iter().chain(crowded).chain(names).chain(workloads::timed()).flat_map(|w| w.cases());
     let all = lists::all().into_iter().flat_map(|list| list.cases).chain(large);
     let has = |operation| operations.contains(&operation);
     let mut compared = 0;
@@ -72,6 +76,7 @@ fn compare_fresh(operations: &[Operation], count: usize, seed: u64) -> Coverage 
         let draft = match rng.below(50) {
             0 => generate::large_draft(&mut rng, operation),
             1 | 2 => generate::compared_draft(&mut rng, operation),
+            3..=14 => generate::timed_draft(&mut rng, operation),
             _ => generate::draft(&mut rng, operation),
         };
         let case = draft.case();
@@ -80,8 +85,9 @@ fn compare_fresh(operations: &[Operation], count: usize, seed: u64) -> Coverage 
             show(&shrink::smallest(draft, |d: &Draft| differs(&d.case())).case());
             std::process::exit(1);
         }
-        if let Some(outcome) = case.outcome() {
-            coverage.note(&case, &outcome);
+        match case.outcome() {
+            Some(outcome) => coverage.note(&case, &outcome),
+            None => coverage.note_in_part(&case),
         }
     }
     coverage
@@ -107,7 +113,25 @@ fn compare_decimals(count: usize, seed: u64) {
 }
 
 fn differs(case: &Case) -> bool {
-    library::outcome(case) != case.outcome() || lent_differs(case) || strict_lacks(case)
+    is_contradicted(case) || lent_differs(case) || strict_lacks(case)
+}
+
+/// Whether the library's outcome is not what the oracle knows of it: all of it, or of some marked cases a part.
+fn is_contradicted(case: &Case) -> bool {
+    let outcome = case.outcome();
+    if !times::is_marked(case) {
+        return library::outcome(case) != outcome;
+    }
+    outcome.is_some() && library::outcome(case) != outcome || in_common_differs(&times::amply(case))
+}
+
+/// Whether the library says something else than the Rust where the types of a marked case do not matter.
+fn in_common_differs(case: &Case) -> bool {
+    let common = |outcome: Option<Outcome>| times::common(case.operation, &outcome?);
+    match (common(case.rust_outcome()), common(library::outcome(case))) {
+        (Some(rust), Some(ours)) => rust != ours,
+        _ => false,
+    }
 }
 
 /// Space for all reports of most cases.
@@ -192,7 +216,10 @@ fn show(case: &Case) {
     for record in &case.records {
         println!("  record  {}", hex::encode(record));
     }
-    println!("  the Rust: {}", shown(case.outcome()));
+    println!("  the Rust: {}", shown(case.rust_outcome()));
+    if times::is_marked(case) {
+        println!("  which is marked; wanted: {}", shown(case.outcome()));
+    }
     println!("  ours:     {}", shown(library::outcome(case)));
     if case.operation == Operation::Check {
         let (rules, workspace) = lent_to(case);
