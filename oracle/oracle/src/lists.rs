@@ -2,10 +2,11 @@
 
 use crate::cases::{self, Case, Draft, Operation, Outcome};
 use crate::coverage::Coverage;
-use crate::examples::{bytes, rules, strict, values, visits, windows};
+use crate::examples::{bytes, rules, strict, times as timed_examples, values, visits, windows};
 use crate::generate::{self, boundaries, compared};
 use crate::pieces::{self, Piece};
 use crate::rng::Rng;
+use crate::times;
 
 /// The seed of the stored lists.
 pub const SEED: u64 = 20_261_115;
@@ -54,6 +55,15 @@ pub fn all() -> Vec<List> {
             form: "c (condition), k (schema, condition, targets), m (condition) and w (condition, period), as in the lists \
                    of these letters. The conditions are of version 3, but for those that tell versions apart.",
             cases: valued(),
+        },
+        List {
+            file: "times.cases",
+            form: "k (schema, condition, targets), l (schema, targets, path), m (condition), e and f (schema, condition, \
+                   targets), as in the lists of these letters. Nearly all have the types datetime and duration, which the \
+                   Rust does not know. The answers of the examples, in front, were worked out from the definition; of the \
+                   others the Rust was asked with decimal and Bool in the place of the two types: its words were exchanged, \
+                   and what it reports of the order of two alike was left out.",
+            cases: timed(),
         },
         List {
             file: "terms.cases",
@@ -108,13 +118,25 @@ fn random(seed: u64, operation: Operation, count: usize) -> Vec<Case> {
     drafted(seed, operation, count, generate::draft)
 }
 
-/// Cases of an operation, as they are drafted. Of those that show little only every fourth is kept.
+/// Cases of an operation, as they are drafted, that are not marked. Of those that show little only every fourth is kept.
 fn drafted(seed: u64, operation: Operation, count: usize, draft: fn(&mut Rng, Operation) -> Draft) -> Vec<Case> {
+    kept(seed, operation, count, draft, |case| !times::is_marked(case), shows_little)
+}
+
+/// Cases that may be kept, as they are drafted. Of those that show little only every fourth is.
+fn kept(
+    seed: u64,
+    operation: Operation,
+    count: usize,
+    draft: fn(&mut Rng, Operation) -> Draft,
+    may_be: fn(&Case) -> bool,
+    shows_little: fn(&Case) -> bool,
+) -> Vec<Case> {
     let mut rng = Rng::new(seed ^ operation.letter() as u64);
     let mut cases = Vec::new();
     while cases.len() < count {
         let case = draft(&mut rng, operation).case();
-        if !shows_little(&case) || rng.chance(1, 4) {
+        if may_be(&case) && (!shows_little(&case) || rng.chance(1, 4)) {
             cases.push(case);
         }
     }
@@ -249,6 +271,22 @@ fn valued() -> Vec<Case> {
         [(Operation::ReadCondition, 120), (Operation::Check, 160), (Operation::Sums, 80), (Operation::Windows, 80)]
     {
         cases.extend(drafted(SEED ^ 3 << 32, operation, count, generate::valued_draft));
+    }
+    once(cases)
+}
+
+/// The examples of the types that the Rust does not know, and random cases with them of which an outcome is known. Where
+/// the Rust says the same of these types as they are, a case shows little.
+fn timed() -> Vec<Case> {
+    let mut cases = Vec::new();
+    for e in timed_examples::all().iter().filter(|e| e.judge != timed_examples::Judge::Rust) {
+        let sizes = [e.needed() + 500, e.needed()].into_iter().chain(e.needed().checked_sub(1));
+        cases.extend(sizes.map(|size| e.case(size)));
+    }
+    for (operation, count) in [(Operation::Check, 200), (Operation::Lookup, 100), (Operation::Terms, 80)] {
+        let is_judged = |case: &Case| times::is_marked(case) && case.outcome().is_some();
+        let says_the_same = |case: &Case| case.outcome() == case.rust_outcome();
+        cases.extend(kept(SEED, operation, count, generate::timed_draft, is_judged, says_the_same));
     }
     once(cases)
 }
