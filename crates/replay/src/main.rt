@@ -1,5 +1,6 @@
 // Replays the stored cases against the proved crates: each case's answer, and the whole buffer after it, are what the
-// published Rust gave. Prints a line for each list: how many cases, how many differ, and which is the first that does.
+// published Rust gave, but where a list's heading says otherwise. Prints a line for each list: how many cases, how many
+// differ, and which is the first that does.
 //
 // The lists stand in data/; their headings say how they were made and how a case is to be read. A case is never copied: its
 // records are parts of the list. Nothing is asked of a list: what no list has makes a case differ.
@@ -328,5 +329,6 @@ fn main() {
     replay(b"lookup.cases");
     replay(b"windows.cases");
     replay(b"values.cases");
+    replay(b"times.cases");
     replay(b"terms.cases");
 }
