@@ -46,11 +46,12 @@ impl Slot {
 pub enum Annotation {
     /// A position in time.
     Timepoint,
-    /// A named type by its segments, at least one: `["Long"]`, `["App", "User"]`.
+    /// A named type by its segments, at least one: `["Long"]`, `["App", "User"]`. The last one decides: `Long`, `String`,
+    /// `Bool` or `Boolean`, `decimal` or `Decimal`, `datetime`, `duration`; any other is an entity type.
     Named(Vec<String>),
 }
 
-/// The text of an annotation, as it is written in a rule: `Timepoint`, `Long` or `App::User`.
+/// The text of an annotation, as it is written in a rule: `Timepoint`, `Long`, `datetime` or `App::User`.
 impl From<&str> for Annotation {
     fn from(text: &str) -> Annotation {
         match text {

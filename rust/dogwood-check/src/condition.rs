@@ -62,7 +62,8 @@ pub enum ConditionKind {
     Refine(Box<Condition>),
 }
 
-/// The operator of a comparison.
+/// The operator of a comparison. An order takes two Long, two `datetime` or two `duration`; an equality takes two terms of
+/// like types.
 #[derive(Clone, Copy, Debug, PartialEq, Eq, Hash)]
 #[repr(u8)]
 pub enum Operator {

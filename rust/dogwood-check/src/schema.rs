@@ -184,7 +184,8 @@ pub enum Type {
     String,
     /// `Bool`.
     Bool,
-    /// An extension type, as `decimal`.
+    /// An extension type, as `decimal` or `App::decimal`. Those whose simple name is `decimal`, `datetime` or `duration`
+    /// are types of their own; any other compares as a String.
     Extension(String),
     /// A set with elements of one type.
     Set(Box<Type>),
@@ -206,6 +207,36 @@ impl Type {
     /// The extension type of this name.
     pub fn extension(name: impl Into<String>) -> Type {
         Type::Extension(name.into())
+    }
+
+    /// A point in time, the extension type `datetime`. Two of them have an order; arithmetic does not take them, and no
+    /// other type compares with them.
+    ///
+    /// ```
+    /// use dogwood_check::{check, Action, Condition, Operator, Schema, Target, Targets, Term, Type};
+    ///
+    /// let input = Type::record([("due", Type::datetime()), ("loan", Type::duration()), ("sent", Type::datetime())]);
+    /// let view = Action::new("Action", "view").context(Type::record([("input", input)]));
+    /// let schema = Schema::new().action(view).encode()?;
+    /// let targets = Targets::new().target(Target::new("view")).encode()?;
+    /// let field = |name| Term::context(["input", name]);
+    ///
+    /// let late = Condition::comparison(0..40, Operator::Lt, field("due"), field("sent")).encode()?;
+    /// assert!(check(&schema, &late, &targets)?.is_clean());
+    /// let long = Condition::comparison(0..40, Operator::Lt, field("due"), field("loan")).encode()?;
+    /// assert_eq!(
+    ///     check(&schema, &long, &targets)?.to_string(),
+    ///     "0..40: comparison requires numeric operands on both sides, got `datetime` and `duration`"
+    /// );
+    /// # Ok::<(), Box<dyn std::error::Error>>(())
+    /// ```
+    pub fn datetime() -> Type {
+        Type::extension("datetime")
+    }
+
+    /// A length of time, the extension type `duration`. It stands to others as [`datetime`](Type::datetime) does.
+    pub fn duration() -> Type {
+        Type::extension("duration")
     }
 
     /// A set with elements of this type.
