@@ -122,6 +122,11 @@ uint8_t dogwood_read_path(const uint8_t *bytes, size_t length);
 /*
  * Checks the types of a condition under each target of a rule. Every different pair of message and start is reported once.
  *
+ * An order (`<` and its like) takes two Long, two datetimes or two durations, an equality two terms of like types, and
+ * arithmetic takes Long alone. A datetime is what the schema calls by an extension type of the simple name `datetime`, and
+ * a variable whose annotation ends with that word; a duration is named in the same way by `duration`. Of the other
+ * extension types decimal is one of its own, and the rest are strings.
+ *
  * Number 0: the buffer begins with `count` reports, one after the other (struct dogwood_report); bytes behind them are as
  * they were. A count of 0 means that no rule was found broken. An empty list of targets has nothing to check; a target that
  * the schema does not declare, or a field that does not resolve, has no type, and what depends on it is not reported.
@@ -184,7 +189,7 @@ struct dogwood_answer dogwood_windows(const uint8_t *condition, size_t condition
 
 /* The first byte of what dogwood_lookup writes. */
 enum dogwood_status {
-    DOGWOOD_RESOLVED = 0,   /* one string: the type */
+    DOGWOOD_RESOLVED = 0,   /* one string: the type, as `int`, `datetime`, `array<string>` or `entity:User` */
     DOGWOOD_MISSING = 1,    /* the segment that is missing, then the entity types that lack it */
     DOGWOOD_NON_RECORD = 2, /* one string: the segment that would go into something that is no record */
     DOGWOOD_AMBIGUOUS = 3,  /* the types, which differ */

@@ -84,6 +84,22 @@ static void test(int holds, const char *claim, int line) {
 #define VALUED_SUM "\14\0" "\1\1U\1a" "\1\1U\1b"
 #define VALUED_WINDOW "DWC\0\3" "\4" AT_FIVE MINUTES_90 "\10" ZERO_SPAN "\4" VALUED_SUM "\2" "\0\0\0\0\0\0\0\1"
 
+/*
+ * Action::"view" with the input fields d, a datetime, and e, an App::duration; `d < d` and `d < e` at 0 to 0; and a variable
+ * of type datetime that is compared with a text.
+ */
+#define TIMES_INPUT "\6\2" "\1d\3\10datetime" "\1e\3\15" "App::duration"
+#define TIMES_SCHEMA "DWS\0\1" "\0\0" "\0\1" "\6Action" "\4view" "\0" "\0" "\6\1\5input" TIMES_INPUT
+#define FIELD_D "\6\2\5input\1d"
+#define FIELD_E "\6\2\5input\1e"
+#define ORDER "DWC\0\1" "\10" ZERO_SPAN "\1"
+#define DATETIME_AND_STRING "DWC\0\1" "\11" ZERO_SPAN "\0\1v\1\10datetime" "\10" ZERO_SPAN "\4" "\10\1v" "\4"
+
+/* User with the attribute due, a datetime, as the principal of Action::"view"; and the path principal.due. */
+#define DUE_USER "\0\1" "\4User" "\0" "\1\3due\3\10datetime"
+#define DUE_SCHEMA "DWS\0\1" DUE_USER "\0\1" "\6Action" "\4view" "\1\4User" "\0" "\6\0"
+#define DUE_PATH "DWP\0\1" "\0" "\1\3due" "\0"
+
 /* No narrowing, the target "view". */
 #define TARGETS "DWT\0\1" "\0\0" "\1" "\0\4view"
 
@@ -94,6 +110,8 @@ static void test(int holds, const char *claim, int line) {
 
 #define MESSAGE "comparison requires numeric operands on both sides, got `boolean` and `int`"
 #define TAGS_MESSAGE "equality requires both sides to have the same type, got `U` and `G`"
+#define TIMES_MESSAGE "comparison requires numeric operands on both sides, got `datetime` and `duration`"
+#define DATETIME_MESSAGE "equality requires both sides to have the same type, got `datetime` and `string`"
 #define SUM_MESSAGE "cannot sum `v`: sum requires a `Long` summand, but `v` is `String`."
 
 /* ─── The lent buffer ─── */
@@ -496,6 +514,25 @@ static void test_lookup(void) {
     TEST(refuses(answer, DOGWOOD_NO_SPACE, DOGWOOD_NO_RECORD));
 }
 
+/* ─── Datetime and duration ─── */
+
+/* Two datetimes are ordered, a datetime and a duration are not, and neither is a text; a lookup shows the word. */
+static void test_times(void) {
+    struct dogwood_check_answer answer =
+        dogwood_check(BYTES(TIMES_SCHEMA), BYTES(ORDER FIELD_D FIELD_D), BYTES(TARGETS), fresh(), SPACE);
+    struct dogwood_report report;
+
+    TEST(checks(answer, DOGWOOD_ACCEPTED, DOGWOOD_NO_RECORD, 0, 1) && untouched_from(0));
+    answer = dogwood_check(BYTES(TIMES_SCHEMA), BYTES(ORDER FIELD_D FIELD_E), BYTES(TARGETS), fresh(), SPACE);
+    dogwood_next_report(buffer, &report);
+    TEST(checks(answer, DOGWOOD_ACCEPTED, DOGWOOD_NO_RECORD, 1, 1) && reports(&report, 0, 0, TIMES_MESSAGE));
+    answer = dogwood_check(BYTES(EMPTY_SCHEMA), BYTES(DATETIME_AND_STRING), BYTES(TARGETS), fresh(), SPACE);
+    dogwood_next_report(buffer, &report);
+    TEST(checks(answer, DOGWOOD_ACCEPTED, DOGWOOD_NO_RECORD, 1, 2) && reports(&report, 0, 0, DATETIME_MESSAGE));
+    TEST(writes(dogwood_lookup(BYTES(DUE_SCHEMA), BYTES(TARGETS), BYTES(DUE_PATH), fresh(), SPACE),
+                BYTES("\0" "\0\1" "\0\10datetime")));
+}
+
 /* ─── Decimals ─── */
 
 /* Whether a number is written as this text, in all of the space and in just enough of it, and not in less. */
@@ -541,6 +578,7 @@ int main(void) {
     test_decimals();
     test_valued_operations();
     test_lookup();
+    test_times();
     test_write_decimal();
     printf("the library from C: %d tests, %d failed\n", tests, failures);
     return failures != 0;
