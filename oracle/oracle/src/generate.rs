@@ -62,8 +62,12 @@ fn timed_scene(rng: &mut Rng, operation: Operation) -> Scene {
         condition = times::with_variables(rng, &condition);
     }
     let condition = in_version(rng, condition, version);
-    let scene = scene_with(rng, world, condition);
-    Scene { schema: times::in_schema(rng, &scene.schema, alone), ..scene }
+    let mut scene = scene_with(rng, world, condition);
+    scene.schema = times::in_schema(rng, &scene.schema, alone);
+    if rng.chance(1, 2) {
+        times::with_entity_types(&mut scene);
+    }
+    scene
 }
 
 /// A condition of version 1 in this version: with a window wherever one stands, and then with a value.

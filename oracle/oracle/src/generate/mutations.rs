@@ -144,7 +144,8 @@ fn is_name(field: &[u8]) -> bool {
     field.len() > 1 && usize::from(field[0]) == field.len() - 1 && field[1..].iter().all(u8::is_ascii_graphic)
 }
 
-fn renamed(piece: &mut Piece, old: &[u8], new: &[u8]) {
+/// Gives a field of these bytes others, wherever it stands.
+pub fn renamed(piece: &mut Piece, old: &[u8], new: &[u8]) {
     match piece {
         Piece::Field(bytes) if bytes == old => *bytes = new.to_vec(),
         other => parts_mut(other).iter_mut().for_each(|part| renamed(part, old, new)),

@@ -1,6 +1,7 @@
 //! The types `datetime` and `duration` put into a scene, and names that are nearly theirs: other letters, the word as a
 //! namespace, entities called like the types.
 
+use super::{mutations, Scene};
 use crate::pieces::{self, byte, entity, exists, integer, kind_of, named, term, text, texts, var, Piece, Sort};
 use crate::rng::Rng;
 
@@ -72,6 +73,17 @@ pub fn with_variables(rng: &mut Rng, condition: &Piece) -> Piece {
     });
     let declared = |body, name| exists((0, 0), named(name, rng.one(&ANNOTATIONS)), body);
     pieces::with_root(timed, |root| VARIABLES.into_iter().fold(root, declared))
+}
+
+/// Entity types of a scene called like the types, wherever they stand: each new name has the old one's place in the order.
+pub fn with_entity_types(scene: &mut Scene) {
+    for (old, new) in
+        [("entity", "datetime"), ("in", "duration")].map(|pair| (text(pair.0).bytes(), text(pair.1).bytes()))
+    {
+        for record in [&mut scene.schema, &mut scene.condition, &mut scene.targets] {
+            mutations::renamed(record, &old, &new);
+        }
+    }
 }
 
 /// The last segments of the annotations that are decimals and Bools.
