@@ -25,7 +25,7 @@ use Rattle.nodes.specs.Parts.{BoundBy, nameIn}
 use Rattle.walk.specs.Environment.{nameAt, Sorted, Entry, Environment, SpotOf, insertAt, Inserted, MayDeclare, Declared}
 use Rattle.condition.specs.Laws.Records.{record-small}
 use Rattle.walk.proofs.ByPlace.{prefix}
-use Rattle.walk.proofs.Bindings.{last-append}
+use Rattle.walk.specs.Laws.Named.{last-append}
 use Rattle.nodes.specs.Laws.Binders.{says-nothing, binder-index, own-slot, binder-slot, binder-annotation, annotation-is}
 use Rattle.walk.proofs.Spots.{Beside, before, here, behind, beside, insert-length, insert-before, insert-here, insert-behind}
 

@@ -1,2 +1,6 @@
+pub mod Scopes
 pub mod Index
 pub mod Environment
+pub mod Enclosing
+pub mod Rows
+pub mod Laws

@@ -15,6 +15,8 @@ use Rattle.walk.proofs.index.index_operand.Reads as index-operand
 use Rattle.walk.proofs.index.index_operand.Kinds as index-operand-kinds
 use Rattle.walk.proofs.index.+index+index_operand.Lts-index_operand as index-operand-lts
 use Rattle.walk.proofs.index.put.Reads as put-reads
+use Rattle.walk.proofs.index.row_below.Reads as row-below-reads
+use Rattle.walk.proofs.index.row_held.Reads as row-held-reads
 use Rattle.nodes.proofs.aggregate_kind_at.Reads as aggregate-kind-at-reads
 use Rattle.nodes.proofs.body_at.Reads as body-at-reads
 use Rattle.nodes.proofs.first_part.Reads as first-part-reads
@@ -53,46 +55,44 @@ index-operand-below t = and 2 index-operand-kinds.ps (falls 2 index-operand-kind
 
 -- index
 abbrev index-given : ℕ → index-lts.Claims
-index-given t = (kind-at-reads.Asked, kind-at-reads.Learnt, put-reads.Asked, put-reads.Learnt, has-two-reads.Asked, has-two-reads.Learnt, first-part-reads.Asked, first-part-reads.Learnt, index-below t, index.Post, has-one-reads.Asked, has-one-reads.Learnt, index-operand-below t, index-operand.Post, past-binder-reads.Asked, past-binder-reads.Learnt, past-condition-reads.Asked, past-condition-reads.Learnt)
+index-given t = (kind-at-reads.Asked, kind-at-reads.Learnt, put-reads.Asked, put-reads.Learnt, has-two-reads.Asked, has-two-reads.Learnt, first-part-reads.Asked, first-part-reads.Learnt, index-below t, index.Post, has-one-reads.Asked, has-one-reads.Learnt, row-below-reads.Asked, row-below-reads.Learnt, index-operand-below t, index-operand.Post, past-binder-reads.Asked, past-binder-reads.Learnt, past-condition-reads.Asked, past-condition-reads.Learnt)
 
 index-met : {M : Type 1} (t : ℕ) → index-lts.Closed (index-given t) (index-at t) index.Post M
 index-met t =
     index-lts.spec (index-given t) (index-at t) index.Post
     (λ c κs. search needs)
     (λ c κs. search needs)
-    (λ c κs. search needs)
-    (λ c κs. search needs)
     (λ c. search needs)
+    (λ c κs. search needs)
+    (λ c κs. search needs)
     (λ c κs. (omega arith, (search steps, search needs)))
     (λ c κs. (omega arith, (search (two-next _ _ (c .before .before .before .index .ensures)), search needs)))
     (λ c. search needs)
     (λ c. search steps)
     (λ c κs. search needs)
     (λ c κs. search needs)
-    (λ c. search needs)
     (λ c κs. (omega arith, (search steps, search needs)))
     (λ c. search needs)
     (λ c. search steps)
     (λ c κs. search needs)
-    (λ c. search needs)
+    (λ c κs. search needs)
     (λ c κs. (omega arith, (search steps, search needs)))
-    (λ c κs. (omega arith, (comparison-next _ _ (c .before .before .before .index-operand .ensures) _ (c .before .before .before .before .before .first-part3 .ensures .0) (omega arith) (search needs), search needs)))
+    (λ c κs. (omega arith, (comparison-next _ _ (c .before .before .before .index-operand .ensures) _ (c .before .before .before .before .before .before .first-part3 .ensures .0) (omega arith) (search needs), search needs)))
     (λ c. search needs)
-    (λ c. search steps)
+    (λ c. comparison-filled _ _ (c .before .before .before .before .before .before .before .before .before .before .before .before .before .before .before .before .before .before .before .before .before .before .pre .1 .0) _ (c .before .before .before .before .before .before .before .before .before .before .before .before .before .before .before .before .before .before .before .kind-at .ensures) _ (c .before .before .before .before .before .before .before .before .before .first-part3 .ensures .0) (omega arith) (c .before .before .before .before .before .before .before .before .before .before .before .before .before .before .before .before .before .put .ensures) (search needs) (c .before .before .before .before .before .before .index-operand .ensures) (search needs))
     (λ c κs. search needs)
     (λ c κs. search exists-first)
-    (λ c. search needs)
+    (λ c κs. search needs)
     (λ c κs. (omega arith, (search steps, search needs)))
     (λ c. search needs)
     (λ c. search steps)
     (λ c κs. search needs)
-    (λ c. search needs)
     (λ c. search needs)
     (λ c. search steps)
 
 -- index-operand
 abbrev index-operand-given : ℕ → index-operand-lts.Claims
-index-operand-given t = (term-kind-at-reads.Asked, term-kind-at-reads.Learnt, term-part-reads.Asked, term-part-reads.Learnt, aggregate-kind-at-reads.Asked, aggregate-kind-at-reads.Learnt, past-term-reads.Asked, past-term-reads.Learnt, body-at-reads.Asked, body-at-reads.Learnt, index-below t, index.Post, left-part-reads.Asked, left-part-reads.Learnt, index-operand-below t, index-operand.Post)
+index-operand-given t = (term-kind-at-reads.Asked, term-kind-at-reads.Learnt, term-part-reads.Asked, term-part-reads.Learnt, aggregate-kind-at-reads.Asked, aggregate-kind-at-reads.Learnt, past-term-reads.Asked, past-term-reads.Learnt, body-at-reads.Asked, body-at-reads.Learnt, row-held-reads.Asked, row-held-reads.Learnt, index-below t, index.Post, left-part-reads.Asked, left-part-reads.Learnt, index-operand-below t, index-operand.Post)
 
 index-operand-met : {M : Type 1} (t : ℕ) → index-operand-lts.Closed (index-operand-given t) (index-operand-at t) index-operand.Post M
 index-operand-met t =
@@ -103,6 +103,7 @@ index-operand-met t =
     (λ c κs. search needs)
     (λ c. search steps)
     (λ c κs. search steps)
+    (λ c κs. (search needs, search needs))
     (λ c κs. (omega arith, (search steps, search needs)))
     (λ c. search needs)
     (λ c. search steps)
