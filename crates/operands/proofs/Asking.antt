@@ -11,7 +11,7 @@ use Rattle.names.specs.Read.{ending, readNumber, valueOr}
 use Rattle.names.specs.declared.Read.{Read}
 use Rattle.names.specs.declared.Read.the-variants as Read
 use Rattle.names.specs.Laws.Readers.{accept, passes, refused-by, refuses}
-use Rattle.types.specs.Types.{plain}
+use Rattle.types.specs.Types.{dated, plain}
 use Rattle.types.specs.Meaning.{profileIn}
 use Rattle.schema.specs.Schema.{schemaRecord}
 use Rattle.schema.specs.Find.{findAction}
@@ -26,13 +26,14 @@ use Rattle.nodes.specs.Kinds.{kindOf, spanOf}
 use Rattle.condition.specs.Places.{recordIn, isCondition, conditionIn, isTerm, termIn}
 use Rattle.nodes.specs.Looked.{KindHere}
 use Rattle.nodes.specs.Parts.{ComparisonHere}
-use Rattle.condition.specs.Walk.{binders}
-use Rattle.walk.specs.Environment.{Environment}
+use Rattle.walk.specs.Enclosing.{aroundAt, bindingIn, Names}
+use Rattle.walk.specs.Laws.Nodes.{some-reached}
+use Rattle.walk.specs.declared.Binding.the-variants as code
 use Rattle.nodes.specs.declared.ComparisonAt.{ComparisonAt}
 use Rattle.condition.specs.Laws.Records.{record-starts, record-value}
 use Rattle.resolution.specs.Places.{typedOf}
 use Rattle.resolution.specs.declared.Typed.{Typed}
-use Rattle.terms.specs.Terms.{factsOf, termType}
+use Rattle.terms.specs.Terms.{factsAmong, factsOf, termType}
 use Rattle.terms.specs.Facts.{factsIn, Known, FactsOf}
 use Rattle.terms.specs.Answers.{TypeOf}
 use Rattle.terms.specs.declared.Common.{Common}
@@ -98,14 +99,25 @@ pub ruleset comparing = (needs, root-stands, no-comparison, a-comparison, operan
 -- ---- the facts of a target
 
 module _ (s c n : List ℕ) (read : Records s c n) (found : Found) (stands : foundStands (isAction s) found ≡ true) (common : Common) (f : Facts) (k : FactsOf n found common f) where
-  pub facts-known : (env : List ℕ) → Environment c (binders (recordIn c)) env → ActionsOf s (common .actions) → Known s c env f
-  facts-known env e g = record { ready = record { schema = read .schema; condition = read .condition; named = e; actions = rw (k .shared) g }; action = rw (k .action) stands }
+  pub facts-known : (env : List ℕ) → Names c (bindingIn (common .binding)) env → ActionsOf s (common .actions) → Known s c env f
+  facts-known env e g = record {
+    ready = record { schema = read .schema; condition = read .condition; named = rw (k .shared) e; actions = rw (k .shared) g };
+    action = rw (k .action) stands;
+    node = rw (k .node) (some-reached (recordIn c));
+  }
 
   pub facts-answered : (which : Operand) (b : List ℕ) (a : Answer) (t : List ℕ) → outcomeOf a t ≡ answered which (recordIn c) (factsIn s c n f) b
-      → outcomeOf a t ≡ answered which (recordIn c) (factsOf (profileIn (common .profile)) (schemaIn s) (recordIn c) (targetsIn n .scope) (foundIn (actionIn s) found)) b
+      → outcomeOf a t ≡ answered which (recordIn c) (factsAmong dated (profileIn (common .profile)) (schemaIn s) (targetsIn n .scope) (foundIn (actionIn s) found) (aroundAt (bindingIn (common .binding)) c 0)) b
   facts-answered which b a t i = rw (facts-mean s c n found common f k) at i
 
-pub ruleset by-action = (needs, length-take-le, facts-known, facts-answered)
+-- by the flat environment
+pub flat-answered : (s c n : List ℕ) (found : Found) (which : Operand) (b : List ℕ) (a : Answer) (t : List ℕ)
+    → outcomeOf a t ≡ answered which (recordIn c) (factsAmong dated plain (schemaIn s) (targetsIn n .scope) (foundIn (actionIn s) found) (aroundAt (bindingIn code.Flat) c 0)) b
+    → outcomeOf a t ≡ answered which (recordIn c) (factsOf plain (schemaIn s) (recordIn c) (targetsIn n .scope) (foundIn (actionIn s) found)) b
+unfolding aroundAt bindingIn
+flat-answered s c n found which b a t i = i
+
+pub ruleset by-action = (needs, length-take-le, facts-known, facts-answered, flat-answered)
 
 module _ (s c n : List ℕ) (at : ℕ) (w : List ℕ) (is-w : w ≡ targetIn n at .namespace) (v : List ℕ) (is-v : v ≡ targetIn n at .id) (x : Found) (finds : FindsAction s (findAction (schemaIn s) w v) x) where
   pub action-stands : foundStands (isAction s) x ≡ true

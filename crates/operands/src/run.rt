@@ -9,17 +9,17 @@ use schema::Namespace;
 use terms::Common;
 use terms::Facts;
 use types::Profile;
+use walk::Binding;
 ghost use mathlib.Core.Path.{_≡_};
 ghost use mathlib.Core.Bool.{true};
-ghost use Rattle.types.specs.Types.{plain};
+ghost use Rattle.types.specs.Types.{dated, plain};
 ghost use Rattle.types.specs.Meaning.{profileIn};
 ghost use Rattle.schema.specs.Places.{schemaIn, isAction, actionIn, foundIn, foundStands, ActionsOf};
 ghost use Rattle.targets.specs.Places.{targetsIn, isTarget, targetIn};
 ghost use Rattle.condition.specs.Places.{recordIn};
-ghost use Rattle.condition.specs.Walk.{binders};
 ghost use Rattle.walk.specs.Index.{Index};
-ghost use Rattle.walk.specs.Environment.{Environment};
-ghost use Rattle.terms.specs.Terms.{factsOf};
+ghost use Rattle.walk.specs.Enclosing.{aroundAt, bindingIn, Names};
+ghost use Rattle.terms.specs.Terms.{factsAmong, factsOf};
 ghost use Rattle.terms.specs.Facts.{factsIn, Known};
 ghost use Rattle.operands.specs.Operands.{answered, underTarget, atPosition, operandType};
 ghost use Rattle.operands.specs.Answers.{placeOf, outcomeOf, Records};
@@ -68,16 +68,16 @@ fn with_common<'a>(
     out: &mut [u8],
 ) -> Answer
     requires { ⌜ Records (now schema) (now condition) (now targets) ⌝ }
-    requires { ⌜ Environment (now condition) (binders (recordIn (now condition))) (now env) ⌝ }
+    requires { ⌜ Names (now condition) (bindingIn (common .binding)) (now env) ⌝ }
     requires { ⌜ ActionsOf (now schema) (common .actions) ⌝ }
     requires { ⌜ foundStands (isAction (now schema)) own ≡ true ⌝ }
-    ensures { λ r. ⌜ outcomeOf r (now (out .exit)) ≡ answered which (recordIn (now (condition .entry))) (factsOf (profileIn (common .profile)) (schemaIn (now (schema .entry))) (recordIn (now (condition .entry))) (targetsIn (now (targets .entry)) .scope) (foundIn (actionIn (now (schema .entry))) own)) (now (out .entry)) ⌝ }
+    ensures { λ r. ⌜ outcomeOf r (now (out .exit)) ≡ answered which (recordIn (now (condition .entry))) (factsAmong dated (profileIn (common .profile)) (schemaIn (now (schema .entry))) (targetsIn (now (targets .entry)) .scope) (foundIn (actionIn (now (schema .entry))) own) (aroundAt (bindingIn (common .binding)) (now (condition .entry)) 0)) (now (out .entry)) ⌝ }
 {
     let facts = terms::facts_of(targets, own, common);
     under_facts(schema, condition, targets, env, facts, which, out)
 }
 
-// The operand over the reached nodes: the binders are put into a table by name.
+// The operand over the reached nodes: the binders are put into a table.
 fn over_places<'a>(
     schema: &'a [u8],
     condition: &'a [u8],
@@ -93,10 +93,11 @@ fn over_places<'a>(
     ensures { λ r. ⌜ outcomeOf r (now (out .exit)) ≡ answered which (recordIn (now (condition .entry))) (factsOf plain (schemaIn (now (schema .entry))) (recordIn (now (condition .entry))) (targetsIn (now (targets .entry)) .scope) (foundIn (actionIn (now (schema .entry))) own)) (now (out .entry)) ⌝ }
 {
     let mut table = [0u16; 10921];
-    let k = walk::environment(condition, places, &mut table);
+    let k = walk::names_of(Binding::Flat, condition, places, &mut table);
     let common = Common {
         actions: schema::actions(schema),
         profile: Profile::Plain,
+        binding: Binding::Flat,
     };
     with_common(
         schema,

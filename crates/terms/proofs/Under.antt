@@ -19,9 +19,10 @@ use Rattle.targets.specs.Places.{narrowed, targetsIn}
 use Rattle.targets.specs.declared.Narrowed.{Narrowed}
 use Rattle.condition.specs.Condition.{Term, entity, literal, contextField, scopeField, var, wildcard, array, aggregate, sigil, timepoint, path}
 use Rattle.condition.specs.Condition as tree
-use Rattle.condition.specs.Walk.{lastNamed, binders}
+use Rattle.condition.specs.Walk.{lastNamed}
+use Rattle.walk.specs.Enclosing.{aroundAt, bindingIn}
 use Rattle.nodes.specs.Kinds.{termKindOf}
-use Rattle.condition.specs.Places.{termHere, recordIn, termIn, pathIn}
+use Rattle.condition.specs.Places.{termHere, termIn, pathIn}
 use Rattle.nodes.specs.Laws.Pieces.{context-path, scope-path, context-inside, scope-inside, var-inside}
 use Rattle.nodes.specs.Looked.{TermKindHere}
 use Rattle.nodes.specs.Parts.{PathHere, segmentsIn, SegmentsHere, BoundBy}
@@ -45,8 +46,8 @@ use Rattle.terms.proofs.Fields.{action-stands}
 use Rattle.terms.proofs.Roots.{nothing-typed}
 
 -- the facts of a target
-pub facts-made : (n : List ℕ) (found : Found) (common : Common) (p r : Narrowed) → narrowed n p ≡ targetsIn n .scope .principal → narrowed n r ≡ targetsIn n .scope .resource → FactsOf n found common (record { action = found; principal = p; resource = r; common = common })
-facts-made n found common p r e f = record { action = refl; shared = refl; scope = rw (e, f) }
+pub facts-made : (n : List ℕ) (found : Found) (common : Common) (p r : Narrowed) → narrowed n p ≡ targetsIn n .scope .principal → narrowed n r ≡ targetsIn n .scope .resource → FactsOf n found common (record { action = found; principal = p; resource = r; common = common; node = 0 })
+facts-made n found common p r e f = record { action = refl; shared = refl; scope = rw (e, f); node = refl }
 
 pub ruleset making = (needs, facts-made)
 
@@ -97,26 +98,26 @@ plain-typed s c at e h = record { value = h .value; small = within-small s c (e 
 pub ruleset plainly = (needs, plain-typed)
 
 -- A name, by what its last binder says.
-module _ (s c : List ℕ) (facts : Facts) (name : List ℕ) (b : Bound) (says : BoundBy c (lastNamed name (binders (recordIn c))) b) where
+module _ (s c : List ℕ) (facts : Facts) (name : List ℕ) (b : Bound) (says : BoundBy c (lastNamed name (aroundAt (bindingIn (facts .common .binding)) c (facts .node))) b) where
   pub bound-stands : (p : ℕ) → b ≡ Bound.Segments p → SegmentsHere c p
   bound-stands p e = rw e at (says .stands)
 
   pub name-annotated : (p : ℕ) → b ≡ Bound.Segments p → (r : Rich) → AnnotationTyped c (path (segmentsIn c p)) r → NameTyped s c facts name (As r)
   unfolding varType
   name-annotated p e r h =
-      let i : lastNamed name (binders (recordIn c)) ≡ some (path (segmentsIn c p)) = sym (says .value) ∙ rw e in
+      let i : lastNamed name (aroundAt (bindingIn (facts .common .binding)) c (facts .node)) ≡ some (path (segmentsIn c p)) = sym (says .value) ∙ rw e in
       record { value = λ n. ap some (h .value s) ∙ rw i; small = within-small s c (As r) (more (h .within)) }
 
   pub name-timepoint : b ≡ Bound.Timepoint → NameTyped s c facts name (plain Scalar.Timepoint)
   unfolding varType annotationTypeBy layered
   name-timepoint e =
-      let i : lastNamed name (binders (recordIn c)) ≡ some timepoint = sym (says .value) ∙ rw e in
+      let i : lastNamed name (aroundAt (bindingIn (facts .common .binding)) c (facts .node)) ≡ some timepoint = sym (says .value) ∙ rw e in
       record { value = λ n. rw i; small = within-small s c (plain Scalar.Timepoint) (record { layers = omega arith; tag = omega arith }) }
 
   pub name-free : b ≡ Bound.Nothing → (r : Typed) → TypedBy s (inputType (foundIn (actionIn s) (facts .action)) name) r → NameTyped s c facts name r
   unfolding varType
   name-free e r h =
-      let i : lastNamed name (binders (recordIn c)) ≡ none = sym (says .value) ∙ rw e in
+      let i : lastNamed name (aroundAt (bindingIn (facts .common .binding)) c (facts .node)) ≡ none = sym (says .value) ∙ rw e in
       record { value = λ n. h .value c ∙ rw i; small = rw (h .value c) (h .small) }
 
 pub ruleset bindings = (needs, bound-stands, name-annotated, name-timepoint, name-free)

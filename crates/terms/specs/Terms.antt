@@ -50,9 +50,13 @@ pub record Facts : Type 0 where
   pub action : Option Action
   pub binders : List Binder
 
--- those of a target whose action is this one, or undeclared: in the flat environment all binders of the condition declare their names everywhere
+-- those of a target whose action is this one, or undeclared, where names are looked up among these binders
+abbrev pub factsAmong : Vocabulary → Profile → Schema → Scope → Option Action → List Binder → Facts
+factsAmong v p s scope a bs = record { vocabulary = v; profile = p; schema = s; scope = scope; action = a; binders = bs }
+
+-- in the flat environment all binders of the condition declare their names everywhere
 abbrev pub factsBy : Vocabulary → Profile → Schema → Condition → Scope → Option Action → Facts
-factsBy v p s c scope a = record { vocabulary = v; profile = p; schema = s; scope = scope; action = a; binders = binders c }
+factsBy v p s c scope a = factsAmong v p s scope a (binders c)
 
 abbrev pub factsOf : Profile → Schema → Condition → Scope → Option Action → Facts
 factsOf = factsBy dated

@@ -1,4 +1,4 @@
-// The flat environment: what type a name has, and an annotation.
+// The environment: what type a name has, and an annotation.
 use crate::Facts;
 use names::Found;
 use nodes::Bound;
@@ -14,10 +14,11 @@ ghost use mathlib.Core.Bool.{true};
 ghost use mathlib.Core.Option.{some};
 ghost use Rattle.schema.specs.Places.{isType, typeIn, isAction, actionIn, foundIn, foundStands};
 ghost use Rattle.condition.specs.Condition.{path};
-ghost use Rattle.condition.specs.Places.{recordIn};
-ghost use Rattle.condition.specs.Walk.{binders};
+ghost use Prim.Native.Nat.{_<_};
+ghost use lib.ListN.{length};
 ghost use Rattle.nodes.specs.Parts.{segmentsIn, SegmentsHere};
-ghost use Rattle.walk.specs.Environment.{Environment};
+ghost use Rattle.walk.specs.Index.{nodesOf};
+ghost use Rattle.walk.specs.Enclosing.{Names, bindingIn};
 ghost use Rattle.terms.specs.Terms.{fieldType, inputType};
 ghost use Rattle.terms.specs.Facts.{NameTyped};
 ghost use Rattle.terms.specs.Answers.{WordTag, OtherTyped, WordTyped, AnnotationTyped, TypedBy};
@@ -157,13 +158,16 @@ fn segments_type(condition: &[u8], at: usize) -> Rich
     word_type(condition, last)
 }
 
-// A name's type: by the last binder of that name in walk order, else by the input field.
+// A name's type: by the binder that binds it at the reached condition of the facts, else by the input field.
 pub fn var_type(schema: &[u8], condition: &[u8], env: &[u16], facts: Facts, name: &[u8]) -> Typed
-    requires { ⌜ Environment (now condition) (binders (recordIn (now condition))) (now env) ⌝ }
+    requires { ⌜ Names (now condition) (bindingIn (facts .common .binding)) (now env) ⌝ }
+    requires { ⌜ facts .node < length (nodesOf (now condition)) ⌝ }
     requires { ⌜ foundStands (isAction (now schema)) (facts .action) ≡ true ⌝ }
     ensures { λ r. ⌜ NameTyped (now (schema .entry)) (now (condition .entry)) facts (now (name .entry)) r ⌝ }
 {
-    let bound = walk::bound_in(condition, env, name);
+    let common = facts.common;
+    let binding = common.binding;
+    let bound = walk::bound_by(binding, condition, env, facts.node, name);
     match bound {
         Bound::Segments(p) => Typed::As(segments_type(condition, p)),
         Bound::Timepoint => Typed::As(Rich {

@@ -9,26 +9,30 @@ pub use env::var_type;
 use names::Found;
 use names::Row;
 use resolution::Typed;
+pub use target::at_node;
 pub use target::facts_of;
 use targets::Narrowed;
 pub use term::context_field_type;
 pub use term::term_type;
 use types::Profile;
 use types::Rich;
+use walk::Binding;
 
-// What all targets of a check have in common: where the schema's actions stand, which is found once, and the profile that the caller chose.
+// What all targets of a check have in common: where the schema's actions stand, which is found once, and what the caller chose: the profile, and how names are bound.
 pub struct Common {
     pub actions: Row,
     pub profile: Profile,
+    pub binding: Binding,
 }
 
-// What a condition is checked under, beside the bytes: where the target's action stands, if it is declared, what the scope says of each side, and what all targets
-// have in common.
+// What a condition is checked under, beside the bytes: where the target's action stands, if it is declared, what the scope says of each side, what all targets
+// have in common, and at which reached condition, by its number in walk order.
 pub struct Facts {
     pub action: Found,
     pub principal: Narrowed,
     pub resource: Narrowed,
     pub common: Common,
+    pub node: usize,
 }
 
 // A term's type, and the place behind the term.

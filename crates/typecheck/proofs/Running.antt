@@ -35,9 +35,12 @@ use Rattle.condition.specs.Condition.{Condition, conditionRecord}
 use Rattle.condition.specs.Places.{isRecord, recordIn, conditionIn}
 use Rattle.condition.specs.Laws.Records.{record-small}
 use Rattle.condition.specs.Laws.Sizes.{record-nodes}
-use Rattle.condition.specs.Walk.{reached, binders}
 use Rattle.walk.specs.Index.{nodesOf, Index, Reached}
-use Rattle.walk.specs.Environment.{Environment}
+use Rattle.walk.specs.Scopes.{Scoped, under, Binding, bindingOf, nodesBy}
+use Rattle.walk.specs.Enclosing.{aroundAt, bindingIn, Names}
+use Rattle.walk.specs.Laws.Nodes.{length-by, reached-index, reached-by}
+use Rattle.walk.specs.declared.Binding as walk
+use Rattle.walk.specs.declared.Binding.the-variants as Binding
 use Rattle.resolution.specs.Resolution.{admitsAnyEnv}
 use Rattle.reports.specs.Reports.{Breach, Outcome, once, reported}
 use Rattle.reports.specs.Kept.{fold, fold-append}
@@ -51,13 +54,11 @@ use Rattle.reports.specs.Laws.Slots.{zeros-empty, lent-start}
 use Rattle.reports.specs.Answers.{outcomeOf, Answers, Refuses, pushed}
 use Rattle.terms.specs.declared.Common.{Common}
 use Rattle.terms.specs.declared.Facts.{Facts}
-use Rattle.terms.specs.Terms.{factsOf}
-use Rattle.terms.specs.Facts.{factsIn, Ready, Known, FactsOf}
-use Rattle.terms.specs.Laws.Facts.{facts-mean}
+use Rattle.terms.specs.Facts.{factsIn, scopeIn, atNode, Ready, Known, FactsOf}
 use Rattle.rules.specs.Rules.{nodeBreaches}
-use Rattle.typecheck.specs.Check.{profileOf, breachesUnder, isChecked, visitsUnderBy, visitsUnder, begun, CheckOutcome, checkedBy, checked, checkWithBy, checkWith, check}
+use Rattle.typecheck.specs.Check.{profileOf, Choices, breachesAt, breachesUnder, isChecked, visitsUnderBy, visitsUnder, begun, CheckOutcome, checkedBy, checked, checkWithBy, checkWith, check}
 use Rattle.typecheck.specs.Answers.{checkOutcomeOf, WithVisits, Spared}
-use Rattle.typecheck.specs.Run.{Accepted, ReadAs, underVisits, UnderKnown, UnderHere, foundBy, begunFrom, Visited}
+use Rattle.typecheck.specs.Run.{Accepted, ReadAs, choicesIn, chosenIn, KnownUnder, underVisits, UnderKnown, UnderHere, foundBy, begunFrom, Visited}
 use Rattle.typecheck.specs.Laws.Visits.{found-all}
 use Rattle.typecheck.specs.declared.CheckAnswer.{CheckAnswer}
 use Rattle.typecheck.specs.declared.Progress.{Progress}
@@ -147,27 +148,38 @@ module _ {old : List ℕ} {st₀ : State} {visits : List (List Breach)} {now tab
 -- ---- the reached nodes
 
 -- the invariant of the loop over the nodes, each of which is one visit: the nodes that are left, visited, make the whole
-abbrev pub NodesLeft : (Condition → List Breach) → List ℕ → Sink → ℕ → Sink → List ℕ → ℕ → Type 0
-NodesLeft f c all total now table i = Visiting all total now table i (map f (drop i (nodesOf c)))
+abbrev pub NodesLeft : (Scoped → List Breach) → Binding → List ℕ → Sink → ℕ → Sink → List ℕ → ℕ → Type 0
+NodesLeft f b c all total now table i = Visiting all total now table i (map f (drop i (nodesBy b (recordIn c))))
 
-module _ (f : Condition → List Breach) (c : List ℕ) where
-  pub nodes-begin : (a : Sink) (table : List ℕ) → Lent a table → NodesLeft f c (pushAll a (foundBy (map f (nodesOf c)))) (begunFrom a (map f (nodesOf c))) a table 0
-  nodes-begin a table p = visiting-begins a table (map f (nodesOf c)) p
+module _ (f : Scoped → List Breach) (b : Binding) (c : List ℕ) where
+  pub nodes-begin : (a : Sink) (table : List ℕ) → Lent a table → NodesLeft f b c (pushAll a (foundBy (map f (nodesBy b (recordIn c))))) (begunFrom a (map f (nodesBy b (recordIn c)))) a table 0
+  nodes-begin a table p = visiting-begins a table (map f (nodesBy b (recordIn c))) p
 
   module _ (i : ℕ) where
-    pub nodes-turn : {all : Sink} {total : ℕ} {now next table table′ : List ℕ} {st r : State} → NodesLeft f c all total (sink now st) table i → st .full ≡ false → (at : ℕ) → Reached c i at → Pushed now st (f (conditionIn c at)) next r table′ → NodesLeft f c all total (sink next r) table′ (i + 1)
-    nodes-turn l o at h e = visiting-one (f (conditionIn c at)) (map f (drop (i + 1) (nodesOf c))) (rw (h .rest) at l) o e
+    turn : {all : Sink} {total : ℕ} {now next table table′ : List ℕ} {st r : State} → NodesLeft f b c all total (sink now st) table i → st .full ≡ false → (at : ℕ) → Reached c i at → Pushed now st (f (under (aroundAt b c i) (conditionIn c at))) next r table′ → NodesLeft f b c all total (sink next r) table′ (i + 1)
+    turn l o at h e = visiting-one (f (under (aroundAt b c i) (conditionIn c at))) (map f (drop (i + 1) (nodesBy b (recordIn c)))) (rw (reached-by c i at h b) at l) o e
 
-    module _ {old now table : List ℕ} {st₀ st : State} {visits : List (List Breach)} (l : NodesLeft f c (pushAll (sink old st₀) (foundBy visits)) (begunFrom (sink old st₀) visits) (sink now st) table i) where
+    module _ {old now table : List ℕ} {st₀ st : State} {visits : List (List Breach)} (l : NodesLeft f b c (pushAll (sink old st₀) (foundBy visits)) (begunFrom (sink old st₀) visits) (sink now st) table i) where
       pub nodes-over : (places : List ℕ) → Index c places → length places ≤ i → Visited old st₀ visits now (record { state = st; visits = i }) table
       nodes-over places x h =
-          let over : drop i (nodesOf c) ≡ [] = drop-of-length-le (nodesOf c) {i = i} (omega (arith, x .size)) in
+          let over : drop i (nodesBy b (recordIn c)) ≡ [] = drop-of-length-le (nodesBy b (recordIn c)) {i = i} (omega (arith, x .size, length-by (recordIn c) b)) in
           visiting-over (rw over at l)
 
       pub nodes-full : st .full ≡ true → Visited old st₀ visits now (record { state = st; visits = i }) table
-      nodes-full h = visiting-full (map f (drop i (nodesOf c))) l h
+      nodes-full h = visiting-full (map f (drop i (nodesBy b (recordIn c)))) l h
 
-pub ruleset each-node = (needs, nodes-begin, nodes-turn, nodes-over, nodes-full)
+-- a node under the facts of a target
+module _ (s c n : List ℕ) (f : Facts) (i at : ℕ) (h : Reached c i at) (here : Facts) (is : here ≡ atNode f i) where
+  pub node-known : (env : List ℕ) → KnownUnder s c env f → Known s c env here
+  node-known env k = rw is (k .at i (reached-index c i at h))
+
+  pub nodes-turn : {all : Sink} {total : ℕ} {now next table table′ : List ℕ} {st r : State}
+      → NodesLeft (breachesAt types.dated (profileIn (f .common .profile)) (schemaIn s) (scopeIn n f) (foundIn (actionIn s) (f .action))) (bindingIn (f .common .binding)) c all total (sink now st) table i → st .full ≡ false
+      → Pushed now st (nodeBreaches (factsIn s c n here) (conditionIn c at)) next r table′
+      → NodesLeft (breachesAt types.dated (profileIn (f .common .profile)) (schemaIn s) (scopeIn n f) (foundIn (actionIn s) (f .action))) (bindingIn (f .common .binding)) c all total (sink next r) table′ (i + 1)
+  nodes-turn l o e = turn (breachesAt types.dated (profileIn (f .common .profile)) (schemaIn s) (scopeIn n f) (foundIn (actionIn s) (f .action))) (bindingIn (f .common .binding)) c i l o at h (rw is at e)
+
+pub ruleset each-node = (needs, nodes-begin, node-known, nodes-turn, nodes-over, nodes-full)
 
 -- where the target is checked
 module _ (s c n : List ℕ) (x : Under) where
@@ -176,7 +188,7 @@ module _ (s c n : List ℕ) (x : Under) where
   target-passed e old st table p = rw e (record { pushed = recorded-none old st p; counted = refl })
 
   module _ (f : Facts) (e : x ≡ Checked f) where
-    pub facts-known : (env : List ℕ) → UnderKnown s c env x → Known s c env f
+    pub facts-known : (env : List ℕ) → UnderKnown s c env x → KnownUnder s c env f
     facts-known env h = rw e at h
 
     pub target-told : {old now table : List ℕ} {st₀ : State} {r : Progress} → Visited old st₀ (underVisits s c n (Checked f)) now r table → Visited old st₀ (underVisits s c n x) now r table
@@ -195,12 +207,12 @@ module _ (s n : List ℕ) (found : Found) (p : ℕ) (e : found ≡ Found.At p) w
 
 pub ruleset whether-checked = (needs, action-stands, admitted)
 
-module _ (p : types.Profile) (s : Schema) (c : Condition) (scope : Scope) (t : Target) (o : Option Action) (e : o ≡ findAction s (t .namespace) (t .id)) where
-  under-checked : maybe true (admitsAnyEnv s scope) o ≡ true → map (nodeBreaches (factsOf p s c scope o)) (reached c) ≡ visitsUnder p s c scope t
+module _ (k : Choices) (s : Schema) (c : Condition) (scope : Scope) (t : Target) (o : Option Action) (e : o ≡ findAction s (t .namespace) (t .id)) where
+  under-checked : maybe true (admitsAnyEnv s scope) o ≡ true → map (breachesAt types.dated (k .profile) s scope o) (nodesBy (k .binding) c) ≡ visitsUnder k s c scope t
   unfolding visitsUnderBy isChecked
   under-checked h = rw (← e, h)
 
-  under-skips : maybe true (admitsAnyEnv s scope) o ≡ false → [] ≡ visitsUnder p s c scope t
+  under-skips : maybe true (admitsAnyEnv s scope) o ≡ false → [] ≡ visitsUnder k s c scope t
   unfolding visitsUnderBy isChecked
   under-skips h = rw (← e, h)
 
@@ -211,14 +223,14 @@ module _ (s n : List ℕ) (at : ℕ) (w : List ℕ) (is-w : w ≡ targetIn n at 
 
   pub target-checked : b ≡ true → (f : Facts) → FactsOf n x common f → UnderHere s n common at (Checked f)
   target-checked h f k = record {
-    known = λ c env r. record { ready = rw (k .shared) r; action = rw (k .action) (finds .stands) };
-    value = λ c. rw (facts-mean s c n x common f k) (under-checked (profileIn (common .profile)) (schemaIn s) (recordIn c) (targetsIn n .scope) (targetIn n at) (foundIn (actionIn s) x) looked-up (sym is-b ∙ h));
+    known = λ c env r. record { at = λ i l. record { ready = rw (k .shared) r; action = rw (k .action) (finds .stands); node = l } };
+    value = λ c. rw (k .shared, k .action, k .scope) (under-checked (chosenIn common) (schemaIn s) (recordIn c) (targetsIn n .scope) (targetIn n at) (foundIn (actionIn s) x) looked-up (sym is-b ∙ h));
   }
 
   pub target-skipped : b ≡ false → UnderHere s n common at Skipped
   target-skipped h = record {
     known = λ c env r. tt;
-    value = λ c. under-skips (profileIn (common .profile)) (schemaIn s) (recordIn c) (targetsIn n .scope) (targetIn n at) (foundIn (actionIn s) x) looked-up (sym is-b ∙ h);
+    value = λ c. under-skips (chosenIn common) (schemaIn s) (recordIn c) (targetsIn n .scope) (targetIn n at) (foundIn (actionIn s) x) looked-up (sym is-b ∙ h);
   }
 
 pub ruleset one-target = (needs, target-checked, target-skipped)
@@ -263,7 +275,8 @@ module _ (f : Target → List (List Breach)) (n : List ℕ) where
 -- under one target no more visits are begun than the condition has reached nodes
 under-few : (s c n : List ℕ) (x : Under) → isRecord c ≡ true → length c ≤ 32768 → length (underVisits s c n x) ≤ 3641
 under-few s c n Skipped acc l = omega arith
-under-few s c n (Checked f) acc l = omega (arith, length-map (nodesOf c) (nodeBreaches (factsIn s c n f)), record-nodes c acc)
+under-few s c n (Checked f) acc l =
+    omega (arith, length-map (nodesBy (bindingIn (f .common .binding)) (recordIn c)) (breachesAt types.dated (profileIn (f .common .profile)) (schemaIn s) (scopeIn n f) (foundIn (actionIn s) (f .action))), length-by (recordIn c) (bindingIn (f .common .binding)), record-nodes c acc)
 
 module _ (s c n : List ℕ) (common : Common) (at : ℕ) (x : Under) (h : UnderHere s n common at x) where
   pub target-known : (env : List ℕ) → Ready s c env common → UnderKnown s c env x
@@ -274,12 +287,12 @@ module _ (s c n : List ℕ) (common : Common) (at : ℕ) (x : Under) (h : UnderH
 
   -- the visits of this target are added to those before it: the sum is a number of the machine, and the rest goes on
   module _ {env : List ℕ} (a : Ready s c env common) (count rest : ℕ) {all : Sink} {total : ℕ} {now next table table′ : List ℕ} {st : State} {r : Progress}
-      (l : TargetsLeft (visitsUnder (profileIn (common .profile)) (schemaIn s) (recordIn c) (targetsIn n .scope)) n all total (sink now st) table count rest at) (p : 0 < rest) (e : Visited now st (underVisits s c n x) next r table′) where
+      (l : TargetsLeft (visitsUnder (chosenIn common) (schemaIn s) (recordIn c) (targetsIn n .scope)) n all total (sink now st) table count rest at) (p : 0 < rest) (e : Visited now st (underVisits s c n x) next r table′) where
     pub target-sum : count + r .visits < 18446744073709551616
     target-sum = omega (arith, l .few, visits-few a e)
 
-    pub target-turn : (m : ℕ) → Read.Next m ≡ ending (target n at) → TargetsLeft (visitsUnder (profileIn (common .profile)) (schemaIn s) (recordIn c) (targetsIn n .scope)) n all total (sink next (r .state)) table′ (count + r .visits) (rest - 1) m
-    target-turn m g = targets-turn (visitsUnder (profileIn (common .profile)) (schemaIn s) (recordIn c) (targetsIn n .scope)) n count rest at l p (rw (h .value c) at e) (visits-few a e) m g
+    pub target-turn : (m : ℕ) → Read.Next m ≡ ending (target n at) → TargetsLeft (visitsUnder (chosenIn common) (schemaIn s) (recordIn c) (targetsIn n .scope)) n all total (sink next (r .state)) table′ (count + r .visits) (rest - 1) m
+    target-turn m g = targets-turn (visitsUnder (chosenIn common) (schemaIn s) (recordIn c) (targetsIn n .scope)) n count rest at l p (rw (h .value c) at e) (visits-few a e) m g
 
 pub ruleset each-target = (needs, targets-begin, targets-over, targets-full, targets-stand, target-known, target-sum, target-turn)
 
@@ -298,19 +311,19 @@ begun-run old before (v ∷ vs) =
     go true number e a b q = rw e
     go false number e a b q = rw (e, q)
 
-pub all-checked : (p : types.Profile) (s : Schema) (c : Condition) (ts : Targets) (b : List ℕ) {t table : List ℕ} {end : Progress} → Visited b sinks.none (gather (visitsUnder p s c (ts .scope)) (ts .list)) t end table
-    → {a : Answer} → Answers (end .state) a → {r : CheckAnswer} → WithVisits a (end .visits) r → checkOutcomeOf r t ≡ checked p s c ts b
+pub all-checked : (k : Choices) (s : Schema) (c : Condition) (ts : Targets) (b : List ℕ) {t table : List ℕ} {end : Progress} → Visited b sinks.none (gather (visitsUnder k s c (ts .scope)) (ts .list)) t end table
+    → {a : Answer} → Answers (end .state) a → {r : CheckAnswer} → WithVisits a (end .visits) r → checkOutcomeOf r t ≡ checked k s c ts b
 unfolding checkedBy fold
-all-checked p s c ts b {t} e a w =
-    let visits = gather (visitsUnder p s c (ts .scope)) (ts .list) in
+all-checked k s c ts b {t} e a w =
+    let visits = gather (visitsUnder k s c (ts .scope)) (ts .list) in
     w .is t
     ∙ λ i. record {
-      outcome = (pushed b (foundBy visits) (e .pushed) a ∙ ap (λ (bs : List Breach). reported (once [] bs) b) (found-all p s c (ts .scope) (ts .list))) i;
+      outcome = (pushed b (foundBy visits) (e .pushed) a ∙ ap (λ (bs : List Breach). reported (once [] bs) b) (found-all k s c (ts .scope) (ts .list))) i;
       visits = (e .counted ∙ begun-run b [] visits) i;
     }
 
-pub all-ready : (s c n env : List ℕ) (row : Row) (p : Profile) → Accepted s c n → Environment c (binders (recordIn c)) env → ActionsOf s row → Ready s c env (record { actions = row; profile = p })
-all-ready s c n env row p a e g = record { schema = a .schema; condition = a .condition; named = e; actions = g }
+pub all-ready : (s c n env : List ℕ) (row : Row) (p : Profile) (b : walk.Binding) → Accepted s c n → Names c (bindingIn b) env → ActionsOf s row → Ready s c env (record { actions = row; profile = p; binding = b })
+all-ready s c n env row p b a e g = record { schema = a .schema; condition = a .condition; named = e; actions = g }
 
 pub ruleset indexed = (needs, length-take-le, lent-start, all-ready, all-checked)
 
@@ -368,22 +381,22 @@ module _ (s c n b : List ℕ) (x : Records) (is : ReadAs s c n x) where
     pub refused-records : (k w : ℕ) → x ≡ Records.Refused k w → {a : Answer} → Refuses k w a → {r : CheckAnswer} → WithVisits a 0 r → checkOutcomeOf r b ≡ checkWith rules s c n b
     refused-records k w e f v = v .is b ∙ ap (λ (o : Outcome). record { outcome = o; visits = 0 }) (f .is b) ∙ (rw e at is) rules b
 
-    pub records-checked : x ≡ Records.Read → (p : Profile) → profileIn p ≡ profileOf rules → (a : CheckAnswer) (t : List ℕ) → checkOutcomeOf a t ≡ checked (profileIn p) (schemaIn s) (recordIn c) (targetsIn n) b → checkOutcomeOf a t ≡ checkWith rules s c n b
+    pub records-checked : x ≡ Records.Read → (p : Profile) → profileIn p ≡ profileOf rules → (d : walk.Binding) → bindingIn d ≡ bindingOf rules → (a : CheckAnswer) (t : List ℕ) → checkOutcomeOf a t ≡ checked (choicesIn p d) (schemaIn s) (recordIn c) (targetsIn n) b → checkOutcomeOf a t ≡ checkWith rules s c n b
     unfolding checkWithBy valueOr recordIn
-    records-checked e p h a t i =
+    records-checked e p h d l a t i =
         let r = accepted-records e in
         let u = accept (whole schemaRecord s) (r .schema) in
         let v = accept (whole conditionRecord c) (r .condition) in
         let w = accept (whole targetRecord n) (r .targets) in
-        i ∙ rw (h, u .read, v .read, w .read)
+        i ∙ rw (h, l, u .read, v .read, w .read)
 
   pub refused-plain : (k w : ℕ) → x ≡ Records.Refused k w → {a : Answer} → Refuses k w a → {r : CheckAnswer} → WithVisits a 0 r → checkOutcomeOf r b ≡ check s c n b
   unfolding check
   refused-plain k w e f v = refused-records 0 k w e f v
 
-  pub plain-checked : x ≡ Records.Read → (a : CheckAnswer) (t : List ℕ) → checkOutcomeOf a t ≡ checked types.plain (schemaIn s) (recordIn c) (targetsIn n) b → checkOutcomeOf a t ≡ check s c n b
-  unfolding check profileOf
-  plain-checked e a t i = records-checked 0 e Profile.Plain refl a t i
+  pub plain-checked : x ≡ Records.Read → (a : CheckAnswer) (t : List ℕ) → checkOutcomeOf a t ≡ checked (choicesIn Profile.Plain Binding.Flat) (schemaIn s) (recordIn c) (targetsIn n) b → checkOutcomeOf a t ≡ check s c n b
+  unfolding check profileOf bindingOf bindingIn
+  plain-checked e a t i = records-checked 0 e Profile.Plain refl Binding.Flat refl a t i
 
 -- the answer with its visits
 pub told-visits : (a : Answer) (n : ℕ) → WithVisits a n (record { number = a .number; «record» = a .record; count = a .count; visits = n })
@@ -394,8 +407,8 @@ told-visits a n = record { is = λ s. refl }
 pub spared-refused : (a : CheckAnswer) (table : List ℕ) → Spared a table table
 spared-refused a table = record { same = λ h. refl }
 
-pub spared-checked : (p : types.Profile) (s : Schema) (c : Condition) (ts : Targets) (b : List ℕ) (a : CheckAnswer) (t : List ℕ) → checkOutcomeOf a t ≡ checked p s c ts b → (old new : List ℕ) → Spared a old new
+pub spared-checked : (k : Choices) (s : Schema) (c : Condition) (ts : Targets) (b : List ℕ) (a : CheckAnswer) (t : List ℕ) → checkOutcomeOf a t ≡ checked k s c ts b → (old new : List ℕ) → Spared a old new
 unfolding checkOutcomeOf checkedBy reported
-spared-checked p s c ts b a t e old new = record { same = λ h. absurd (h (ap (λ (o : CheckOutcome). o .outcome .answer .recordNumber) e)) }
+spared-checked k s c ts b a t e old new = record { same = λ h. absurd (h (ap (λ (o : CheckOutcome). o .outcome .answer .recordNumber) e)) }
 
 pub ruleset answering = (needs, told-visits, zeros-empty, accepted-records, refused-records, records-checked, refused-plain, plain-checked, spared-refused, spared-checked)

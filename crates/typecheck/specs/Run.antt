@@ -1,23 +1,28 @@
 -- What the loops of the run ask and say: the three records that were read, a target with its visits, and the visits that are begun.
-use Prim.Native.Nat.{ℕ, suc}
+use Prim.Native.Nat.{ℕ, suc, _<_}
 use mathlib.Core.Path.{_≡_}
 use mathlib.Core.Bool.{true, cond}
 use mathlib.Core.List.{List, [], _∷_, map}
+use lib.ListN.{length}
 use Rattle.names.specs.Lists.{gather}
-use Rattle.types.specs.Types.{Profile}
+use Rattle.types.specs.Types.{dated}
+use Rattle.types.specs.declared.Profile.{Profile}
 use Rattle.types.specs.Meaning.{profileIn}
-use Rattle.schema.specs.Places.{isSchema, schemaIn}
+use Rattle.schema.specs.Places.{isSchema, schemaIn, actionIn, foundIn}
 use Rattle.condition.specs.Places.{isRecord, recordIn}
 use Rattle.walk.specs.Index.{nodesOf}
+use Rattle.walk.specs.Scopes.{nodesBy}
+use Rattle.walk.specs.Enclosing.{bindingIn}
+use Rattle.walk.specs.declared.Binding.{Binding}
 use Rattle.targets.specs.Places.{areTargets, targetsIn, targetIn}
 use Rattle.terms.specs.declared.Common.{Common}
-use Rattle.terms.specs.Facts.{factsIn, Ready, Known}
+use Rattle.terms.specs.declared.Facts.{Facts}
+use Rattle.terms.specs.Facts.{scopeIn, atNode, Ready, Known}
 use Rattle.reports.specs.Reports.{Breach}
 use Rattle.reports.specs.declared.State.{State}
 use Rattle.reports.specs.Sink.{Sink, sink, pushAll}
 use Rattle.reports.specs.Slots.{Pushed}
-use Rattle.rules.specs.Rules.{nodeBreaches}
-use Rattle.typecheck.specs.Check.{visitsUnder, unvisited, checkWith}
+use Rattle.typecheck.specs.Check.{Choices, breachesAt, visitsUnder, unvisited, checkWith}
 use Rattle.typecheck.specs.declared.Progress.{Progress}
 use Rattle.typecheck.specs.declared.Records.{Records}
 use Rattle.typecheck.specs.declared.Records.the-variants.{Refused, Read}
@@ -35,23 +40,34 @@ abbrev pub ReadAs : List ℕ → List ℕ → List ℕ → Records → Type 0
 ReadAs s c n Read = Accepted s c n
 ReadAs s c n (Refused number which) = (rules : ℕ) (b : List ℕ) → unvisited number which b ≡ checkWith rules s c n b
 
+-- what the code's choices mean, and those that all targets have in common
+abbrev pub choicesIn : Profile → Binding → Choices
+choicesIn p b = record { profile = profileIn p; binding = bindingIn b }
+
+abbrev pub chosenIn : Common → Choices
+chosenIn common = choicesIn (common .profile) (common .binding)
+
+-- what is known of the facts of a target, at whatever reached condition
+pub record KnownUnder (s c env : List ℕ) (f : Facts) : Type 0 where
+  pub at : (i : ℕ) → i < length (nodesOf c) → Known s c env (atNode f i)
+
 -- the visits under a target, and what is known where it is checked
 abbrev pub underVisits : List ℕ → List ℕ → List ℕ → Under → List (List Breach)
 underVisits s c n Skipped = []
-underVisits s c n (Checked f) = map (nodeBreaches (factsIn s c n f)) (nodesOf c)
+underVisits s c n (Checked f) = map (breachesAt dated (profileIn (f .common .profile)) (schemaIn s) (scopeIn n f) (foundIn (actionIn s) (f .action))) (nodesBy (bindingIn (f .common .binding)) (recordIn c))
 
 abbrev pub UnderKnown : List ℕ → List ℕ → List ℕ → Under → Type 0
 UnderKnown s c env Skipped = Unit {0}
-UnderKnown s c env (Checked f) = Known s c env f
+UnderKnown s c env (Checked f) = KnownUnder s c env f
 
 -- the target at a place
 pub record UnderHere (s n : List ℕ) (common : Common) (at : ℕ) (r : Under) : Type 0 where
   pub known : (c env : List ℕ) → Ready s c env common → UnderKnown s c env r
-  pub value : (c : List ℕ) → underVisits s c n r ≡ visitsUnder (profileIn (common .profile)) (schemaIn s) (recordIn c) (targetsIn n .scope) (targetIn n at)
+  pub value : (c : List ℕ) → underVisits s c n r ≡ visitsUnder (chosenIn common) (schemaIn s) (recordIn c) (targetsIn n .scope) (targetIn n at)
 
 -- the visits under all targets
-abbrev pub allVisits : Profile → List ℕ → List ℕ → List ℕ → List (List Breach)
-allVisits p s c n = gather (visitsUnder p (schemaIn s) (recordIn c) (targetsIn n .scope)) (targetsIn n .list)
+abbrev pub allVisits : Choices → List ℕ → List ℕ → List ℕ → List (List Breach)
+allVisits k s c n = gather (visitsUnder k (schemaIn s) (recordIn c) (targetsIn n .scope)) (targetsIn n .list)
 
 -- what visits find, one behind the other
 abbrev pub foundBy : List (List Breach) → List Breach

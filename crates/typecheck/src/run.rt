@@ -12,6 +12,7 @@ use schema::Namespace;
 use terms::Common;
 use terms::Facts;
 use types::Profile;
+use walk::Binding;
 ghost use mathlib.Core.Path.{_≡_};
 ghost use mathlib.Core.Bool.{true};
 ghost use Rattle.names.specs.Lists.{maybe};
@@ -24,10 +25,10 @@ ghost use Rattle.walk.specs.Index.{Index};
 ghost use Rattle.resolution.specs.Resolution.{admitsAnyEnv};
 ghost use Rattle.reports.specs.Sink.{sink};
 ghost use Rattle.reports.specs.Slots.{Lent, Empty};
-ghost use Rattle.terms.specs.Facts.{Ready, Known};
+ghost use Rattle.terms.specs.Facts.{Ready};
 ghost use Rattle.typecheck.specs.Check.{profileOf, checked, checkWith, check};
 ghost use Rattle.typecheck.specs.Answers.{checkOutcomeOf, WithVisits, Spared};
-ghost use Rattle.typecheck.specs.Run.{Accepted, ReadAs, underVisits, UnderKnown, UnderHere, allVisits, Visited};
+ghost use Rattle.typecheck.specs.Run.{Accepted, ReadAs, choicesIn, chosenIn, KnownUnder, underVisits, UnderKnown, UnderHere, allVisits, Visited};
 
 // The reached nodes under the facts of a target, up to the one whose report does not fit.
 fn nodes<'a>(
@@ -43,7 +44,7 @@ fn nodes<'a>(
 ) -> Progress
     requires { ⌜ Lent (sink (now buf) state) (now table) ⌝ }
     requires { ⌜ Index (now condition) (now places) ⌝ }
-    requires { ⌜ Known (now schema) (now condition) (now env) facts ⌝ }
+    requires { ⌜ KnownUnder (now schema) (now condition) (now env) facts ⌝ }
     ensures { λ r. ⌜ Visited (now (buf .entry)) state (underVisits (now (schema .entry)) (now (condition .entry)) (now (targets .entry)) (Under.Checked facts)) (now (buf .exit)) r (now (table .exit)) ⌝ }
 {
     let mut now = state;
@@ -56,8 +57,10 @@ fn nodes<'a>(
             };
         }
         let at = walk::reached_at(condition, places, i);
+        let node = i;
         i += 1;
-        now = rules::node(buf, table, now, schema, condition, targets, env, facts, at);
+        let here = terms::at_node(facts, node);
+        now = rules::node(buf, table, now, schema, condition, targets, env, here, at);
     }
     Progress {
         state: now,
@@ -148,7 +151,7 @@ fn all_targets<'a>(
     requires { ⌜ Ready (now schema) (now condition) (now env) common ⌝ }
     requires { ⌜ areTargets (now targets) ≡ true ⌝ }
     requires { ⌜ Index (now condition) (now places) ⌝ }
-    ensures { λ r. ⌜ Visited (now (buf .entry)) state (allVisits (profileIn (common .profile)) (now (schema .entry)) (now (condition .entry)) (now (targets .entry))) (now (buf .exit)) r (now (table .exit)) ⌝ }
+    ensures { λ r. ⌜ Visited (now (buf .entry)) state (allVisits (chosenIn common) (now (schema .entry)) (now (condition .entry)) (now (targets .entry))) (now (buf .exit)) r (now (table .exit)) ⌝ }
 {
     let mut now = state;
     let mut visits = 0;
@@ -190,7 +193,7 @@ fn with_visits(answer: Answer, visits: usize) -> CheckAnswer
     }
 }
 
-// The check over the reached nodes: the binders are put into a table by name, and the row of the schema's actions is found, once.
+// The check over the reached nodes: the binders are put into a table, and the row of the schema's actions is found, once.
 fn over_places<'a>(
     buf: &mut [u8],
     table: &mut [u32],
@@ -199,17 +202,19 @@ fn over_places<'a>(
     targets: &[u8],
     places: &[u16],
     profile: Profile,
+    binding: Binding,
 ) -> CheckAnswer
     requires { ⌜ Accepted (now schema) (now condition) (now targets) ⌝ }
     requires { ⌜ Index (now condition) (now places) ⌝ }
     requires { ⌜ Empty (now table) ⌝ }
-    ensures { λ r. ⌜ checkOutcomeOf r (now (buf .exit)) ≡ checked (profileIn profile) (schemaIn (now (schema .entry))) (recordIn (now (condition .entry))) (targetsIn (now (targets .entry))) (now (buf .entry)) ⌝ }
+    ensures { λ r. ⌜ checkOutcomeOf r (now (buf .exit)) ≡ checked (choicesIn profile binding) (schemaIn (now (schema .entry))) (recordIn (now (condition .entry))) (targetsIn (now (targets .entry))) (now (buf .entry)) ⌝ }
 {
     let mut binders = [0u16; 10921];
-    let n = walk::environment(condition, places, &mut binders);
+    let n = walk::names_of(binding, condition, places, &mut binders);
     let common = Common {
         actions: schema::actions(schema),
         profile,
+        binding,
     };
     let none = State {
         used: 0,
@@ -238,10 +243,11 @@ fn checked<'a>(
     condition: &'a [u8],
     targets: &[u8],
     profile: Profile,
+    binding: Binding,
 ) -> CheckAnswer
     requires { ⌜ Accepted (now schema) (now condition) (now targets) ⌝ }
     requires { ⌜ Empty (now table) ⌝ }
-    ensures { λ r. ⌜ checkOutcomeOf r (now (buf .exit)) ≡ checked (profileIn profile) (schemaIn (now (schema .entry))) (recordIn (now (condition .entry))) (targetsIn (now (targets .entry))) (now (buf .entry)) ⌝ }
+    ensures { λ r. ⌜ checkOutcomeOf r (now (buf .exit)) ≡ checked (choicesIn profile binding) (schemaIn (now (schema .entry))) (recordIn (now (condition .entry))) (targetsIn (now (targets .entry))) (now (buf .entry)) ⌝ }
 {
     let mut places = [0u16; 3641];
     let n = walk::index_record(condition, &mut places);
@@ -253,6 +259,7 @@ fn checked<'a>(
         targets,
         &places[..n],
         profile,
+        binding,
     )
 }
 
@@ -275,7 +282,7 @@ fn read_records(schema: &[u8], condition: &[u8], targets: &[u8]) -> Records
     Records::Read
 }
 
-// The profile that a caller's rules choose: bit 0 is strict, and no other bit has an effect.
+// The profile that a caller's rules choose: bit 0 is strict.
 fn profile_of(rules: u8) -> Profile
     ensures { λ r. ⌜ profileIn r ≡ profileOf rules ⌝ }
 {
@@ -299,7 +306,15 @@ pub fn check<'a>(
         return with_visits(refused(number, which), 0);
     }
     let mut table = [0u32; 2048];
-    checked(buf, &mut table, schema, condition, targets, Profile::Plain)
+    checked(
+        buf,
+        &mut table,
+        schema,
+        condition,
+        targets,
+        Profile::Plain,
+        Binding::Flat,
+    )
 }
 
 // The same with rules, and with a table that is lent, of any size and contents: it is of no use to the caller afterwards, and as it was where a record is refused.
@@ -320,5 +335,6 @@ pub fn check_with<'a>(
     }
     reports::clear(table);
     let profile = profile_of(rules);
-    checked(buf, table, schema, condition, targets, profile)
+    let binding = walk::binding_of(rules);
+    checked(buf, table, schema, condition, targets, profile, binding)
 }

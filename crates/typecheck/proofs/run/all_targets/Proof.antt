@@ -4,20 +4,19 @@ use native.Mathlib.Omega.{arith}
 use borrow.Author.Needs.{needs}
 use lib.ListN.{length}
 use Rattle.names.specs.Lists.{gather}
-use Rattle.types.specs.Meaning.{profileIn}
 use Rattle.schema.specs.Places.{schemaIn}
 use Rattle.targets.specs.Places.{targetsIn}
 use Rattle.condition.specs.Places.{recordIn}
 use Rattle.reports.specs.Sink.{sink, pushAll}
 use Rattle.typecheck.specs.Check.{visitsUnder}
-use Rattle.typecheck.specs.Run.{foundBy, begunFrom}
+use Rattle.typecheck.specs.Run.{chosenIn, foundBy, begunFrom}
 use Rattle.typecheck.proofs.Running.{TargetsLeft, each-target, targets-stand, target-sum, target-turn}
 use Rattle.typecheck.proofs.run.all_targets.Statement.{statement}
 use Rattle.typecheck.proofs.run.all_targets.Tie as tie
 
 abbrev Inv-loop : tie.InvT-loop
 Inv-loop buf₀ table₀ schema condition targets places env common now₀ visits₀ rest₀ at₀ buf table now visits rest at =
-    let f = visitsUnder (profileIn (common .profile)) (schemaIn schema) (recordIn condition) (targetsIn targets .scope) in
+    let f = visitsUnder (chosenIn common) (schemaIn schema) (recordIn condition) (targetsIn targets .scope) in
     let all = gather f (targetsIn targets .list) in
     (length buf ≡ length buf₀) × (length table ≡ length table₀) × TargetsLeft f targets (pushAll (sink buf₀ now₀) (foundBy all)) (begunFrom (sink buf₀ now₀) all) (sink buf now) table visits rest at
 

@@ -16,6 +16,7 @@ check-with-spec =
     (λ c κs. search answering)
     (λ c κs. search answering)
     (λ c κs. search answering)
+    (λ c κs. search answering)
     (λ c. search answering)
     (λ c. search answering)
     (λ c. search answering))
