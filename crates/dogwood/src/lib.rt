@@ -11,7 +11,7 @@ ghost use Rattle.targets.specs.PathRecord.{pathRecord};
 ghost use Rattle.reports.specs.Answers.{outcomeOf};
 ghost use Rattle.reports.specs.Placed.{placed};
 ghost use Rattle.decimal.specs.Decimal.{written};
-ghost use Rattle.sums.specs.Sums.{sums};
+ghost use Rattle.sums.specs.Sums.{sumsWith, sums};
 ghost use Rattle.sweeps.specs.Windows.{windows};
 ghost use Rattle.lookup.specs.Lookup.{lookup};
 ghost use Rattle.typecheck.specs.Check.{checkWith, check};
@@ -77,7 +77,8 @@ pub extern "C" fn dogwood_check<'a>(
 
 // The same check with workspace that the caller lends: slots in which it finds repeats. They may be of any number and hold anything, and the answer does not
 // depend on them; with four slots for every three reports that the buffer holds, time is linear in the reports. Bit 0 (value 1) of
-// `rules` makes the check strict: two entities with known, different tags are incompatible in an equality. No other bit has an effect.
+// `rules` makes the check strict: two entities with known, different tags are incompatible in an equality. Bit 1 (value 2) gives each binder its own body: a name
+// is bound by the innermost binder around its use. No other bit has an effect.
 #[no_mangle]
 pub extern "C" fn dogwood_check_with<'a>(
     rules: u8,
@@ -99,6 +100,14 @@ pub extern "C" fn dogwood_sums(condition: &[u8], reports: &mut [u8]) -> Answer
     ensures { λ r. ⌜ outcomeOf r (now (reports .exit)) ≡ sums (now (condition .entry)) (now (reports .entry)) ⌝ }
 {
     sums::sums(condition, reports)
+}
+
+// The same with rules: bit 1 (value 2) gives each binder its own body, as in a check, and an aggregate's binders also cover its summand. No other bit has an effect.
+#[no_mangle]
+pub extern "C" fn dogwood_sums_with(rules: u8, condition: &[u8], reports: &mut [u8]) -> Answer
+    ensures { λ r. ⌜ outcomeOf r (now (reports .exit)) ≡ sumsWith rules (now (condition .entry)) (now (reports .entry)) ⌝ }
+{
+    sums::sums_with(rules, condition, reports)
 }
 
 // The windows of a condition in sweeps of a period of so many seconds: the answer, and an entry for each that the walk reaches.

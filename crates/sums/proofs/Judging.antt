@@ -1,8 +1,8 @@
 -- The report of one Sum: the cases of the code, as it learns them. Assumes nothing.
 use mathlib.Core.Path.{_≡_, refl, sym, ap, _∙_}
 use mathlib.Core.Bool.{Bool, true, false, _||_}
-use mathlib.Core.List.{List, [], _∷_}
-use mathlib.Core.Option.{some}
+use mathlib.Core.List.{List, [], _∷_, _++_}
+use mathlib.Core.Option.{Option, some}
 use Prim.Native.Nat.{ℕ, _+_, _≤_, _<_}
 use native.Mathlib.Omega.{arith}
 use borrow.Author.Needs.{needs}
@@ -17,13 +17,19 @@ use Rattle.nodes.specs.declared.Bound.the-variants.{Segments, Timepoint, Nothin
 use Rattle.nodes.specs.declared.SlotAt.{SlotAt}
 use Rattle.nodes.specs.declared.SlotAt.the-variants.{Named, ParamRef, BinderRef}
 use Rattle.nodes.specs.declared.Ends.{Ends}
-use Rattle.condition.specs.Condition.{Slot, sum, path}
+use Rattle.names.specs.Lists.{maybe}
+use Rattle.condition.specs.Condition.{Slot, Binder, Annotation, sum, path}
 use Rattle.nodes.specs.Kinds.{aggregateKindOf, aggregateSpanOf}
 use Rattle.nodes.specs.Offsets.{aggregatePart}
-use Rattle.condition.specs.Places.{recordIn, isAggregate, aggregateIn, slotIn}
+use Rattle.condition.specs.Places.{isAggregate, aggregateIn, slotIn}
 use Rattle.nodes.specs.Laws.Pieces.{summand-inside, summand-slot}
-use Rattle.nodes.specs.Parts.{segmentsIn, SegmentsHere, boundIn, BoundStands, BoundBy, slotOf, SummandHere, Spans, SlotHere}
-use Rattle.condition.specs.Walk.{binders, lastNamed}
+use Rattle.nodes.specs.Parts.{segmentsIn, SegmentsHere, isBinders, bindersIn, BindersHere, boundIn, BoundStands, BoundBy, slotOf, SummandHere, Spans, SlotHere}
+use Rattle.condition.specs.Walk.{declaredBy, lastNamed}
+use Rattle.walk.specs.Scopes.{Binding}
+use Rattle.walk.specs.Enclosing.{bindingIn}
+use Rattle.walk.specs.Laws.Named.{last-append}
+use Rattle.walk.specs.declared.Binding as walk
+use Rattle.walk.specs.declared.Binding.the-variants as code
 use Rattle.reports.specs.declared.Message.the-variants.{CannotSum, CannotSumTimepoint, CannotSumDecimal}
 use Rattle.reports.specs.declared.State.{State}
 use Rattle.reports.specs.Decode.{header}
@@ -37,7 +43,7 @@ use Rattle.messages.specs.declared.Said.the-variants as Said
 use Rattle.messages.specs.Words.{textOf, quoted, Stands, say, saidBreaches, SaidStands, Tells, spanIn}
 use Rattle.messages.specs.Laws.Lengths.{Bytes, text-within}
 use Rattle.sums.specs.Summands.{SummandIs}
-use Rattle.sums.specs.Sums.{summandBreach, aggregateBreaches}
+use Rattle.sums.specs.Sums.{summandBreach, summandBinders, aggregateBreaches}
 
 -- `decimal` and `Decimal`
 module _ (w : List ℕ) (b : Bool) (is : b ≡ same w (100 ∷ 101 ∷ 99 ∷ 105 ∷ 109 ∷ 97 ∷ 108 ∷ [])) where
@@ -116,6 +122,10 @@ module _ (s : List ℕ) (x : Said) (old : List ℕ) (st : State) (span : Ends) w
 
 pub ruleset appending = (needs, header-room, count-room, said-nothing, message-stands, long-below, text-room, message-appended, message-stopped)
 
+-- A Sum is no call.
+pub sum-no-call : (s : List ℕ) (at : ℕ) → aggregateKindOf (aggregateIn s at) ≡ 1 → aggregateKindOf (aggregateIn s at) ≡ 3 → ⊥
+sum-no-call s at e f = omega (arith, e, f)
+
 -- The summand's slot.
 pub slot-is : (s : List ℕ) (at p : ℕ) → SummandHere s at p → (x : SlotAt) → SlotHere s p x → SummandIs s at x
 slot-is s at p h x i = record {
@@ -126,22 +136,55 @@ slot-is s at p h x i = record {
 
 pub ruleset summands = (needs, summand-inside, summand-slot, slot-is)
 
-module _ (s : List ℕ) (at : ℕ) (x : SlotAt) (h : SummandIs s at x) (old : List ℕ) (st : State) where
-  pub slot-param : x ≡ ParamRef → Sound (sink old st) → Appended old st (aggregateBreaches (binders (recordIn s)) (aggregateIn s at)) old st
+module _ (d : Binding) (bs : List Binder) (s : List ℕ) (at : ℕ) (x : SlotAt) (h : SummandIs s at x) (old : List ℕ) (st : State) where
+  pub slot-param : x ≡ ParamRef → Sound (sink old st) → Appended old st (aggregateBreaches d bs (aggregateIn s at)) old st
   unfolding aggregateBreaches
   slot-param e k = rw (h .value, e) (recorded-none old st k)
 
-  pub slot-binder : x ≡ BinderRef → Sound (sink old st) → Appended old st (aggregateBreaches (binders (recordIn s)) (aggregateIn s at)) old st
+  pub slot-binder : x ≡ BinderRef → Sound (sink old st) → Appended old st (aggregateBreaches d bs (aggregateIn s at)) old st
   unfolding aggregateBreaches
   slot-binder e k = rw (h .value, e) (recorded-none old st k)
 
-  module _ (q : ℕ) (e : x ≡ Named q) (w : List ℕ) (is : w ≡ wordAt s q) (b : Bound) (says : BoundBy s (lastNamed w (binders (recordIn s))) b) (ends : Ends) (spans : Spans (aggregateSpanOf (aggregateIn s at)) ends) where
-    pub slot-named : (said : Said) → Tells s s (summandBreach (wordAt s q) (boundIn s b)) said → (new : List ℕ) (r : State) → Appended old st (saidBreaches s s said (spanIn ends)) new r → Appended old st (aggregateBreaches (binders (recordIn s)) (aggregateIn s at)) new r
-    unfolding aggregateBreaches
+  module _ (q : ℕ) (e : x ≡ Named q) (w : List ℕ) (is : w ≡ wordAt s q) (b : Bound) (says : BoundBy s (lastNamed w (summandBinders d bs (declaredBy (aggregateIn s at)))) b) (ends : Ends) (spans : Spans (aggregateSpanOf (aggregateIn s at)) ends) where
+    pub slot-named : (said : Said) → Tells s s (summandBreach (wordAt s q) (boundIn s b)) said → (new : List ℕ) (r : State) → Appended old st (saidBreaches s s said (spanIn ends)) new r → Appended old st (aggregateBreaches d bs (aggregateIn s at)) new r
+    unfolding aggregateBreaches declaredBy
     slot-named said tells new r j =
         let span : spanIn ends ≡ aggregateSpanOf (aggregateIn s at) = λ k. record { start = spans .start k; end = spans .end k } in
-        let v : aggregateBreaches (binders (recordIn s)) (aggregateIn s at) ≡ summandBreach (wordAt s q) (lastNamed (wordAt s q) (binders (recordIn s))) (aggregateSpanOf (aggregateIn s at)) =
-        ap (aggregateBreaches (binders (recordIn s))) (h .value) ∙ ap (λ (y : SlotAt). aggregateBreaches (binders (recordIn s)) (sum (aggregateSpanOf (aggregateIn s at)) (slotOf s y) (h .declared) (h .body))) e in
+        let list : h .declared ≡ declaredBy (aggregateIn s at) = sym (ap declaredBy (h .value)) in
+        let v : aggregateBreaches d bs (aggregateIn s at) ≡ summandBreach (wordAt s q) (lastNamed (wordAt s q) (summandBinders d bs (declaredBy (aggregateIn s at)))) (aggregateSpanOf (aggregateIn s at)) =
+        ap (aggregateBreaches d bs) (h .value)
+        ∙ ap (λ (y : SlotAt). aggregateBreaches d bs (sum (aggregateSpanOf (aggregateIn s at)) (slotOf s y) (h .declared) (h .body))) e
+        ∙ ap (λ (l : List Binder). summandBreach (wordAt s q) (lastNamed (wordAt s q) (summandBinders d bs l)) (aggregateSpanOf (aggregateIn s at))) list in
         rw (v, ← is, ← says .value, is, ← span, ← tells .is (spanIn ends)) j
 
-pub ruleset slots = (needs, slot-param, slot-binder, slot-named)
+pub ruleset slots = (needs, sum-no-call, slot-param, slot-binder, slot-named)
+
+-- What binds the summand's name: in the flat environment what binds it at the place; else the aggregate's own list, and then what is around.
+module _ (s name : List ℕ) (bs list : List Binder) (d : walk.Binding) (r : Bound) where
+  pub by-flat : d ≡ code.Flat → BoundBy s (lastNamed name bs) r → BoundBy s (lastNamed name (summandBinders (bindingIn d) bs list)) r
+  unfolding bindingIn
+  by-flat e h = rw e h
+
+  pub by-own : d ≡ code.Own → BoundBy s (lastNamed name (bs ++ list)) r → BoundBy s (lastNamed name (summandBinders (bindingIn d) bs list)) r
+  unfolding bindingIn
+  by-own e h = rw e h
+
+pub ruleset either-way = (needs, by-flat, by-own)
+
+module _ (s : List ℕ) (at p : ℕ) (here : BindersHere s at p) (name : List ℕ) (x : Bound) (says : BoundBy s (lastNamed name (bindersIn s p)) x) (bs : List Binder) where
+  listed : lastNamed name (bs ++ declaredBy (aggregateIn s at)) ≡ maybe (lastNamed name bs) some (boundIn s x)
+  listed = last-append name bs (declaredBy (aggregateIn s at)) ∙ ap (λ (o : Option Annotation). maybe (lastNamed name bs) some o) (ap (lastNamed name) (here .value) ∙ sym (says .value))
+
+  pub listed-path : (q : ℕ) → x ≡ Segments q → BoundBy s (lastNamed name (bs ++ declaredBy (aggregateIn s at))) x
+  listed-path q e = record { stands = says .stands; value = rw listed (rw e) }
+
+  pub listed-timepoint : x ≡ Timepoint → BoundBy s (lastNamed name (bs ++ declaredBy (aggregateIn s at))) x
+  listed-timepoint e = record { stands = says .stands; value = rw listed (rw e) }
+
+  pub listed-nowhere : x ≡ Nothing → (r : Bound) → BoundBy s (lastNamed name bs) r → BoundBy s (lastNamed name (bs ++ declaredBy (aggregateIn s at))) r
+  listed-nowhere e r h = record { stands = h .stands; value = h .value ∙ sym (listed ∙ rw e) }
+
+  pub listed-stands : isBinders s p ≡ true
+  listed-stands = here .stands
+
+pub ruleset own-first = (needs, listed-stands, listed-path, listed-timepoint, listed-nowhere)

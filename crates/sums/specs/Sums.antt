@@ -8,7 +8,8 @@ use Rattle.names.specs.Fields.{either, whole}
 use Rattle.names.specs.Names.{same, joined, lastOf}
 use Rattle.names.specs.Text.{text}
 use Rattle.condition.specs.Condition.{Binder, Condition, Term, Terms, Aggregate, Arguments, named, paramRef, binderRef, Annotation, timepoint, path, one, two, predicate, comparison, exists, tp, opaque, noArgument, argument, entity, literal, contextField, scopeField, var, wildcard, array, aggregate, arith, sigil, nil, cons, sum, count, call, conditionRecord}
-use Rattle.condition.specs.Walk.{binders, reached, lastNamed}
+use Rattle.condition.specs.Walk.{lastNamed}
+use Rattle.walk.specs.Scopes.{Binding, flat, own, bindingOf, nodesBy}
 use Rattle.reports.specs.Messages.{message}
 use Rattle.reports.specs.declared.Message.the-variants.{CannotSum, CannotSumTimepoint, CannotSumDecimal}
 use Rattle.messages.specs.Words.{Rule}
@@ -30,13 +31,19 @@ summandBreach name (some (path segments)) at =
     (report (message CannotSumDecimal (name ∷ name ∷ [])) at)
     (report (message CannotSum (name ∷ name ∷ joined segments ∷ [])) at))
 
--- `check_sum_summands` under the binders of a whole condition; what they declare, the last of a name in walk order, is `collect_declared_binder_types`
-module _ (bs : List Binder) where
+-- the binders that a summand's name is looked up among: those of its node; where a binder covers its own body, the aggregate's own list behind them
+abbrev pub summandBinders : Binding → List Binder → List Binder → List Binder
+summandBinders flat bs list = bs
+summandBinders own bs list = bs ++ list
+
+-- `check_sum_summands` at a node whose names are looked up among these binders; in the flat environment they are those of the whole condition, and what they
+-- declare, the last of a name in walk order, is `collect_declared_binder_types`
+module _ (binding : Binding) (bs : List Binder) where
   unfoldable pub aggregateBreaches : Aggregate → List Breach
-  aggregateBreaches (sum at (named name) own body) = summandBreach name (lastNamed name bs) at
-  aggregateBreaches (sum at paramRef own body) = []
-  aggregateBreaches (sum at binderRef own body) = []
-  aggregateBreaches (count at own body) = []
+  aggregateBreaches (sum at (named name) list body) = summandBreach name (lastNamed name (summandBinders binding bs list)) at
+  aggregateBreaches (sum at paramRef list body) = []
+  aggregateBreaches (sum at binderRef list body) = []
+  aggregateBreaches (count at list body) = []
   aggregateBreaches (call at) = []
 
   -- `visit_term`: the aggregates of a term, into arithmetic and arrays (which hold none), and not into the aggregates' bodies
@@ -66,17 +73,21 @@ module _ (bs : List Binder) where
   unfoldable pub conditionBreaches : Condition → List Breach
   conditionBreaches (one k at c) = []
   conditionBreaches (two k at l r) = []
-  conditionBreaches (predicate at own ns name args) = argumentsBreaches args
+  conditionBreaches (predicate at span ns name args) = argumentsBreaches args
   conditionBreaches (comparison at op l r) = termBreaches l ++ termBreaches r
   conditionBreaches (exists at b c) = []
   conditionBreaches (tp at s) = []
   conditionBreaches (opaque at) = []
 
 -- the reports of a condition, in the order of the walk; repeats stay
-unfoldable pub breaches : Condition → List Breach
-breaches c = gather (conditionBreaches (binders c)) (reached c)
+unfoldable pub breaches : Binding → Condition → List Breach
+breaches binding c = gather (λ x. conditionBreaches binding (x .around) (x .node)) (nodesBy binding c)
 
--- Sums: record 2 is read; its refusal, or the reports in the buffer
+-- Sums with the caller's rules: record 2 is read; its refusal, or the reports in the buffer
+unfoldable pub sumsWith : ℕ → List ℕ → List ℕ → Outcome
+sumsWith rules conditionBytes buffer =
+    either (λ r. refusal r 2 buffer) (λ c. reports.reported (breaches (bindingOf rules) c) buffer) (whole conditionRecord conditionBytes)
+
+-- the Sums that the Rust measures: no rules
 unfoldable pub sums : List ℕ → List ℕ → Outcome
-sums conditionBytes buffer =
-    either (λ r. refusal r 2 buffer) (λ c. reports.reported (breaches c) buffer) (whole conditionRecord conditionBytes)
+sums = sumsWith 0
