@@ -1,7 +1,7 @@
 -- A change of windows, ids, values and operators changes no answer of Check and Sums, and one that keeps the windows changes no listing. Assumes nothing.
 use mathlib.Core.Path.{_≡_, refl, sym, ap, ap₂, _∙_}
 use mathlib.Core.Bool.{true, cond}
-use mathlib.Core.List.{List, [], _∷_, _++_, map}
+use mathlib.Core.List.{List, [], _∷_, _++_, map, map-append, map-map}
 use mathlib.Core.Option.{Option, none, some}
 use Prim.Native.Nat.{ℕ}
 use Rattle.names.specs.Names.{simpleName}
@@ -9,7 +9,7 @@ use Rattle.names.specs.Lists.{maybe, gather}
 use Rattle.names.specs.Laws.Lists.{gather-append}
 use Rattle.names.specs.Fields.{Got, got, bad, either, whole}
 use Rattle.names.specs.Laws.Readers.{accept, has-value}
-use Rattle.types.specs.Types.{Ty, Profile, dated}
+use Rattle.types.specs.Types.{Ty, dated}
 use Rattle.types.specs.Types as types
 use Rattle.schema.specs.Schema.{Schema, Action, schemaRecord}
 use Rattle.schema.specs.Find.{findAction}
@@ -19,12 +19,13 @@ use Rattle.condition.specs.Condition as tree
 use Rattle.condition.specs.Condition.{Slot, Span, Condition, Arguments, Term, Terms, Aggregate, Binder, one, two, predicate, comparison, exists, tp, opaque, noArgument, argument, entity, literal, contextField, scopeField, var, wildcard, array, aggregate, sigil, nil, cons, sum, count, call, named, paramRef, binderRef, conditionRecord}
 use Rattle.condition.specs.Walk.{declaredBy, operandAggregates, operandBinders, reached, reachedIn, reachedBody, declares, binders}
 use Rattle.condition.specs.Places.{isRecord, recordIn}
-use Rattle.terms.specs.Terms.{Facts, factsOf, termType, elementTypes, arrayOf}
+use Rattle.walk.specs.Scopes.{Scoped, under, scoped, scopedIn, scopedBody, Binding, bindingOf, nodesBy}
+use Rattle.terms.specs.Terms.{Facts, factsAmong, termType, elementTypes, arrayOf}
 use Rattle.reports.specs.Reports as reports
 use Rattle.reports.specs.Reports.{Breach, once, refusal, reported}
 use Rattle.rules.specs.Rules.{both, ordering, operandsBy, notLongHere, argumentBreach, argumentBreaches, leafBreaches, arithmeticBreaches, nodeBreaches}
-use Rattle.typecheck.specs.Check.{profileOf, breachesUnderBy, breachesUnder, isChecked, visitsUnderBy, visitsUnder, begun, CheckOutcome, unvisited, checkedBy, checked, checkWithBy, checkWith}
-use Rattle.sums.specs.Sums.{aggregateBreaches, termBreaches, termsBreaches, argumentsBreaches, conditionBreaches, breaches, sums}
+use Rattle.typecheck.specs.Check.{Choices, choicesOf, breachesAt, breachesUnderBy, breachesUnder, isChecked, visitsUnderBy, visitsUnder, begun, CheckOutcome, unvisited, checkedBy, checked, checkWithBy, checkWith}
+use Rattle.sums.specs.Sums.{aggregateBreaches, termBreaches, termsBreaches, argumentsBreaches, conditionBreaches, breaches, sumsWith}
 use Rattle.sweeps.specs.Windows.{concreteOf, concreteIn, concreteWindows, inSweeps, entries, swept, windows}
 use Rattle.claims.specs.Changes.{Change, KeepsTypes, KeepsWindows, changed, inArguments, inTerm, inTerms, inAggregate, Alike, ListedAlike, Unseen, ChangedOnce, Unlisted, ListedOnce}
 
@@ -109,6 +110,70 @@ module _ (change : Change) where
   same-binders : (c : Condition) → binders (changed change c) ≡ binders c
   unfolding binders
   same-binders c = gathered declares declares same-declares c
+
+  -- ---- the reached conditions, each with the binders that its names are looked up among
+
+  abbrev changedIn : Scoped → Scoped
+  changedIn x = under (x .around) (changed change (x .node))
+
+  mutual
+    unfolding changed inTerm inAggregate scoped scopedIn scopedBody
+
+    scoped-changed : (bs : List Binder) (c : Condition) → scoped bs (changed change c) ≡ map changedIn (scoped bs c)
+    scoped-changed bs (one k at c) = ap (λ l. under bs (changed change (one k at c)) ∷ l) (scoped-changed bs c)
+    scoped-changed bs (two k at l r) =
+        ap (λ m. under bs (changed change (two k at l r)) ∷ m) (ap₂ _++_ (scoped-changed bs l) (scoped-changed bs r) ∙ sym (map-append changedIn (scoped bs l) (scoped bs r)))
+    scoped-changed bs (predicate at own ns act args) = refl
+    scoped-changed bs (comparison at op l r) =
+        ap (λ m. under bs (changed change (comparison at op l r)) ∷ m) (ap₂ _++_ (within-changed bs l) (within-changed bs r) ∙ sym (map-append changedIn (scopedIn bs l) (scopedIn bs r)))
+    scoped-changed bs (exists at b c) = ap (λ l. under bs (changed change (exists at b c)) ∷ l) (scoped-changed (bs ++ (b ∷ [])) c)
+    scoped-changed bs (tp at s) = refl
+    scoped-changed bs (opaque at) = refl
+
+    within-changed : (bs : List Binder) (t : Term) → scopedIn bs (inTerm change t) ≡ map changedIn (scopedIn bs t)
+    within-changed bs (entity n) = refl
+    within-changed bs (literal l) = refl
+    within-changed bs (contextField p) = refl
+    within-changed bs (scopeField p) = refl
+    within-changed bs (var v) = refl
+    within-changed bs wildcard = refl
+    within-changed bs (array ts) = refl
+    within-changed bs (aggregate a) = body-changed bs a
+    within-changed bs (tree.arith op l r) = ap₂ _++_ (within-changed bs l) (within-changed bs r) ∙ sym (map-append changedIn (scopedIn bs l) (scopedIn bs r))
+    within-changed bs sigil = refl
+
+    body-changed : (bs : List Binder) (a : Aggregate) → scopedBody bs (inAggregate change a) ≡ map changedIn (scopedBody bs a)
+    body-changed bs (sum at slot own body) = scoped-changed (bs ++ own) body
+    body-changed bs (count at own body) = scoped-changed (bs ++ own) body
+    body-changed bs (call at) = refl
+
+  nodes-changed : (b : Binding) (c : Condition) → nodesBy b (changed change c) ≡ map changedIn (nodesBy b c)
+  unfolding nodesBy
+  nodes-changed Binding.flat c =
+      ap (λ bs. map (under bs) (reached (changed change c))) (same-binders c)
+      ∙ map-gathered (under (binders c)) (reached (changed change c))
+      ∙ gathered (λ x. under (binders c) x ∷ []) (λ x. under (binders c) (changed change x) ∷ []) (λ x. refl) c
+      ∙ sym (map-gathered (λ x. under (binders c) (changed change x)) (reached c))
+      ∙ sym (map-map changedIn (under (binders c)) (reached c))
+  nodes-changed Binding.own c = scoped-changed [] c
+
+  -- what is gathered from them, and a list of one thing for each
+  module _ {B : Type 0} (f : Scoped → B) (same : (x : Scoped) → f (changedIn x) ≡ f x) where
+    each-changed : (b : Binding) (c : Condition) → map f (nodesBy b (changed change c)) ≡ map f (nodesBy b c)
+    each-changed b c = ap (map f) (nodes-changed b c) ∙ go (nodesBy b c)
+      where
+        go : (xs : List Scoped) → map f (map changedIn xs) ≡ map f xs
+        go [] = refl
+        go (x ∷ xs) = ap₂ _∷_ (same x) (go xs)
+
+  module _ {B : Type 0} (f : Scoped → List B) (same : (x : Scoped) → f (changedIn x) ≡ f x) where
+    all-changed : (b : Binding) (c : Condition) → gather f (nodesBy b (changed change c)) ≡ gather f (nodesBy b c)
+    unfolding gather
+    all-changed b c = ap (gather f) (nodes-changed b c) ∙ go (nodesBy b c)
+      where
+        go : (xs : List Scoped) → gather f (map changedIn xs) ≡ gather f xs
+        go [] = refl
+        go (x ∷ xs) = ap₂ _++_ (same x) (go xs)
 
   -- ---- the windows
 
@@ -201,44 +266,42 @@ module _ (change : Change) (keeps : KeepsTypes change) where
     same-node (tp at s) = refl
     same-node (opaque at) = refl
 
-  module _ (p : Profile) (s : Schema) (c : Condition) (scope : Scope) where
-    same-reached : (a : Option Action) → gather (nodeBreaches (factsOf p s (changed change c) scope a)) (reached (changed change c)) ≡ gather (nodeBreaches (factsOf p s c scope a)) (reached c)
-    same-reached a =
-        ap (λ bs. gather (nodeBreaches (record { vocabulary = dated; profile = p; schema = s; scope = scope; action = a; binders = bs })) (reached (changed change c))) (same-binders change c)
-        ∙ gathered change (nodeBreaches (factsOf p s c scope a)) (nodeBreaches (factsOf p s c scope a)) (same-node (factsOf p s c scope a)) c
+  module _ (k : Choices) (s : Schema) (c : Condition) (scope : Scope) where
+    same-at : (a : Option Action) (x : Scoped) → breachesAt dated (k .profile) s scope a (changedIn change x) ≡ breachesAt dated (k .profile) s scope a x
+    same-at a x = same-node (factsAmong dated (k .profile) s scope a (x .around)) (x .node)
 
-    same-under : (t : Target) → breachesUnder p s (changed change c) scope t ≡ breachesUnder p s c scope t
+    same-reached : (a : Option Action) → gather (breachesAt dated (k .profile) s scope a) (nodesBy (k .binding) (changed change c)) ≡ gather (breachesAt dated (k .profile) s scope a) (nodesBy (k .binding) c)
+    same-reached a = all-changed change (breachesAt dated (k .profile) s scope a) (same-at a) (k .binding) c
+
+    same-under : (t : Target) → breachesUnder k s (changed change c) scope t ≡ breachesUnder k s c scope t
     unfolding breachesUnderBy
     same-under t = go (findAction s (t .namespace) (t .id))
       where
-        go : (o : Option Action) → maybe (gather (nodeBreaches (factsOf p s (changed change c) scope none)) (reached (changed change c))) (λ a. cond (admitsAnyEnv s scope a) (gather (nodeBreaches (factsOf p s (changed change c) scope (some a))) (reached (changed change c))) []) o
-            ≡ maybe (gather (nodeBreaches (factsOf p s c scope none)) (reached c)) (λ a. cond (admitsAnyEnv s scope a) (gather (nodeBreaches (factsOf p s c scope (some a))) (reached c)) []) o
+        broken : Condition → Option Action → List Breach
+        broken d o = gather (breachesAt dated (k .profile) s scope o) (nodesBy (k .binding) d)
+
+        go : (o : Option Action) → maybe (broken (changed change c) none) (λ a. cond (admitsAnyEnv s scope a) (broken (changed change c) (some a)) []) o ≡ maybe (broken c none) (λ a. cond (admitsAnyEnv s scope a) (broken c (some a)) []) o
         go none = same-reached none
         go (some a) = ap (λ bs. cond (admitsAnyEnv s scope a) bs []) (same-reached (some a))
 
-    same-made : (a : Option Action) → map (nodeBreaches (factsOf p s (changed change c) scope a)) (reached (changed change c)) ≡ map (nodeBreaches (factsOf p s c scope a)) (reached c)
-    same-made a =
-        ap (λ bs. map (nodeBreaches (record { vocabulary = dated; profile = p; schema = s; scope = scope; action = a; binders = bs })) (reached (changed change c))) (same-binders change c)
-        ∙ map-gathered (nodeBreaches (factsOf p s c scope a)) (reached (changed change c))
-        ∙ gathered change (λ x. nodeBreaches (factsOf p s c scope a) x ∷ []) (λ x. nodeBreaches (factsOf p s c scope a) x ∷ []) (λ x. ap (λ bs. bs ∷ []) (same-node (factsOf p s c scope a) x)) c
-        ∙ sym (map-gathered (nodeBreaches (factsOf p s c scope a)) (reached c))
-
-    same-visits : (t : Target) → visitsUnder p s (changed change c) scope t ≡ visitsUnder p s c scope t
+    same-visits : (t : Target) → visitsUnder k s (changed change c) scope t ≡ visitsUnder k s c scope t
     unfolding visitsUnderBy
-    same-visits t = ap (λ visits. cond (isChecked s scope t) visits []) (same-made (findAction s (t .namespace) (t .id)))
+    same-visits t =
+        ap (λ visits. cond (isChecked s scope t) visits [])
+        (each-changed change (breachesAt dated (k .profile) s scope (findAction s (t .namespace) (t .id))) (same-at (findAction s (t .namespace) (t .id))) (k .binding) c)
 
-  same-checked : (p : Profile) (s : Schema) (c : Condition) (ts : Targets) (buffer : List ℕ) → checked p s (changed change c) ts buffer ≡ checked p s c ts buffer
+  same-checked : (k : Choices) (s : Schema) (c : Condition) (ts : Targets) (buffer : List ℕ) → checked k s (changed change c) ts buffer ≡ checked k s c ts buffer
   unfolding checkedBy
-  same-checked p s c ts buffer =
+  same-checked k s c ts buffer =
       λ i. record {
-        outcome = ap (λ bs. reported (once [] bs) buffer) (gather-same (same-under p s c (ts .scope)) (ts .list)) i;
-        visits = ap (begun buffer []) (gather-same (same-visits p s c (ts .scope)) (ts .list)) i;
+        outcome = ap (λ bs. reported (once [] bs) buffer) (gather-same (same-under k s c (ts .scope)) (ts .list)) i;
+        visits = ap (begun buffer []) (gather-same (same-visits k s c (ts .scope)) (ts .list)) i;
       }
 
   -- ---- the summand rule
 
-  module _ (bs : List Binder) where
-    same-aggregate : (a : Aggregate) → aggregateBreaches bs (inAggregate change a) ≡ aggregateBreaches bs a
+  module _ (b : Binding) (bs : List Binder) where
+    same-aggregate : (a : Aggregate) → aggregateBreaches b bs (inAggregate change a) ≡ aggregateBreaches b bs a
     unfolding inAggregate aggregateBreaches
     same-aggregate (sum at (named name) own body) = refl
     same-aggregate (sum at paramRef own body) = refl
@@ -249,7 +312,7 @@ module _ (change : Change) (keeps : KeepsTypes change) where
     mutual
       unfolding inTerm inTerms termBreaches termsBreaches
 
-      same-term : (t : Term) → termBreaches bs (inTerm change t) ≡ termBreaches bs t
+      same-term : (t : Term) → termBreaches b bs (inTerm change t) ≡ termBreaches b bs t
       same-term (entity n) = refl
       same-term (literal l) = refl
       same-term (contextField p) = refl
@@ -261,16 +324,16 @@ module _ (change : Change) (keeps : KeepsTypes change) where
       same-term (tree.arith op l r) = ap₂ _++_ (same-term l) (same-term r)
       same-term sigil = refl
 
-      same-terms : (ts : Terms) → termsBreaches bs (inTerms change ts) ≡ termsBreaches bs ts
+      same-terms : (ts : Terms) → termsBreaches b bs (inTerms change ts) ≡ termsBreaches b bs ts
       same-terms nil = refl
       same-terms (cons t ts) = ap₂ _++_ (same-term t) (same-terms ts)
 
-    same-summed : (args : Arguments) → argumentsBreaches bs (inArguments change args) ≡ argumentsBreaches bs args
+    same-summed : (args : Arguments) → argumentsBreaches b bs (inArguments change args) ≡ argumentsBreaches b bs args
     unfolding inArguments argumentsBreaches
     same-summed noArgument = refl
     same-summed (argument name field value rest) = ap₂ _++_ (same-term value) (same-summed rest)
 
-    same-condition : (c : Condition) → conditionBreaches bs (changed change c) ≡ conditionBreaches bs c
+    same-condition : (c : Condition) → conditionBreaches b bs (changed change c) ≡ conditionBreaches b bs c
     unfolding changed conditionBreaches
     same-condition (one k at c) = refl
     same-condition (two k at l r) = refl
@@ -280,26 +343,24 @@ module _ (change : Change) (keeps : KeepsTypes change) where
     same-condition (tp at s) = refl
     same-condition (opaque at) = refl
 
-  same-sums : (c : Condition) → breaches (changed change c) ≡ breaches c
+  same-sums : (b : Binding) (c : Condition) → breaches b (changed change c) ≡ breaches b c
   unfolding breaches
-  same-sums c =
-      ap (λ bs. gather (conditionBreaches bs) (reached (changed change c))) (same-binders change c)
-      ∙ gathered change (conditionBreaches (binders c)) (conditionBreaches (binders c)) (same-condition (binders c)) c
+  same-sums b c = all-changed change (λ x. conditionBreaches b (x .around) (x .node)) (λ x. same-condition b (x .around) (x .node)) b c
 
 -- ---- records
 
 -- the answer of a check by what the three records give
 answered : ℕ → List ℕ → Got Schema → Got Condition → Got Targets → CheckOutcome
 answered rules buffer g h i =
-    either (λ r. unvisited r 1 buffer) (λ s. either (λ r. unvisited r 2 buffer) (λ c. either (λ r. unvisited r 3 buffer) (λ ts. checked (profileOf rules) s c ts buffer) i) h) g
+    either (λ r. unvisited r 1 buffer) (λ s. either (λ r. unvisited r 2 buffer) (λ c. either (λ r. unvisited r 3 buffer) (λ ts. checked (choicesOf rules) s c ts buffer) i) h) g
 
 module _ (c d : Condition) (n m : ℕ) where
-  module _ (equal : (p : Profile) (s : Schema) (ts : Targets) (buffer : List ℕ) → checked p s c ts buffer ≡ checked p s d ts buffer) where
+  module _ (equal : (k : Choices) (s : Schema) (ts : Targets) (buffer : List ℕ) → checked k s c ts buffer ≡ checked k s d ts buffer) where
     answered-alike : (rules : ℕ) (buffer : List ℕ) (g : Got Schema) (i : Got Targets) → answered rules buffer g (got c n) i ≡ answered rules buffer g (got d m) i
     unfolding answered
     answered-alike rules buffer (bad r) i = refl
     answered-alike rules buffer (got s l) (bad r) = refl
-    answered-alike rules buffer (got s l) (got ts k) = equal (profileOf rules) s ts buffer
+    answered-alike rules buffer (got s l) (got ts k) = equal (choicesOf rules) s ts buffer
 
 -- a record and the condition that stands in it
 record ReadAs (s : List ℕ) : Type 0 where
@@ -312,8 +373,8 @@ read s is = let x = accept (whole conditionRecord s) is in record { end = x .pla
 
 -- two accepted records whose conditions give the same answers
 module _ (a b : List ℕ) (isA : isRecord a ≡ true) (isB : isRecord b ≡ true)
-    (checks : (p : Profile) (s : Schema) (ts : Targets) (buffer : List ℕ) → checked p s (recordIn a) ts buffer ≡ checked p s (recordIn b) ts buffer)
-    (summed : breaches (recordIn a) ≡ breaches (recordIn b)) where
+    (checks : (k : Choices) (s : Schema) (ts : Targets) (buffer : List ℕ) → checked k s (recordIn a) ts buffer ≡ checked k s (recordIn b) ts buffer)
+    (summed : (binding : Binding) → breaches binding (recordIn a) ≡ breaches binding (recordIn b)) where
   checks-alike : (rules : ℕ) (schemaBytes targetBytes buffer : List ℕ) → checkWith rules schemaBytes a targetBytes buffer ≡ checkWith rules schemaBytes b targetBytes buffer
   unfolding checkWithBy answered
   checks-alike rules schemaBytes targetBytes buffer =
@@ -321,9 +382,9 @@ module _ (a b : List ℕ) (isA : isRecord a ≡ true) (isB : isRecord b ≡ true
       ∙ answered-alike (recordIn a) (recordIn b) (read a isA .end) (read b isB .end) checks rules buffer (whole schemaRecord schemaBytes) (whole targetRecord targetBytes)
       ∙ ap (λ h. answered rules buffer (whole schemaRecord schemaBytes) h (whole targetRecord targetBytes)) (sym (read b isB .reads))
 
-  sums-alike : (buffer : List ℕ) → sums a buffer ≡ sums b buffer
-  unfolding sums
-  sums-alike buffer = rw (read a isA .reads, read b isB .reads) (ap (λ bs. reported bs buffer) summed)
+  sums-alike : (rules : ℕ) (buffer : List ℕ) → sumsWith rules a buffer ≡ sumsWith rules b buffer
+  unfolding sumsWith
+  sums-alike rules buffer = rw (read a isA .reads, read b isB .reads) (ap (λ bs. reported bs buffer) (summed (bindingOf rules)))
 
   records-alike : Alike a b
   records-alike = record { checks = checks-alike; sums = sums-alike }
@@ -332,13 +393,13 @@ pub unseen : Unseen
 unseen change keeps a b isA isB same =
     records-alike a b isA isB
     (λ p s ts buffer. sym (same-checked change keeps p s (recordIn a) ts buffer) ∙ ap (λ c. checked p s c ts buffer) same ∙ same-checked change keeps p s (recordIn b) ts buffer)
-    (sym (same-sums change keeps (recordIn a)) ∙ ap breaches same ∙ same-sums change keeps (recordIn b))
+    (λ binding. sym (same-sums change keeps binding (recordIn a)) ∙ ap (breaches binding) same ∙ same-sums change keeps binding (recordIn b))
 
 pub changed-once : ChangedOnce
 changed-once change keeps a b isA isB same =
     records-alike a b isA isB
     (λ p s ts buffer. sym (same-checked change keeps p s (recordIn a) ts buffer) ∙ ap (λ c. checked p s c ts buffer) (sym same))
-    (sym (same-sums change keeps (recordIn a)) ∙ ap breaches (sym same))
+    (λ binding. sym (same-sums change keeps binding (recordIn a)) ∙ ap (breaches binding) (sym same))
 
 -- ---- the listing
 

@@ -10,11 +10,11 @@ use mathlib.Core.Option.{Option, none, some}
 use lib.ListN.{length, drop}
 use Rattle.names.specs.Lists.{maybe, gather}
 use Rattle.names.specs.Laws.Lists.{gather-append}
-use Rattle.types.specs.Types.{Profile}
+use Rattle.types.specs.Types.{dated}
 use Rattle.schema.specs.Schema.{Schema, Action}
 use Rattle.schema.specs.Find.{findAction}
 use Rattle.condition.specs.Condition.{Condition}
-use Rattle.condition.specs.Walk.{reached}
+use Rattle.walk.specs.Scopes.{nodesBy}
 use Rattle.targets.specs.Targets.{Target, Targets, Scope}
 use Rattle.resolution.specs.Resolution.{admitsAnyEnv}
 use Rattle.reports.specs.Reports.{Breach, Outcome, once, reported}
@@ -22,9 +22,7 @@ use Rattle.reports.specs.Laws.Reports as laws
 use Rattle.reports.specs.Laws.Once.{both, both-in, both-nodup}
 use Rattle.reports.specs.Laws.Sets.{in-left, in-right, in-append, length-same}
 use Rattle.reports.specs.Pairs.{_∈_, NoDup, Same, Pair, pairOf, pairs, space}
-use Rattle.terms.specs.Terms.{factsOf}
-use Rattle.rules.specs.Rules.{nodeBreaches}
-use Rattle.typecheck.specs.Check.{profileOf, breachesUnderBy, breachesUnder, isChecked, CheckOutcome, checkedBy, checked, checkWithBy}
+use Rattle.typecheck.specs.Check.{Choices, choicesOf, breachesAt, breachesUnderBy, breachesUnder, isChecked, CheckOutcome, checkedBy, checked, checkWithBy}
 use Rattle.typecheck.specs.Answers.{checkOutcomeOf}
 use Rattle.claims.specs.Written.{written}
 use Rattle.claims.specs.Breaches.{Accepted, BreachUnder, BreachOf, PairOf, Different, SpaceForAll, Run, reportedPairs, Shared, Exact, under, Alone, Taken, RunOf, Counts, Joined, Alike, Claim}
@@ -69,47 +67,47 @@ in-pairs (x ∷ bs) b (inr h) = inr (in-pairs bs b h)
 
 -- ---- the breaches of the rules, as a list
 
-module _ (p : Profile) (s : Schema) (c : Condition) (scope : Scope) (t : Target) (b : Breach) where
+module _ (k : Choices) (s : Schema) (c : Condition) (scope : Scope) (t : Target) (b : Breach) where
   underAction : (action : Option Action) → Type 0
-  underAction action = Source (nodeBreaches (factsOf p s c scope action)) (reached c) b
+  underAction action = Source (breachesAt dated (k .profile) s scope action) (nodesBy (k .binding) c) b
 
   -- by what the schema says of the target
   judged : (o : Option Action) → List Breach
-  judged o = maybe (gather (nodeBreaches (factsOf p s c scope none)) (reached c)) (λ a. cond (admitsAnyEnv s scope a) (gather (nodeBreaches (factsOf p s c scope (some a))) (reached c)) []) o
+  judged o = maybe (gather (breachesAt dated (k .profile) s scope none) (nodesBy (k .binding) c)) (λ a. cond (admitsAnyEnv s scope a) (gather (breachesAt dated (k .profile) s scope (some a)) (nodesBy (k .binding) c)) []) o
 
   from-rules : (o : Option Action) → b ∈ judged o → (maybe true (admitsAnyEnv s scope) o ≡ true) × underAction o
   unfolding judged underAction
-  from-rules none h = (refl, source _ (reached c) b h)
+  from-rules none h = (refl, source _ (nodesBy (k .binding) c) b h)
   from-rules (some a) h = go (admitsAnyEnv s scope a) h
     where
-      go : (q : Bool) → b ∈ cond q (gather (nodeBreaches (factsOf p s c scope (some a))) (reached c)) [] → (q ≡ true) × Source (nodeBreaches (factsOf p s c scope (some a))) (reached c) b
-      go true h = (refl, source _ (reached c) b h)
+      go : (q : Bool) → b ∈ cond q (gather (breachesAt dated (k .profile) s scope (some a)) (nodesBy (k .binding) c)) [] → (q ≡ true) × Source (breachesAt dated (k .profile) s scope (some a)) (nodesBy (k .binding) c) b
+      go true h = (refl, source _ (nodesBy (k .binding) c) b h)
       go false h = absurd h
 
   by-rules : (o : Option Action) → maybe true (admitsAnyEnv s scope) o ≡ true → underAction o → b ∈ judged o
   unfolding judged underAction
-  by-rules none e r = gathered _ (reached c) b (r .own) (r .listed) (r .gives)
-  by-rules (some a) e r = rw e (gathered _ (reached c) b (r .own) (r .listed) (r .gives))
+  by-rules none e r = gathered _ (nodesBy (k .binding) c) b (r .own) (r .listed) (r .gives)
+  by-rules (some a) e r = rw e (gathered _ (nodesBy (k .binding) c) b (r .own) (r .listed) (r .gives))
 
 -- all breaches of a run, in its order
 abbrev pub breaches : ℕ → Schema → Condition → Targets → List Breach
-breaches rules s c ts = gather (breachesUnder (profileOf rules) s c (ts .scope)) (ts .list)
+breaches rules s c ts = gather (breachesUnder (choicesOf rules) s c (ts .scope)) (ts .list)
 
 module _ (rules : ℕ) (s : Schema) (c : Condition) (ts : Targets) where
   is-breach : (b : Breach) → b ∈ breaches rules s c ts → BreachOf rules s c ts b
   unfolding breachesUnderBy isChecked judged underAction
   is-breach b h =
-      let r = source (breachesUnder (profileOf rules) s c (ts .scope)) (ts .list) b h in
+      let r = source (breachesUnder (choicesOf rules) s c (ts .scope)) (ts .list) b h in
       let t = r .own in
-      let i = from-rules (profileOf rules) s c (ts .scope) t b (findAction s (t .namespace) (t .id)) (r .gives) in
+      let i = from-rules (choicesOf rules) s c (ts .scope) t b (findAction s (t .namespace) (t .id)) (r .gives) in
       record { target = t; listed = r .listed; checked = i .0; breach = record { node = i .1 .own; isReached = i .1 .listed; breaks = i .1 .gives } }
 
   breach-in : (b : Breach) → BreachOf rules s c ts b → b ∈ breaches rules s c ts
   unfolding breachesUnderBy isChecked judged underAction
   breach-in b r =
       let t = r .target in
-      gathered (breachesUnder (profileOf rules) s c (ts .scope)) (ts .list) b t (r .listed)
-      (by-rules (profileOf rules) s c (ts .scope) t b (findAction s (t .namespace) (t .id)) (r .checked) (record { own = r .breach .node; listed = r .breach .isReached; gives = r .breach .breaks }))
+      gathered (breachesUnder (choicesOf rules) s c (ts .scope)) (ts .list) b t (r .listed)
+      (by-rules (choicesOf rules) s c (ts .scope) t b (findAction s (t .namespace) (t .id)) (r .checked) (record { own = r .breach .node; listed = r .breach .isReached; gives = r .breach .breaks }))
 
   pair-of : (k : Pair) → (k ∈ pairs (breaches rules s c ts)) ↔ PairOf rules s c ts k
   pair-of k = (
@@ -193,7 +191,7 @@ module _ (rules : ℕ) (schemaBytes conditionBytes : List ℕ) (s : Schema) (c :
         let runB = runs (written B) B isB b in
         let fitA = enough A (a .before) roomA in
         let fitB = enough B (b .before) roomB in
-        let one : breaches rules s c AB ≡ xs ++ ys = gather-append (breachesUnder (profileOf rules) s c scope) front behind in
+        let one : breaches rules s c AB ≡ xs ++ ys = gather-append (breachesUnder (choicesOf rules) s c scope) front behind in
         let runAB : oAB ≡ reported (once [] (xs ++ ys)) (ab .before) = runs (written AB) AB isAB ab ∙ ap (λ (l : List Breach). reported (once [] l) (ab .before)) one in
         let fitAB : space (pairs (once [] (xs ++ ys))) ≤ length (ab .before) = subst (λ (l : List Breach). space (pairs (once [] l)) ≤ length (ab .before)) one (enough AB (ab .before) roomAB) in
         let memA = laws.run-members xs (a .before) oA runA fitA in

@@ -22,7 +22,9 @@ use Rattle.condition.specs.Condition.{Span, Condition, Term, Annotation, Binder
 use Rattle.condition.specs.Walk.{reached, reachedIn, operandAggregates, operandBinders, declares, binders, namedHere, lastNamed}
 use Rattle.terms.specs.Terms.{Facts, factsOf, wordTypeBy, annotationTypeBy, annotationType, inputType, varType, sideTypeBy, rootType, scopeFieldType, allLike, arrayOf, elementTypes, termType}
 use Rattle.rules.specs.Rules.{numericBreaches, likeBreaches, operandsBy, ordering, argumentBreach, argumentBreaches, leafBreaches, arithmeticBreaches, nodeBreaches}
-use Rattle.typecheck.specs.Check.{breachesUnderBy, breachesUnder, isChecked}
+use Rattle.walk.specs.Scopes.{flat, nodesBy}
+use Rattle.typecheck.specs.Check.{noChoice, breachesAt, breachesUnderBy, breachesUnder, isChecked}
+use Rattle.typecheck.specs.Laws.Visits.{flat-gathered}
 use Rattle.reports.specs.Reports.{Breach}
 use Rattle.claims.specs.Rows.{Hold, end, _and_}
 use Rattle.claims.specs.Examples.{Checked, factsIn, typeIn, reports, Operands, compared, Entities, empty, BesideEmpty, ArrayField, argued, binderOf, Bound, Rebound, AnyName, WithoutId, id, partOfId, comparing, NoPrincipals, narrowedTo, integer, decimal, string, only, declaring, twice, edges}
@@ -34,13 +36,16 @@ module _ (s : Schema) (c : Condition) (scope : Scope) (t : Target) where
   abbrev broken : Option Action → List Breach
   broken a = gather (nodeBreaches (factsOf types.plain s c scope a)) (reached c)
 
-  judged : isChecked s scope t ≡ true → breachesUnder types.plain s c scope t ≡ broken (findAction s (t .namespace) (t .id))
+  judged : isChecked s scope t ≡ true → breachesUnder noChoice s c scope t ≡ broken (findAction s (t .namespace) (t .id))
   unfolding isChecked breachesUnderBy
   judged is = go (findAction s (t .namespace) (t .id)) is
     where
-      go : (o : Option Action) → maybe true (admitsAnyEnv s scope) o ≡ true → maybe (broken none) (λ a. cond (admitsAnyEnv s scope a) (broken (some a)) []) o ≡ broken o
-      go none is = refl
-      go (some a) is = rw is
+      all : Option Action → List Breach
+      all a = gather (breachesAt types.dated types.plain s scope a) (nodesBy flat c)
+
+      go : (o : Option Action) → maybe true (admitsAnyEnv s scope) o ≡ true → maybe (all none) (λ a. cond (admitsAnyEnv s scope a) (all (some a)) []) o ≡ broken o
+      go none is = flat-gathered types.dated types.plain s c scope none
+      go (some a) is = rw is (flat-gathered types.dated types.plain s c scope (some a))
 
 module _ (x : Checked) where
   pub computed : (c : Condition) → reports x c ≡ length (gather (nodeBreaches (factsIn x c)) (reached c))
@@ -172,15 +177,15 @@ unfolding admitsAnyEnv sideAdmits anyOf
 no-principal s a r e = rw e
 
 module _ (x : NoPrincipals) where
-  any-skips : breachesUnder types.plain (x .schema) (x .whole) (narrowedTo (some any) x) (x .target) ≡ []
+  any-skips : breachesUnder noChoice (x .schema) (x .whole) (narrowedTo (some any) x) (x .target) ≡ []
   unfolding breachesUnderBy
   any-skips = rw (x .found, no-principal (x .schema) (x .action) (x .resource) (x .empty))
 
-  none-judged : (c : Condition) → breachesUnder types.plain (x .schema) c (narrowedTo none x) (x .target) ≡ gather (nodeBreaches (factsOf types.plain (x .schema) c (narrowedTo none x) (some (x .action)))) (reached c)
+  none-judged : (c : Condition) → breachesUnder noChoice (x .schema) c (narrowedTo none x) (x .target) ≡ gather (nodeBreaches (factsOf types.plain (x .schema) c (narrowedTo none x) (some (x .action)))) (reached c)
   unfolding breachesUnderBy admitsAnyEnv sideAdmits
-  none-judged c = rw (x .found, x .admits)
+  none-judged c = rw (x .found, x .admits) (flat-gathered types.dated types.plain (x .schema) c (narrowedTo none x) (some (x .action)))
 
-  none-reports : length (breachesUnder types.plain (x .schema) (comparison (x .at) condition.lt decimal decimal) (narrowedTo none x) (x .target)) ≡ 1
+  none-reports : length (breachesUnder noChoice (x .schema) (comparison (x .at) condition.lt decimal decimal) (narrowedTo none x) (x .target)) ≡ 1
   unfolding reached reachedIn gather nodeBreaches arithmeticBreaches termType numericBreaches fits
   none-reports = ap length (none-judged (comparison (x .at) condition.lt decimal decimal))
 

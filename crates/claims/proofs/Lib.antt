@@ -15,5 +15,9 @@ pub mod Values
 pub mod WindowExamples
 pub mod SweepExamples
 pub mod ValueExamples
+pub mod Scoping
+pub mod BareArrays
+pub mod OwnBodies
+pub mod OwnBodyExamples
 pub mod Times
 pub mod TimeExamples

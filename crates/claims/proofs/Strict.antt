@@ -4,10 +4,10 @@ use mathlib.Core.Bool.{Bool, true, false, not, false≢true}
 use mathlib.Core.Logic.{_⊎_, inl, inr, ⊎-elim}
 use mathlib.Core.List.{List, [], _∷_, _++_}
 use mathlib.Core.Option.{Option, none, some}
-use Prim.Native.Nat.{ℕ, _+_, _*_, _%_}
+use Prim.Native.Nat.{ℕ, _+_, _*_, _/_, _%_, _<_}
 use native.Mathlib.Omega.{arith}
 use Rattle.names.specs.Lists.{maybe}
-use Rattle.types.specs.Types.{Ty, Profile, plain, strict, compatible}
+use Rattle.types.specs.Types.{Ty, dated, Profile, plain, strict, compatible}
 use Rattle.types.specs.Profiles.{Unlike}
 use Rattle.types.specs.Laws.Profiles.{profiles, compatible-plain}
 use Rattle.schema.specs.Schema.{Schema, Action}
@@ -15,24 +15,24 @@ use Rattle.schema.specs.Find.{findAction}
 use Rattle.targets.specs.Targets.{Target, Targets, Scope}
 use Rattle.resolution.specs.Resolution.{contextType, predicateAction}
 use Rattle.condition.specs.Condition as condition
-use Rattle.condition.specs.Condition.{Condition, Term, Arguments, Span, Slot, Operator, named, paramRef, binderRef, one, two, predicate, comparison, exists, tp, opaque, noArgument, argument, entity, literal, contextField, scopeField, var, wildcard, array, aggregate, sigil}
-use Rattle.condition.specs.Walk.{reached}
-use Rattle.terms.specs.Terms.{Facts, factsOf, termType, varType, scopeFieldType, rootType}
+use Rattle.condition.specs.Condition.{Condition, Binder, Term, Arguments, Span, Slot, Operator, named, paramRef, binderRef, one, two, predicate, comparison, exists, tp, opaque, noArgument, argument, entity, literal, contextField, scopeField, var, wildcard, array, aggregate, sigil}
+use Rattle.walk.specs.Scopes.{Scoped, under, Binding, bindingOf, nodesBy}
+use Rattle.terms.specs.Terms.{Facts, factsAmong, termType, varType, scopeFieldType, rootType}
 use Rattle.rules.specs.Messages.{unlikeTypes}
 use Rattle.rules.specs.Rules.{breachIf, both, notLongHere, ordering, operandsBy, numericBreaches, likeBreaches, argumentBreach, argumentBreaches, leafBreaches, arithmeticBreaches, timepointBreaches, nodeBreaches}
 use Rattle.reports.specs.Reports.{Breach}
 use Rattle.reports.specs.Pairs.{_∈_, Pair, pairOf}
 use Rattle.reports.specs.Laws.Sets.{in-left, in-right, in-append}
-use Rattle.typecheck.specs.Check.{profileOf, checkWith, check}
+use Rattle.typecheck.specs.Check.{profileOf, breachesAt, checkWith, check}
 use Rattle.claims.specs.Breaches.{Accepted, BreachOf, PairOf, SpaceForAll, Run, reportedPairs}
 use Rattle.claims.specs.Strict.{Added, Beside, Inclusion, NoRules, Bits}
 use Rattle.claims.proofs.Demand3.{alone}
 
 -- ---- a node: what does not depend on the profile
 
-module _ (s : Schema) (c : Condition) (scope : Scope) (a : Option Action) where
+module _ (s : Schema) (bs : List Binder) (scope : Scope) (a : Option Action) where
   abbrev facts : Profile → Facts
-  facts p = factsOf p s c scope a
+  facts p = factsAmong dated p s scope a bs
 
   module _ (p : Profile) where
     root-same : (own : Action) (path : List (List ℕ)) → rootType (facts p) own path ≡ rootType (facts plain) own path
@@ -206,37 +206,44 @@ module _ (s : Schema) (c : Condition) (scope : Scope) (a : Option Action) where
 
 -- ---- whole runs
 
-module _ (s : Schema) (c : Condition) (ts : Targets) (own also : ℕ) (isPlain : profileOf own ≡ plain) (isStrict : profileOf also ≡ strict) where
-  module _ (t : Target) (x : Condition) (b : Breach) where
+module _ (s : Schema) (c : Condition) (ts : Targets) (own also : ℕ) (isPlain : profileOf own ≡ plain) (isStrict : profileOf also ≡ strict) (alike : bindingOf own ≡ bindingOf also) where
+  module _ (t : Target) (x : Scoped) (b : Breach) where
     abbrev action : Option Action
     action = findAction s (t .namespace) (t .id)
 
-    to-strict : b ∈ nodeBreaches (factsOf (profileOf own) s c (ts .scope) action) x → b ∈ nodeBreaches (factsOf (profileOf also) s c (ts .scope) action) x
-    to-strict h =
-        subst (λ (p : Profile). b ∈ nodeBreaches (factsOf p s c (ts .scope) action) x) (sym isStrict)
-        (node-more s c (ts .scope) action b x (subst (λ (p : Profile). b ∈ nodeBreaches (factsOf p s c (ts .scope) action) x) isPlain h))
+    abbrev breaks : Profile → Type 0
+    breaks p = b ∈ breachesAt dated p s (ts .scope) action x
 
-    from-strict : b ∈ nodeBreaches (factsOf (profileOf also) s c (ts .scope) action) x → (b ∈ nodeBreaches (factsOf (profileOf own) s c (ts .scope) action) x) ⊎ Equality s c (ts .scope) action b x
-    from-strict h =
-        ⊎-elim (λ i. inl (subst (λ (p : Profile). b ∈ nodeBreaches (factsOf p s c (ts .scope) action) x) (sym isPlain) i)) inr
-        (node-fewer s c (ts .scope) action b x (subst (λ (p : Profile). b ∈ nodeBreaches (factsOf p s c (ts .scope) action) x) isStrict h))
+    to-strict : breaks (profileOf own) → breaks (profileOf also)
+    to-strict h = subst breaks (sym isStrict) (node-more s (x .around) (ts .scope) action b (x .node) (subst breaks isPlain h))
+
+    from-strict : breaks (profileOf also) → breaks (profileOf own) ⊎ Equality s (x .around) (ts .scope) action b (x .node)
+    from-strict h = ⊎-elim (λ i. inl (subst breaks (sym isPlain) i)) inr (node-fewer s (x .around) (ts .scope) action b (x .node) (subst breaks isStrict h))
+
+  -- the nodes are the same
+  to-also : (x : Scoped) → x ∈ nodesBy (bindingOf own) c → x ∈ nodesBy (bindingOf also) c
+  to-also x h = subst (λ (d : Binding). x ∈ nodesBy d c) alike h
+
+  to-own : (x : Scoped) → x ∈ nodesBy (bindingOf also) c → x ∈ nodesBy (bindingOf own) c
+  to-own x h = subst (λ (d : Binding). x ∈ nodesBy d c) (sym alike) h
 
   pairs-more : (k : Pair) → PairOf own s c ts k → PairOf also s c ts k
   pairs-more k r =
       let i = r .isBreach in
+      let n = i .breach in
       record {
         breach = r .breach;
         pair = r .pair;
-        isBreach = record { target = i .target; listed = i .listed; checked = i .checked; breach = record { node = i .breach .node; isReached = i .breach .isReached; breaks = to-strict (i .target) (i .breach .node) (r .breach) (i .breach .breaks) } };
+        isBreach = record { target = i .target; listed = i .listed; checked = i .checked; breach = record { node = n .node; isReached = to-also (n .node) (n .isReached); breaks = to-strict (i .target) (n .node) (r .breach) (n .breaks) } };
       }
 
-  pairs-fewer : (k : Pair) → PairOf also s c ts k → PairOf own s c ts k ⊎ Added s c ts k
+  pairs-fewer : (k : Pair) → PairOf also s c ts k → PairOf own s c ts k ⊎ Added (bindingOf own) s c ts k
   pairs-fewer k r =
       let i = r .isBreach in
       let n = i .breach in
       ⊎-elim
-      (λ h. inl (record { breach = r .breach; pair = r .pair; isBreach = record { target = i .target; listed = i .listed; checked = i .checked; breach = record { node = n .node; isReached = n .isReached; breaks = h } } }))
-      (λ (e : Equality s c (ts .scope) (action (i .target) (n .node) (r .breach)) (r .breach) (n .node)). inr (record {
+      (λ h. inl (record { breach = r .breach; pair = r .pair; isBreach = record { target = i .target; listed = i .listed; checked = i .checked; breach = record { node = n .node; isReached = to-own (n .node) (n .isReached); breaks = h } } }))
+      (λ (e : Equality s (n .node .around) (ts .scope) (action (i .target) (n .node) (r .breach)) (r .breach) (n .node .node)). inr (record {
         target = i .target;
         listed = i .listed;
         checked = i .checked;
@@ -244,7 +251,8 @@ module _ (s : Schema) (c : Condition) (ts : Targets) (own also : ℕ) (isPlain :
         op = e .op;
         left = e .left;
         right = e .right;
-        isReached = subst (λ (x : Condition). x ∈ reached c) (e .is) (n .isReached);
+        around = n .node .around;
+        isReached = subst (λ (x : Condition). under (n .node .around) x ∈ nodesBy (bindingOf own) c) (e .is) (to-own (n .node) (n .isReached));
         isEquality = e .isEquality;
         typeLeft = e .typeLeft;
         typeRight = e .typeRight;
@@ -257,12 +265,12 @@ module _ (s : Schema) (c : Condition) (ts : Targets) (own also : ℕ) (isPlain :
 
 module _ (schemaBytes conditionBytes targetBytes : List ℕ) (s : Schema) (c : Condition) (ts : Targets) where
   pub inclusion : Inclusion schemaBytes conditionBytes targetBytes s c ts
-  inclusion is own also isPlain isStrict a b roomA roomB =
+  inclusion is own also isPlain isStrict alike a b roomA roomB =
       let eA = alone own schemaBytes conditionBytes s c targetBytes ts is a roomA in
       let eB = alone also schemaBytes conditionBytes s c targetBytes ts is b roomB in
       record {
-        included = λ k h. eB .pairs .all k .1 (pairs-more s c ts own also isPlain isStrict k (eA .pairs .all k .0 h));
-        nothingElse = λ k h. ⊎-elim (λ i. inl (eA .pairs .all k .1 i)) inr (pairs-fewer s c ts own also isPlain isStrict k (eB .pairs .all k .0 h));
+        included = λ k h. eB .pairs .all k .1 (pairs-more s c ts own also isPlain isStrict alike k (eA .pairs .all k .0 h));
+        nothingElse = λ k h. ⊎-elim (λ i. inl (eA .pairs .all k .1 i)) inr (pairs-fewer s c ts own also isPlain isStrict alike k (eB .pairs .all k .0 h));
       }
 
 pub no-rules : NoRules
@@ -275,11 +283,20 @@ even-rest n = omega arith
 odd-rest : (n : ℕ) → (2 * n + 1) % 2 ≡ 1
 odd-rest n = omega arith
 
+-- bit 1
+low-rest : (n bit : ℕ) → bit < 2 → (4 * n + bit) / 2 % 2 ≡ 0
+low-rest n bit h = omega arith
+
+high-rest : (n bit : ℕ) → bit < 2 → (4 * n + 2 + bit) / 2 % 2 ≡ 1
+high-rest n bit h = omega arith
+
 pub bits : Bits
-unfolding profileOf
+unfolding profileOf bindingOf
 bits = record {
   zero = refl;
   one = refl;
   even = λ n. rw (even-rest n);
   odd = λ n. rw (odd-rest n);
+  below = λ n bit h. rw (low-rest n bit h);
+  above = λ n bit h. rw (high-rest n bit h);
 }

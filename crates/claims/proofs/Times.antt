@@ -9,7 +9,7 @@ use Rattle.names.specs.Lists.{maybe, first, every, gather}
 use Rattle.names.specs.Names.{same, simpleName, lastOf}
 use Rattle.names.specs.Text.{text}
 use Rattle.types.specs.Types as types
-use Rattle.types.specs.Types.{Ty, Profile, scalar, mixedArray, array, datetime, duration, published, dated, timeType, fits, sameType, isNumeric, isTime, areOrdered}
+use Rattle.types.specs.Types.{Ty, Profile, Vocabulary, scalar, mixedArray, array, datetime, duration, published, dated, timeType, fits, sameType, isNumeric, isTime, areOrdered}
 use Rattle.types.specs.Laws.Order.{ordered-before}
 use Rattle.schema.specs.Schema.{Schema, Action, EntityType, schemaRecord, Declared, Attributes, nothing, attribute, long, string, bool, extension, set, anySet, object, entity, severalEntities, anyEntity, never}
 use Rattle.schema.specs.Find.{findAction, findEntity, findAttribute, extensionType, richTypeBy, fieldsOf}
@@ -19,14 +19,17 @@ use Rattle.targets.specs.PathRecord.{Query, Side, pathRecord, targetAt}
 use Rattle.resolution.specs.Resolution.{PathEnd, typed, PathResolution, headMissing, nested, typeAtEnd, descendBy, resolveInBy, contextPathBy, contextTypeBy, admitted, admitsAnyEnv, projection, unattributed, OnType, onEntityBy, onTypesBy, failed, typesOf, renderings, agreed, failure, verdict, declaredAll, entityOf, scopeType, ScopePath, ambiguous, unknown, scopePathBy, predicateAction}
 use Rattle.condition.specs.Condition as condition
 use Rattle.condition.specs.Condition.{Condition, Binder, Slot, named, paramRef, binderRef, Annotation, timepoint, path, Span, Term, Arguments, noArgument, argument, one, two, predicate, comparison, exists, tp, opaque, conditionRecord}
-use Rattle.condition.specs.Walk.{reached, binders, namedHere, lastNamed}
-use Rattle.terms.specs.Terms.{Facts, factsBy, otherType, wordTypeBy, annotationTypeBy, fieldTypeBy, inputTypeBy, varType, ifResolved, sideTypeBy, rootType, scopeFieldType, literalType, allLike, arrayOf, elementTypes, termType}
-use Rattle.reports.specs.Reports.{once, refusal, reported}
+use Rattle.condition.specs.Walk.{binders, namedHere, lastNamed}
+use Rattle.walk.specs.Scopes.{Scoped, nodesBy}
+use Rattle.terms.specs.Terms.{Facts, factsAmong, otherType, wordTypeBy, annotationTypeBy, fieldTypeBy, inputTypeBy, varType, ifResolved, sideTypeBy, rootType, scopeFieldType, literalType, allLike, arrayOf, elementTypes, termType}
+use Rattle.reports.specs.Reports.{Breach, once, refusal, reported}
+use Rattle.reports.specs.Pairs.{_∈_}
 use Rattle.reports.specs.Placed.{placed}
 use Rattle.rules.specs.Rules.{both, notLongHere, ordering, operandsBy, argumentBreach, timepointBreach, argumentBreaches, leafBreaches, arithmeticBreaches, timepointBreaches, nodeBreaches}
-use Rattle.typecheck.specs.Check.{profileOf, breachesUnderBy, isChecked, visitsUnderBy, begun, checkedBy, unvisited, checkWithBy}
+use Rattle.typecheck.specs.Check.{Choices, choicesOf, breachesAt, breachesUnderBy, isChecked, visitsUnderBy, begun, checkedBy, unvisited, checkWithBy}
 use Rattle.lookup.specs.Lookup.{onSideBy, foundBy, output, answeredBy, lookupBy}
 use Rattle.claims.specs.Times.{isTimeWord, noTimesIn, noTimesAmong, noTimes, noTimeNamed, noTimesDeclared, Reads, AsBefore}
+use Rattle.claims.proofs.Scoping.{every-in, every-of, map-in, gather-in, among-passed}
 
 -- ---- what may be missing, and lists
 
@@ -63,10 +66,6 @@ gather-same : {A B : Type 0} {f g : A → List B} → ((a : A) → f a ≡ g a) 
 unfolding gather
 gather-same e [] = refl
 gather-same e (x ∷ xs) = ap₂ _++_ (e x) (gather-same e xs)
-
-map-same : {A B : Type 0} {f g : A → B} → ((a : A) → f a ≡ g a) → (xs : List A) → map f xs ≡ map g xs
-map-same e [] = refl
-map-same e (x ∷ xs) = ap₂ _∷_ (e x) (map-same e xs)
 
 -- ---- words
 
@@ -243,12 +242,12 @@ module _ (s : Schema) (h : noTimes s ≡ true) where
 
   -- ---- the facts of a target
 
-  module _ (c : Condition) (k : noTimesDeclared c ≡ true) (p : Profile) (scope : Scope) (a : Option Action) (own : passes actionPasses a ≡ true) where
+  module _ (bs : List Binder) (k : every (λ b. noTimeNamed (b .annotation)) bs ≡ true) (p : Profile) (scope : Scope) (a : Option Action) (own : passes actionPasses a ≡ true) where
     abbrev now : Facts
-    now = factsBy dated p s c scope a
+    now = factsAmong dated p s scope a bs
 
     abbrev before : Facts
-    before = factsBy published p s c scope a
+    before = factsAmong published p s scope a bs
 
     input-same : (name : List ℕ) → inputTypeBy dated a name ≡ inputTypeBy published a name
     unfolding inputTypeBy
@@ -260,8 +259,8 @@ module _ (s : Schema) (h : noTimes s ≡ true) where
         a own
 
     var-same : (name : List ℕ) → varType now name ≡ varType before name
-    unfolding varType noTimesDeclared
-    var-same name = go (lastNamed name (binders c)) (last-passes name (binders c) k)
+    unfolding varType
+    var-same name = go (lastNamed name bs) (last-passes name bs k)
       where
         go : (o : Option Annotation) → passes noTimeNamed o ≡ true → maybe (inputTypeBy dated a name) (λ n. some (annotationTypeBy dated n)) o ≡ maybe (inputTypeBy published a name) (λ n. some (annotationTypeBy published n)) o
         go none l = input-same name
@@ -347,27 +346,39 @@ module _ (s : Schema) (h : noTimes s ≡ true) where
 
   -- ---- a run
 
-  module _ (c : Condition) (k : noTimesDeclared c ≡ true) (p : Profile) (scope : Scope) where
-    under-same : (t : Target) → breachesUnderBy dated p s c scope t ≡ breachesUnderBy published p s c scope t
+  module _ (c : Condition) (k : noTimesDeclared c ≡ true) (ks : Choices) (scope : Scope) where
+    -- the binders that a reached node's names are looked up among are among those that the walk passes
+    node-passes : (x : Scoped) → x ∈ nodesBy (ks .binding) c → every (λ b. noTimeNamed (b .annotation)) (x .around) ≡ true
+    unfolding noTimesDeclared
+    node-passes x i = every-of _ (x .around) (λ b j. every-in _ (binders c) k b (among-passed (ks .binding) c x i b j))
+
+    at-same : (a : Option Action) → passes actionPasses a ≡ true → (x : Scoped) → x ∈ nodesBy (ks .binding) c → breachesAt dated (ks .profile) s scope a x ≡ breachesAt published (ks .profile) s scope a x
+    at-same a l x i = node-same (x .around) (node-passes x i) (ks .profile) scope a l (x .node)
+
+    under-same : (t : Target) → breachesUnderBy dated ks s c scope t ≡ breachesUnderBy published ks s c scope t
     unfolding breachesUnderBy
     under-same t = go (findAction s (t .namespace) (t .id)) (action-passes (t .namespace) (t .id))
       where
+        all : Vocabulary → Option Action → List Breach
+        all v a = gather (breachesAt v (ks .profile) s scope a) (nodesBy (ks .binding) c)
+
         go : (o : Option Action) → passes actionPasses o ≡ true
-            → maybe (gather (nodeBreaches (factsBy dated p s c scope none)) (reached c)) (λ a. cond (admitsAnyEnv s scope a) (gather (nodeBreaches (factsBy dated p s c scope (some a))) (reached c)) []) o
-            ≡ maybe (gather (nodeBreaches (factsBy published p s c scope none)) (reached c)) (λ a. cond (admitsAnyEnv s scope a) (gather (nodeBreaches (factsBy published p s c scope (some a))) (reached c)) []) o
-        go none l = gather-same (node-same c k p scope none l) (reached c)
-        go (some a) l = ap (λ bs. cond (admitsAnyEnv s scope a) bs []) (gather-same (node-same c k p scope (some a) l) (reached c))
+            → maybe (all dated none) (λ a. cond (admitsAnyEnv s scope a) (all dated (some a)) []) o ≡ maybe (all published none) (λ a. cond (admitsAnyEnv s scope a) (all published (some a)) []) o
+        go none l = gather-in _ _ (nodesBy (ks .binding) c) (at-same none l)
+        go (some a) l = ap (λ bs. cond (admitsAnyEnv s scope a) bs []) (gather-in _ _ (nodesBy (ks .binding) c) (at-same (some a) l))
 
-    visits-same : (t : Target) → visitsUnderBy dated p s c scope t ≡ visitsUnderBy published p s c scope t
+    visits-same : (t : Target) → visitsUnderBy dated ks s c scope t ≡ visitsUnderBy published ks s c scope t
     unfolding visitsUnderBy
-    visits-same t = ap (λ visits. cond (isChecked s scope t) visits []) (map-same (node-same c k p scope (findAction s (t .namespace) (t .id)) (action-passes (t .namespace) (t .id))) (reached c))
+    visits-same t =
+        ap (λ visits. cond (isChecked s scope t) visits [])
+        (map-in _ _ (nodesBy (ks .binding) c) (at-same (findAction s (t .namespace) (t .id)) (action-passes (t .namespace) (t .id))))
 
-  checked-same : (c : Condition) → noTimesDeclared c ≡ true → (p : Profile) (ts : Targets) (buffer : List ℕ) → checkedBy dated p s c ts buffer ≡ checkedBy published p s c ts buffer
+  checked-same : (c : Condition) → noTimesDeclared c ≡ true → (ks : Choices) (ts : Targets) (buffer : List ℕ) → checkedBy dated ks s c ts buffer ≡ checkedBy published ks s c ts buffer
   unfolding checkedBy
-  checked-same c k p ts buffer =
+  checked-same c k ks ts buffer =
       λ i. record {
-        outcome = ap (λ bs. reported (once [] bs) buffer) (gather-same (under-same c k p (ts .scope)) (ts .list)) i;
-        visits = ap (begun buffer []) (gather-same (visits-same c k p (ts .scope)) (ts .list)) i;
+        outcome = ap (λ bs. reported (once [] bs) buffer) (gather-same (under-same c k ks (ts .scope)) (ts .list)) i;
+        visits = ap (begun buffer []) (gather-same (visits-same c k ks (ts .scope)) (ts .list)) i;
       }
 
 -- ---- from the bytes
@@ -388,7 +399,7 @@ unfolding checkWithBy
 all-checks rules schemaBytes conditionBytes targetBytes buffer readsSchema readsCondition =
     read-same noTimes (λ r. unvisited r 1 buffer) _ _
     (λ s h. read-same noTimesDeclared (λ r. unvisited r 2 buffer) _ _
-    (λ c k. read-any (λ r. unvisited r 3 buffer) _ _ (λ ts. checked-same s h c k (profileOf rules) ts buffer) (whole targetRecord targetBytes))
+    (λ c k. read-any (λ r. unvisited r 3 buffer) _ _ (λ ts. checked-same s h c k (choicesOf rules) ts buffer) (whole targetRecord targetBytes))
     (whole conditionRecord conditionBytes) readsCondition)
     (whole schemaRecord schemaBytes) readsSchema
 

@@ -12,20 +12,19 @@ use Rattle.names.specs.Lists.{gather, select}
 use Rattle.names.specs.Laws.Lists.{gather-append}
 use Rattle.names.specs.Fields.{Got, got, bad, either, whole}
 use Rattle.names.specs.Laws.Readers.{is-accepted, has-value}
-use Rattle.types.specs.Types.{Profile}
 use Rattle.schema.specs.Schema.{Schema, schemaRecord}
 use Rattle.condition.specs.Condition.{Condition, conditionRecord}
 use Rattle.condition.specs.Walk.{reached}
+use Rattle.walk.specs.Scopes.{Scoped, nodesBy}
+use Rattle.walk.specs.Laws.Nodes.{length-by}
 use Rattle.condition.specs.Places.{isRecord, recordIn}
 use Rattle.condition.specs.Laws.Sizes.{record-nodes}
 use Rattle.targets.specs.Targets.{Target, Targets, Scope, targetRecord}
-use Rattle.terms.specs.Terms.{factsOf}
-use Rattle.rules.specs.Rules.{nodeBreaches}
 use Rattle.reports.specs.Reports.{Breach, once, encoded, fitting, reported}
 use Rattle.reports.specs.Decode.{size}
 use Rattle.reports.specs.Kept.{full-fewer}
 use Rattle.reports.specs.Laws.Once.{once-append}
-use Rattle.typecheck.specs.Check.{profileOf, isChecked, visitsUnderBy, visitsUnder, begun, CheckOutcome, checkedBy, checked, checkWithBy, unvisited}
+use Rattle.typecheck.specs.Check.{Choices, choicesOf, breachesAt, isChecked, visitsUnderBy, visitsUnder, begun, CheckOutcome, checkedBy, checked, checkWithBy, unvisited}
 use Rattle.typecheck.specs.Answers.{checkOutcomeOf}
 use Rattle.typecheck.specs.Run.{foundBy}
 use Rattle.typecheck.specs.Laws.Visits.{found-all}
@@ -137,36 +136,36 @@ module _ (buffer : List ℕ) where
 
 -- ---- how many visits there are
 
-module _ (p : Profile) (s : Schema) (c : Condition) (scope : Scope) where
-  by-target : (t : Target) → length (visitsUnder p s c scope t) ≡ cond (isChecked s scope t) (length (reached c)) 0
+module _ (k : Choices) (s : Schema) (c : Condition) (scope : Scope) where
+  by-target : (t : Target) → length (visitsUnder k s c scope t) ≡ cond (isChecked s scope t) (length (reached c)) 0
   unfolding visitsUnderBy
-  by-target t = go (isChecked s scope t) (nodeBreaches _)
+  by-target t = go (isChecked s scope t) (breachesAt _ _ _ _ _)
     where
-      go : (b : Bool) (f : Condition → List Breach) → length (cond b (map f (reached c)) []) ≡ cond b (length (reached c)) 0
-      go true f = length-map (reached c) f
+      go : (b : Bool) (f : Scoped → List Breach) → length (cond b (map f (nodesBy (k .binding) c)) []) ≡ cond b (length (reached c)) 0
+      go true f = length-map (nodesBy (k .binding) c) f ∙ length-by c (k .binding)
       go false f = refl
 
-  in-all : (list : List Target) → length (gather (visitsUnder p s c scope) list) ≡ length (select (isChecked s scope) list) * length (reached c)
+  in-all : (list : List Target) → length (gather (visitsUnder k s c scope) list) ≡ length (select (isChecked s scope) list) * length (reached c)
   unfolding gather select
   in-all [] = sym (zero-mul (length (reached c)))
-  in-all (t ∷ list) = length-append (visitsUnder p s c scope t) (gather (visitsUnder p s c scope) list) ∙ go (isChecked s scope t) _ (by-target t) _ (in-all list)
+  in-all (t ∷ list) = length-append (visitsUnder k s c scope t) (gather (visitsUnder k s c scope) list) ∙ go (isChecked s scope t) _ (by-target t) _ (in-all list)
     where
-      go : (b : Bool) (m : ℕ) → m ≡ cond b (length (reached c)) 0 → (k : ℕ) → k ≡ length (select (isChecked s scope) list) * length (reached c)
-          → m + k ≡ length (cond b (t ∷ select (isChecked s scope) list) (select (isChecked s scope) list)) * length (reached c)
-      go true m e k f = omega (arith, e, f, suc-mul (length (select (isChecked s scope) list)) (length (reached c)))
-      go false m e k f = omega (arith, e, f)
+      go : (b : Bool) (m : ℕ) → m ≡ cond b (length (reached c)) 0 → (o : ℕ) → o ≡ length (select (isChecked s scope) list) * length (reached c)
+          → m + o ≡ length (cond b (t ∷ select (isChecked s scope) list) (select (isChecked s scope) list)) * length (reached c)
+      go true m e o f = omega (arith, e, f, suc-mul (length (select (isChecked s scope) list)) (length (reached c)))
+      go false m e o f = omega (arith, e, f)
 
   -- each target has no more than so many bytes pay for
-  in-bytes : (long : ℕ) → length (reached c) * 9 ≤ long → (list : List Target) → length (gather (visitsUnder p s c scope) list) * 9 ≤ length list * long
+  in-bytes : (long : ℕ) → length (reached c) * 9 ≤ long → (list : List Target) → length (gather (visitsUnder k s c scope) list) * 9 ≤ length list * long
   unfolding gather
   in-bytes long h [] = omega (arith, zero-mul long)
   in-bytes long h (t ∷ list) =
-      go (isChecked s scope t) (length (visitsUnder p s c scope t)) (by-target t) (length (gather (visitsUnder p s c scope) list)) (in-bytes long h list)
-      _ (length-append (visitsUnder p s c scope t) (gather (visitsUnder p s c scope) list))
+      go (isChecked s scope t) (length (visitsUnder k s c scope t)) (by-target t) (length (gather (visitsUnder k s c scope) list)) (in-bytes long h list)
+      _ (length-append (visitsUnder k s c scope t) (gather (visitsUnder k s c scope) list))
     where
-      go : (b : Bool) (m : ℕ) → m ≡ cond b (length (reached c)) 0 → (k : ℕ) → k * 9 ≤ length list * long → (n : ℕ) → n ≡ m + k → n * 9 ≤ length (t ∷ list) * long
-      go true m e k f n g = omega (arith, e, f, g, h, suc-mul (length list) long)
-      go false m e k f n g = omega (arith, e, f, g, suc-mul (length list) long)
+      go : (b : Bool) (m : ℕ) → m ≡ cond b (length (reached c)) 0 → (o : ℕ) → o * 9 ≤ length list * long → (n : ℕ) → n ≡ m + o → n * 9 ≤ length (t ∷ list) * long
+      go true m e o f n g = omega (arith, e, f, g, h, suc-mul (length list) long)
+      go false m e o f n g = omega (arith, e, f, g, suc-mul (length list) long)
 
 -- ---- the claims
 
@@ -182,7 +181,7 @@ module _ (schemaBytes conditionBytes targetBytes : List ℕ) where
       abbrev all : List (List Breach)
       all = visitsOf schemaBytes conditionBytes targetBytes s c ts rules
 
-      run : checkOutcomeOf (r .answer) (r .after) ≡ checked (profileOf rules) s c ts (r .before)
+      run : checkOutcomeOf (r .answer) (r .after) ≡ checked (choicesOf rules) s c ts (r .before)
       unfolding checkWithBy
       run = r .contract ∙ rw (is .schema, is .condition, is .targets)
 
@@ -190,18 +189,18 @@ module _ (schemaBytes conditionBytes targetBytes : List ℕ) where
       unfolding checkOutcomeOf checkedBy
       number-is =
           ap (λ (o : CheckOutcome). o .outcome .answer .number) run
-          ∙ ap (numberOf (r .before)) (sym (found-all (profileOf rules) s c (ts .scope) (ts .list)))
+          ∙ ap (numberOf (r .before)) (sym (found-all (choicesOf rules) s c (ts .scope) (ts .list)))
 
       visits-are : r .answer .visits ≡ begun (r .before) [] all
       unfolding checkOutcomeOf checkedBy
       visits-are = ap (λ (o : CheckOutcome). o .visits) run
 
       product : r .answer .number ≡ 0 → r .answer .visits ≡ length (select (isChecked s (ts .scope)) (ts .list)) * length (reached c)
-      product h = visits-are ∙ all-begun (r .before) [] all (sym number-is ∙ h) ∙ in-all (profileOf rules) s c (ts .scope) (ts .list)
+      product h = visits-are ∙ all-begun (r .before) [] all (sym number-is ∙ h) ∙ in-all (choicesOf rules) s c (ts .scope) (ts .list)
 
       bound : r .answer .visits * 9 ≤ length (ts .list) * (length conditionBytes - 5)
       bound =
-          below (visits-are) (few-begun (r .before) [] all) (in-bytes (profileOf rules) s c (ts .scope) (length conditionBytes - 5) (nine-each conditionBytes (is .condition)) (ts .list))
+          below (visits-are) (few-begun (r .before) [] all) (in-bytes (choicesOf rules) s c (ts .scope) (length conditionBytes - 5) (nine-each conditionBytes (is .condition)) (ts .list))
         where
           below : {v b l n : ℕ} → v ≡ b → b ≤ l → l * 9 ≤ n → v * 9 ≤ n
           below e f g = omega (arith, e, f, g)
@@ -219,23 +218,23 @@ module _ (schemaBytes conditionBytes targetBytes : List ℕ) where
         }
 
   -- the first refusal has no visit
-  module _ (buffer : List ℕ) (p : Profile) where
+  module _ (buffer : List ℕ) (k : Choices) where
     abbrev None : CheckOutcome → Type 0
     None o = (o .outcome .answer .recordNumber ≡ 0 → ⊥) → o .visits ≡ 0
 
-    none-targets : (s : Schema) (c : Condition) (g : Got Targets) → None (either (λ r. unvisited r 3 buffer) (λ ts. checked p s c ts buffer) g)
+    none-targets : (s : Schema) (c : Condition) (g : Got Targets) → None (either (λ r. unvisited r 3 buffer) (λ ts. checked k s c ts buffer) g)
     unfolding checkedBy reported
     none-targets s c (got ts n) h = absurd (h refl)
     none-targets s c (bad r) h = refl
 
-    none-condition : (s : Schema) (g : Got Condition) (k : Got Targets) → None (either (λ r. unvisited r 2 buffer) (λ c. either (λ r. unvisited r 3 buffer) (λ ts. checked p s c ts buffer) k) g)
-    none-condition s (got c n) k h = none-targets s c k h
-    none-condition s (bad r) k h = refl
+    none-condition : (s : Schema) (g : Got Condition) (l : Got Targets) → None (either (λ r. unvisited r 2 buffer) (λ c. either (λ r. unvisited r 3 buffer) (λ ts. checked k s c ts buffer) l) g)
+    none-condition s (got c n) l h = none-targets s c l h
+    none-condition s (bad r) l h = refl
 
-    none-schema : (g : Got Schema) (k : Got Condition) (l : Got Targets)
-        → None (either (λ r. unvisited r 1 buffer) (λ s. either (λ r. unvisited r 2 buffer) (λ c. either (λ r. unvisited r 3 buffer) (λ ts. checked p s c ts buffer) l) k) g)
-    none-schema (got s n) k l h = none-condition s k l h
-    none-schema (bad r) k l h = refl
+    none-schema : (g : Got Schema) (d : Got Condition) (l : Got Targets)
+        → None (either (λ r. unvisited r 1 buffer) (λ s. either (λ r. unvisited r 2 buffer) (λ c. either (λ r. unvisited r 3 buffer) (λ ts. checked k s c ts buffer) l) d) g)
+    none-schema (got s n) d l h = none-condition s d l h
+    none-schema (bad r) d l h = refl
 
   pub billed-of : BilledOf schemaBytes conditionBytes targetBytes
   unfolding checkOutcomeOf checkWithBy
@@ -243,6 +242,6 @@ module _ (schemaBytes conditionBytes targetBytes : List ℕ) where
     accepted = λ s c ts is. billed s c ts is;
     refused = λ rules r h.
         ap (λ (o : CheckOutcome). o .visits) (r .contract)
-        ∙ none-schema (r .before) (profileOf rules) (whole schemaRecord schemaBytes) (whole conditionRecord conditionBytes) (whole targetRecord targetBytes)
+        ∙ none-schema (r .before) (choicesOf rules) (whole schemaRecord schemaBytes) (whole conditionRecord conditionBytes) (whole targetRecord targetBytes)
         (λ z. h (ap (λ (o : CheckOutcome). o .outcome .answer .recordNumber) (r .contract) ∙ z));
   }

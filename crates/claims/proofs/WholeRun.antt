@@ -14,9 +14,10 @@ use Rattle.reports.specs.Reports.{once, encoded, fitting, reported}
 use Rattle.reports.specs.Messages.{parts, filled, from}
 use Rattle.names.specs.Text.{text}
 use Rattle.rules.specs.Rules.{nodeBreaches, arithmeticBreaches, numericBreaches}
+use Rattle.walk.specs.Scopes.{bindingOf, nodesBy}
 use Rattle.typecheck.specs.Check.{profileOf, check, checkWithBy, checkedBy, breachesUnderBy, isChecked, visitsUnderBy, begun}
 use Rattle.claims.specs.WholeRun.{Runs}
 
 pub whole-run : Runs
-unfolding text whole heading bytes u8 number u16 u32 stringOf many counted finished choose digits pathOrNone plain plainByte same gather anyOf first every schemaRecord findAction actionType conditionRecord conditionAt termAt conditionKinds comparisonOf termKinds span operator operators reached reachedIn targetRecord narrowing narrowings target termType display fits once encoded fitting reported parts filled from check checkWithBy profileOf checkedBy breachesUnderBy isChecked visitsUnderBy begun nodeBreaches arithmeticBreaches numericBreaches conditionRecordUpTo given
+unfolding text whole heading bytes u8 number u16 u32 stringOf many counted finished choose digits pathOrNone plain plainByte same gather anyOf first every schemaRecord findAction actionType conditionRecord conditionAt termAt conditionKinds comparisonOf termKinds span operator operators reached reachedIn targetRecord narrowing narrowings target termType display fits once encoded fitting reported parts filled from check checkWithBy profileOf bindingOf nodesBy checkedBy breachesUnderBy isChecked visitsUnderBy begun nodeBreaches arithmeticBreaches numericBreaches conditionRecordUpTo given
 whole-run = (refl, refl)

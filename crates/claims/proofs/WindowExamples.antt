@@ -13,13 +13,14 @@ use Rattle.targets.specs.Targets.{targetRecord, narrowing, narrowings, target}
 use Rattle.reports.specs.Reports.{once, fitting, reported}
 use Rattle.names.specs.Text.{text}
 use Rattle.rules.specs.Rules.{nodeBreaches}
+use Rattle.walk.specs.Scopes.{bindingOf, nodesBy}
 use Rattle.typecheck.specs.Check.{profileOf, check, checkWithBy, checkedBy, breachesUnderBy, isChecked, visitsUnderBy, begun}
-use Rattle.sums.specs.Sums.{argumentsBreaches, conditionBreaches, termBreaches, aggregateBreaches, breaches, sums}
+use Rattle.sums.specs.Sums.{argumentsBreaches, conditionBreaches, termBreaches, aggregateBreaches, breaches, sumsWith, sums}
 use Rattle.claims.specs.Rows.{Hold, end, _and_}
 use Rattle.claims.specs.WindowExamples.{nested, lines}
 
 pub all-lines : Hold lines
-unfolding text whole heading bytes u8 number u16 u32 u64 stringOf many counted finished choose digits pathOrNone plain plainByte same pathOf refusalNumber gather anyOf first every schemaRecord findAction actionType conditionRecordUpTo conditionRecord conditionAt termAt conditionKinds unary binary predicateOf arguments argumentList units fits amountOf secondsOf windowKinds window binder termKinds given aggregateOf aggregateKinds countOf tooDeep span reached targetRecord narrowing narrowings target once fitting reported nodeBreaches profileOf check checkWithBy checkedBy breachesUnderBy isChecked visitsUnderBy begun argumentsBreaches conditionBreaches termBreaches aggregateBreaches breaches sums nested
+unfolding text whole heading bytes u8 number u16 u32 u64 stringOf many counted finished choose digits pathOrNone plain plainByte same pathOf refusalNumber gather anyOf first every schemaRecord findAction actionType conditionRecordUpTo conditionRecord conditionAt termAt conditionKinds unary binary predicateOf arguments argumentList units fits amountOf secondsOf windowKinds window binder termKinds given aggregateOf aggregateKinds countOf tooDeep span reached targetRecord narrowing narrowings target once fitting reported nodeBreaches profileOf bindingOf nodesBy check checkWithBy checkedBy breachesUnderBy isChecked visitsUnderBy begun argumentsBreaches conditionBreaches termBreaches aggregateBreaches breaches sumsWith sums nested
 all-lines =
     (λ x. refl)
     and (λ x. refl)

@@ -7,17 +7,16 @@ use mathlib.Core.Logic.{_↔_}
 use mathlib.Core.List.{List, _++_}
 use lib.ListN.{length, drop}
 use Rattle.names.specs.Fields.{got, whole}
+use Rattle.types.specs.Types.{dated}
 use Rattle.schema.specs.Schema.{Schema, schemaRecord}
 use Rattle.schema.specs.Find.{findAction}
 use Rattle.condition.specs.Condition.{Condition, conditionRecord}
-use Rattle.condition.specs.Walk.{reached}
+use Rattle.walk.specs.Scopes.{Scoped, bindingOf, nodesBy}
 use Rattle.targets.specs.Targets.{Target, Targets, Scope, targetRecord}
 use Rattle.reports.specs.Reports.{Breach}
 use Rattle.reports.specs.Decode.{reports}
 use Rattle.reports.specs.Pairs.{_∈_, NoDup, Same, Pair, pairOf, pairs, space}
-use Rattle.terms.specs.Terms.{factsOf}
-use Rattle.rules.specs.Rules.{nodeBreaches}
-use Rattle.typecheck.specs.Check.{profileOf, isChecked, checkWith}
+use Rattle.typecheck.specs.Check.{profileOf, breachesAt, isChecked, checkWith}
 use Rattle.typecheck.specs.Answers.{checkOutcomeOf}
 use Rattle.typecheck.specs.declared.CheckAnswer.{CheckAnswer}
 use Rattle.claims.specs.Written.{written}
@@ -31,11 +30,12 @@ pub record Accepted (schemaBytes conditionBytes targetBytes : List ℕ) (s : Sch
   pub targetsEnd : ℕ
   pub targets : whole targetRecord targetBytes ≡ got ts targetsEnd
 
--- a breach: what the typing rules give at one reached node under one target, before repeats are dropped, with the caller's rules
+-- a breach: what the typing rules give at one reached node under one target, before repeats are dropped, with the caller's rules, which also say among which
+-- binders the node's names are looked up
 pub record BreachUnder (rules : ℕ) (s : Schema) (c : Condition) (scope : Scope) (t : Target) (b : Breach) : Type 0 where
-  pub node : Condition
-  pub isReached : node ∈ reached c
-  pub breaks : b ∈ nodeBreaches (factsOf (profileOf rules) s c scope (findAction s (t .namespace) (t .id))) node
+  pub node : Scoped
+  pub isReached : node ∈ nodesBy (bindingOf rules) c
+  pub breaks : b ∈ breachesAt dated (profileOf rules) s scope (findAction s (t .namespace) (t .id)) node
 
 -- a breach under one of the targets that are checked
 pub record BreachOf (rules : ℕ) (s : Schema) (c : Condition) (ts : Targets) (b : Breach) : Type 0 where

@@ -10,7 +10,7 @@ use Rattle.condition.specs.Condition.{Window, Entity, Literal, ArithOp, Conditi
 use Rattle.condition.specs.Places.{isRecord, recordIn}
 use Rattle.terms.specs.Terms.{literalType}
 use Rattle.typecheck.specs.Check.{checkWith}
-use Rattle.sums.specs.Sums.{sums}
+use Rattle.sums.specs.Sums.{sumsWith}
 use Rattle.sweeps.specs.Windows as listing
 
 -- what becomes of each window, entity, literal and operator
@@ -80,7 +80,7 @@ module _ (change : Change) where
 -- two condition records answer alike: the same outcome, which is the answer with its visits and each byte of the buffer, whatever else is asked
 pub record Alike (a b : List ℕ) : Type 0 where
   pub checks : (rules : ℕ) (schemaBytes targetBytes buffer : List ℕ) → checkWith rules schemaBytes a targetBytes buffer ≡ checkWith rules schemaBytes b targetBytes buffer
-  pub sums : (buffer : List ℕ) → sums a buffer ≡ sums b buffer
+  pub sums : (rules : ℕ) (buffer : List ℕ) → sumsWith rules a buffer ≡ sumsWith rules b buffer
 
 -- and the same outcome of the listing, in sweeps of any period
 abbrev pub ListedAlike : List ℕ → List ℕ → Type 0

@@ -21,7 +21,7 @@ use Rattle.condition.specs.Condition.{Span, Condition, Term, Binder, Operator, 
 use Rattle.condition.specs.Walk.{reached, binders, lastNamed}
 use Rattle.terms.specs.Terms.{Facts, factsOf, termType}
 use Rattle.rules.specs.Rules.{nodeBreaches}
-use Rattle.typecheck.specs.Check.{breachesUnder, isChecked}
+use Rattle.typecheck.specs.Check.{noChoice, breachesUnder, isChecked}
 use Rattle.claims.specs.Rows.{Row, ofAll, ofEach}
 
 -- a target that is checked, and any place of a condition
@@ -44,7 +44,7 @@ typeIn x c t = termType (some (factsIn x c)) t
 
 -- how many breaches a condition has under it
 abbrev pub reports : Checked → Condition → ℕ
-reports x c = length (breachesUnder plain (x .schema) c (x .scope) (x .target))
+reports x c = length (breachesUnder noChoice (x .schema) c (x .scope) (x .target))
 
 -- `1`, `1.0`, `"s"`, `[t]`
 abbrev pub integer : Term
@@ -212,9 +212,9 @@ edges =
     ∷ ofAll WithoutId (λ x. comparing x lt id integer) 1
     ∷ ofAll WithoutId (λ x. comparing x lt partOfId integer) 0
     -- no principals: narrowing Any skips the target, whatever the condition breaks; none does not
-    ∷ ofAll NoPrincipals (λ x. breachesUnder plain (x .schema) (x .whole) (narrowedTo (some any) x) (x .target)) []
-    ∷ ofEach NoPrincipals (λ x. breachesUnder plain (x .schema) (x .whole) (narrowedTo none x) (x .target)) (λ x. gather (nodeBreaches (factsOf plain (x .schema) (x .whole) (narrowedTo none x) (some (x .action)))) (reached (x .whole)))
-    ∷ ofAll NoPrincipals (λ x. length (breachesUnder plain (x .schema) (comparison (x .at) lt decimal decimal) (narrowedTo none x) (x .target))) 1
+    ∷ ofAll NoPrincipals (λ x. breachesUnder noChoice (x .schema) (x .whole) (narrowedTo (some any) x) (x .target)) []
+    ∷ ofEach NoPrincipals (λ x. breachesUnder noChoice (x .schema) (x .whole) (narrowedTo none x) (x .target)) (λ x. gather (nodeBreaches (factsOf plain (x .schema) (x .whole) (narrowedTo none x) (some (x .action)))) (reached (x .whole)))
+    ∷ ofAll NoPrincipals (λ x. length (breachesUnder noChoice (x .schema) (comparison (x .at) lt decimal decimal) (narrowedTo none x) (x .target))) 1
     -- `* == 1` none; `* + 1 == 2` one
     ∷ ofAll Checked (λ x. reports x (comparison (x .at) eq wildcard integer)) 0
     ∷ ofAll Checked (λ x. reports x (comparison (x .at) eq (condition.arith none wildcard integer) integer)) 1

@@ -15,5 +15,7 @@ pub mod Values
 pub mod WindowExamples
 pub mod SweepExamples
 pub mod ValueExamples
+pub mod OwnBodies
+pub mod OwnBodyExamples
 pub mod Times
 pub mod TimeExamples

@@ -88,6 +88,6 @@ lines =
     ∷ ofAll (Unit {0}) (λ x. told 1 0 schemaBytes endsLater) (one 3 9 (text "equality requires both sides to have the same type, got `U` and `string`"))
     ∷ ofAll (Unit {0}) (λ x. told 1 1 schemaBytes endsLater) (one 3 4 (text "equality requires both sides to have the same type, got `U` and `string`"))
     -- the other bits of the rules have no effect
-    ∷ ofAll (Unit {0}) (λ x. told 1 254 schemaBytes (compares 4 (entity (text "U")) (entity (text "G")))) clean
-    ∷ ofAll (Unit {0}) (λ x. told 1 255 schemaBytes (compares 4 (entity (text "U")) (entity (text "G")))) (one 0 0 (text "equality requires both sides to have the same type, got `U` and `G`"))
+    ∷ ofAll (Unit {0}) (λ x. told 1 252 schemaBytes (compares 4 (entity (text "U")) (entity (text "G")))) clean
+    ∷ ofAll (Unit {0}) (λ x. told 1 253 schemaBytes (compares 4 (entity (text "U")) (entity (text "G")))) (one 0 0 (text "equality requires both sides to have the same type, got `U` and `G`"))
     ∷ []

@@ -10,7 +10,7 @@ use Rattle.condition.specs.Condition.{Condition}
 use Rattle.condition.specs.Walk.{reached}
 use Rattle.targets.specs.Targets.{Targets}
 use Rattle.reports.specs.Reports.{Breach, once, reported}
-use Rattle.typecheck.specs.Check.{profileOf, isChecked, visitsUnder}
+use Rattle.typecheck.specs.Check.{choicesOf, isChecked, visitsUnder}
 use Rattle.typecheck.specs.Run.{foundBy}
 use Rattle.claims.specs.Breaches.{Accepted, Run}
 
@@ -32,7 +32,7 @@ module _ (schemaBytes conditionBytes targetBytes : List ℕ) where
   module _ (s : Schema) (c : Condition) (ts : Targets) where
     -- all visits of a check with these rules, target by target and node by node
     abbrev pub visitsOf : ℕ → List (List Breach)
-    visitsOf rules = gather (visitsUnder (profileOf rules) s c (ts .scope)) (ts .list)
+    visitsOf rules = gather (visitsUnder (choicesOf rules) s c (ts .scope)) (ts .list)
 
     -- what is claimed of a run over accepted records
     pub record Visits (rules : ℕ) (r : Run rules schemaBytes conditionBytes targetBytes) : Type 0 where
