@@ -43,10 +43,17 @@ extern "C" {
 #define DOGWOOD_WORKSPACE(bytes) ((bytes) / 38 + 2)
 
 /*
- * What a caller of dogwood_check_with chooses, a bit of `rules` each. Strict: two entities whose tags (the simple names of
- * their types) are known and different are not of the same type in an equality, inside arrays too; nothing else changes.
+ * What a caller of dogwood_check_with chooses, a bit of `rules` each; they may be joined by |. Strict: two entities whose
+ * tags (the simple names of their types) are known and different are not of the same type in an equality, inside arrays too;
+ * nothing else changes.
+ *
+ * Own bodies, in dogwood_sums_with too: a name is bound by the innermost binder around its use, the last of that name in one
+ * list, and where none is around it by the field of the input, if there is one. An Exists has its binder around its body,
+ * an aggregate its binders around its own body, and around its summand in the sums. Without this bit the last binder of a
+ * name in the whole condition binds every use of it, as in Dogwood's published check.
  */
 #define DOGWOOD_STRICT 1
+#define DOGWOOD_OWN_BODIES 2
 
 /*
  * Why there is no answer. The numbers 1 to 10, 13, 15 and 16 are met while a record is read, the first one from the left
@@ -142,9 +149,12 @@ struct dogwood_check_answer dogwood_check(const uint8_t *schema, size_t schema_l
 
 /*
  * The same check with rules that the caller chooses, and with lent workspace, in which repeated reports are found: with
- * rules 0 the same answer and the same bytes in the buffer as dogwood_check gives. `rules` is 0 or DOGWOOD_STRICT; a bit
- * without a meaning has no effect. With space for all reports, each message and start that the plain check reports is
- * reported by the strict one too; a report's end, and the order, may be others.
+ * rules 0 the same answer and the same bytes in the buffer as dogwood_check gives. `rules` is 0 or of DOGWOOD_STRICT and
+ * DOGWOOD_OWN_BODIES one or both; a bit without a meaning has no effect. With space for all reports, each message and start
+ * that is reported without DOGWOOD_STRICT is reported with it too; a report's end, and the order, may be others.
+ *
+ * With DOGWOOD_OWN_BODIES reports may come and go. The answer and the bytes are the same with it and without it where each
+ * name is declared once and each use of a declared name stands in the body of its binder.
  *
  * The answer is the same for every workspace. It may have any number of slots, none too, and hold anything.
  *
@@ -172,6 +182,16 @@ struct dogwood_check_answer dogwood_check_with(uint8_t rules,
  */
 struct dogwood_answer dogwood_sums(const uint8_t *condition, size_t condition_length,
                                    uint8_t *reports, size_t reports_length);
+
+/*
+ * The same with rules that the caller chooses: 0, which is dogwood_sums, or DOGWOOD_OWN_BODIES; no other bit has an effect.
+ * With own bodies the binder of a summand is the last of its name in the sum's own list, else the innermost around the sum;
+ * where there is none nothing is reported. The input is not asked. The list of a sum in an argument of a predicate, which
+ * dogwood_sums leaves out, counts for its own summand. The answers are the same where each name is declared once, no
+ * aggregate stands in an argument of a predicate, and each summand that is declared has its binder around it.
+ */
+struct dogwood_answer dogwood_sums_with(uint8_t rules, const uint8_t *condition, size_t condition_length,
+                                        uint8_t *reports, size_t reports_length);
 
 /*
  * Lists the windows of a condition in sweeps of a period of so many seconds: how many whole sweeps a window has, and how many
@@ -243,7 +263,7 @@ static inline uint32_t dogwood_number32(const uint8_t *at) {
 
 /*
  * Takes a report apart, and gives the address of the next one. It is for the `count` reports at the beginning of a buffer
- * that dogwood_check or dogwood_sums has filled; the message stays in the buffer.
+ * that a check or the sums have filled; the message stays in the buffer.
  */
 static inline const uint8_t *dogwood_next_report(const uint8_t *at, struct dogwood_report *report) {
     report->start = dogwood_number32(at);

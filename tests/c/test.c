@@ -57,6 +57,38 @@ static void test(int holds, const char *claim, int line) {
 #define WRONG_SUM "DWC\0\1" "\11" ZERO_SPAN "\0\1v\1\6String" "\10" ZERO_SPAN "\4" SUM "\2"
 
 /*
+ * Binders, each at 0 to 0: `(exists (v: Long). ..) && v == "a"`, the same with `v == 1`, `exists (v: Long). v == "a"`, a count
+ * over v: Long and v: String whose body is `v == 1`, and `tp(t)` outside and inside of `exists (t: Long)`.
+ */
+#define AND "\1" ZERO_SPAN
+#define LONG_V "\0\1v\1\4Long"
+#define STRING_V "\0\1v\1\6String"
+#define V_IS "\10" ZERO_SPAN "\4\10\1v"
+#define V_OUTSIDE "DWC\0\1" AND "\11" ZERO_SPAN LONG_V "\13" ZERO_SPAN V_IS "\4"
+#define V_IS_NUMBER_OUTSIDE "DWC\0\1" AND "\11" ZERO_SPAN LONG_V "\13" ZERO_SPAN V_IS "\2"
+#define V_INSIDE "DWC\0\1" "\11" ZERO_SPAN LONG_V V_IS "\4"
+#define V_TWICE "DWC\0\1" "\10" ZERO_SPAN "\4\2" "\13\2" ZERO_SPAN "\2" LONG_V STRING_V V_IS "\2"
+#define TP_OUTSIDE "DWC\0\1" AND "\11" ZERO_SPAN "\0\1t\1\4Long" "\13" ZERO_SPAN "\12" ZERO_SPAN "\0\1t"
+#define TP_INSIDE "DWC\0\1" "\11" ZERO_SPAN "\0\1t\1\4Long" "\12" ZERO_SPAN "\0\1t"
+
+/* `U == G` at 5 to 6, `&&`, and what V_OUTSIDE has: each bit does its own. */
+#define TAGS_AND_V "DWC\0\1" AND "\10" "\0\0\0\5\0\0\0\6" "\4" ENTITY_U ENTITY_G \
+                   AND "\11" ZERO_SPAN LONG_V "\13" ZERO_SPAN V_IS "\4"
+
+/* An action with the input field v: String. */
+#define V_INPUT_SCHEMA "DWS\0\1" "\0\0" "\0\1" "\6Action" "\4view" "\0" "\0" "\6\1\5input" "\6\1\1v\1"
+
+/*
+ * Sums at 3 to 258: of v with a binder v: Long of its own beside a later `exists (v: String)`, of v with a binder of its own in
+ * an argument of a predicate, and of v whose binder stands in its body.
+ */
+#define SUM_OF_V "\13\1" "\0\0\0\3\0\0\1\2" "\0\1v"
+#define SUM_BESIDE_V "DWC\0\1" AND "\10" ZERO_SPAN "\4\2" SUM_OF_V "\1" LONG_V "\13" ZERO_SPAN \
+                     "\11" ZERO_SPAN STRING_V "\13" ZERO_SPAN
+#define SUM_IN_ARGUMENT "DWC\0\1" "\7" ZERO_SPAN ZERO_SPAN "\0" "\0" "\1" "\0" "\0" SUM_OF_V "\1" STRING_V "\13" ZERO_SPAN
+#define SUM_OVER_V "DWC\0\1" "\10" ZERO_SPAN "\4\2" SUM_OF_V "\0" "\11" ZERO_SPAN STRING_V "\13" ZERO_SPAN
+
+/*
  * `formerly within 90m ..` at 5 to 6, and in it `previous within 2d ..` at 7 to 8; the first alone with a parameter, with a
  * negative amount, with 2^63 - 1 days, and in version 1.
  */
@@ -110,6 +142,8 @@ static void test(int holds, const char *claim, int line) {
 
 #define MESSAGE "comparison requires numeric operands on both sides, got `boolean` and `int`"
 #define TAGS_MESSAGE "equality requires both sides to have the same type, got `U` and `G`"
+#define V_MESSAGE "equality requires both sides to have the same type, got `int` and `string`"
+#define V_INPUT_MESSAGE "equality requires both sides to have the same type, got `string` and `int`"
 #define TIMES_MESSAGE "comparison requires numeric operands on both sides, got `datetime` and `duration`"
 #define DATETIME_MESSAGE "equality requires both sides to have the same type, got `datetime` and `string`"
 #define SUM_MESSAGE "cannot sum `v`: sum requires a `Long` summand, but `v` is `String`."
@@ -321,8 +355,12 @@ static void test_check_with(void) {
     }
     for (rules = 0; rules < 256; rules++) {
         TEST(as_without(BYTES(TWO_COMPARISONS), SPACE, (uint8_t)rules, 0xA5A5A5A5, SLOTS));
+        TEST(as_without(BYTES(V_INSIDE), SPACE, (uint8_t)rules, 0xA5A5A5A5, SLOTS));
         if ((rules & DOGWOOD_STRICT) == 0) {
             TEST(as_without(BYTES(OTHER_TAGS), SPACE, (uint8_t)rules, 0xA5A5A5A5, SLOTS));
+        }
+        if ((rules & DOGWOOD_OWN_BODIES) == 0) {
+            TEST(as_without(BYTES(V_OUTSIDE), SPACE, (uint8_t)rules, 0xA5A5A5A5, SLOTS));
         }
     }
     TEST(checks(dogwood_check_with(0, BYTES(SCHEMA), BYTES(TWICE), BYTES(TARGETS), fresh(), SPACE, NULL, 0), 0, 0, 1, 3));
@@ -349,6 +387,42 @@ static void test_strict(void) {
     TEST(checks(strictly(BYTES(OTHER_TAGS), one - 1, 0), DOGWOOD_NO_SPACE, 0, 0, 1) && untouched_from(0));
     TEST(checks(strictly(BYTES(OTHER_TAGS_IN_ARRAYS), SPACE, 0), 0, 0, 1, 1));
     TEST(checks(strictly(BYTES(SAME_TAG), SPACE, 0), 0, 0, 0, 1) && untouched_from(0));
+}
+
+/* The check with these rules of a condition under a schema, with space for all reports. */
+static struct dogwood_check_answer ruled(int rules, const uint8_t *schema, size_t schema_length, const uint8_t *condition,
+                                         size_t length) {
+    return dogwood_check_with((uint8_t)rules, schema, schema_length, condition, length, BYTES(TARGETS), fresh(), SPACE,
+                              filled(0), SLOTS);
+}
+
+/* A binder has its own body, whatever the other bits are; the last of one list counts; outside every body is the input. */
+static void test_own_bodies(void) {
+    const size_t one = DOGWOOD_REPORT_HEAD + strlen(V_MESSAGE);
+    struct dogwood_report report;
+    struct dogwood_check_answer answer;
+    int rules;
+
+    for (rules = 0; rules < 256; rules++) {
+        size_t strict = (rules & DOGWOOD_STRICT) != 0;
+        size_t flat = (rules & DOGWOOD_OWN_BODIES) == 0;
+
+        answer = ruled(rules, BYTES(SCHEMA), BYTES(V_OUTSIDE));
+        TEST(checks(answer, 0, 0, flat, 4) && untouched_from(flat * one));
+        answer = ruled(rules, BYTES(SCHEMA), BYTES(V_INSIDE));
+        dogwood_next_report(buffer, &report);
+        TEST(checks(answer, 0, 0, 1, 2) && reports(&report, 0, 0, V_MESSAGE) && untouched_from(one));
+        TEST(checks(ruled(rules, BYTES(SCHEMA), BYTES(TAGS_AND_V)), 0, 0, strict + flat, 6));
+        TEST(checks(ruled(rules, BYTES(SCHEMA), BYTES(TP_OUTSIDE)), 0, 0, flat, 4));
+        TEST(checks(ruled(rules, BYTES(SCHEMA), BYTES(TP_INSIDE)), 0, 0, 1, 2));
+    }
+    TEST(checks(ruled(DOGWOOD_OWN_BODIES, BYTES(SCHEMA), BYTES(V_TWICE)), 0, 0, 1, 2));
+    TEST(checks(ruled(0, BYTES(V_INPUT_SCHEMA), BYTES(V_OUTSIDE)), 0, 0, 1, 4));
+    answer = ruled(DOGWOOD_OWN_BODIES, BYTES(V_INPUT_SCHEMA), BYTES(V_OUTSIDE));
+    TEST(checks(answer, 0, 0, 0, 4) && untouched_from(0));
+    answer = ruled(DOGWOOD_OWN_BODIES, BYTES(V_INPUT_SCHEMA), BYTES(V_IS_NUMBER_OUTSIDE));
+    dogwood_next_report(buffer, &report);
+    TEST(checks(answer, 0, 0, 1, 4) && reports(&report, 0, 0, V_INPUT_MESSAGE));
 }
 
 /* A refused record leaves the buffer and the workspace as they were. */
@@ -383,6 +457,34 @@ static void test_sums(void) {
     TEST(refuses(answer, DOGWOOD_OTHER_MARK, DOGWOOD_CONDITION));
     answer = dogwood_sums(BYTES(WRONG_SUM), fresh(), one - 1);
     TEST(refuses(answer, DOGWOOD_NO_SPACE, DOGWOOD_NO_RECORD));
+}
+
+/* The sums with these rules, in all of the space. */
+static struct dogwood_answer summed(int rules, const uint8_t *condition, size_t length) {
+    return dogwood_sums_with((uint8_t)rules, condition, length, fresh(), SPACE);
+}
+
+/* Of the rules only own bodies count: a sum's list before what is around it, and neither a later binder nor one in the body. */
+static void test_sums_with(void) {
+    const size_t one = DOGWOOD_REPORT_HEAD + strlen(SUM_MESSAGE);
+    struct dogwood_report report;
+    struct dogwood_answer answer;
+    int rules;
+
+    for (rules = 0; rules < 256; rules++) {
+        size_t flat = (rules & DOGWOOD_OWN_BODIES) == 0;
+
+        answer = summed(rules, BYTES(WRONG_SUM));
+        dogwood_next_report(buffer, &report);
+        TEST(answers(answer, 0, 0, 1) && reports(&report, 3, 258, SUM_MESSAGE) && untouched_from(one));
+        TEST(answers(summed(rules, BYTES(SUM_BESIDE_V)), 0, 0, flat) && untouched_from(flat * one));
+        TEST(answers(summed(rules, BYTES(SUM_OVER_V)), 0, 0, flat) && untouched_from(flat * one));
+        TEST(answers(summed(rules, BYTES(SUM_IN_ARGUMENT)), 0, 0, 1 - flat) && untouched_from((1 - flat) * one));
+        TEST(refuses(summed(rules, BYTES(SCHEMA)), DOGWOOD_OTHER_MARK, DOGWOOD_CONDITION));
+        answer = dogwood_sums_with((uint8_t)rules, BYTES(WRONG_SUM), fresh(), one - 1);
+        TEST(refuses(answer, DOGWOOD_NO_SPACE, DOGWOOD_NO_RECORD));
+    }
+    TEST(answers(dogwood_sums_with(DOGWOOD_OWN_BODIES, NULL, 0, NULL, 0), DOGWOOD_CUT, DOGWOOD_CONDITION, 0));
 }
 
 /* ─── Windows ─── */
@@ -571,8 +673,10 @@ int main(void) {
     test_check_space();
     test_check_with();
     test_strict();
+    test_own_bodies();
     test_check_with_refusals();
     test_sums();
+    test_sums_with();
     test_windows();
     test_values();
     test_decimals();
