@@ -50,6 +50,13 @@ extern "C" {
     ) -> ReturnedCheck;
     fn dogwood_sums(condition: *const u8, condition_length: usize, reports: *mut u8, reports_length: usize)
         -> Returned;
+    fn dogwood_sums_with(
+        rules: u8,
+        condition: *const u8,
+        condition_length: usize,
+        reports: *mut u8,
+        reports_length: usize,
+    ) -> Returned;
     fn dogwood_windows(
         condition: *const u8,
         condition_length: usize,
@@ -134,6 +141,11 @@ pub(crate) fn check_with(
 pub(crate) fn sums(condition: &[u8], reports: &mut [u8]) -> Returned {
     // SAFETY: as for `check`.
     unsafe { dogwood_sums(condition.as_ptr(), condition.len(), reports.as_mut_ptr(), reports.len()) }
+}
+
+pub(crate) fn sums_with(rules: u8, condition: &[u8], reports: &mut [u8]) -> Returned {
+    // SAFETY: as for `check`.
+    unsafe { dogwood_sums_with(rules, condition.as_ptr(), condition.len(), reports.as_mut_ptr(), reports.len()) }
 }
 
 pub(crate) fn windows(condition: &[u8], period: u64, output: &mut [u8]) -> Returned {

@@ -30,9 +30,9 @@
 //!
 //! # Two layers
 //!
-//! [`check_with`], [`sums_into`], [`windows_into`] and [`lookup_into`] take lent space and allocate nothing; [`check_into`] takes a lent
-//! buffer, and workspace of its own where a request may have very many reports. [`Reports`] and [`ScopePath::decode`]
-//! read what they write. [`check`], [`sums`] and [`lookup`] take the space they need, up to [`MOST_SPACE`], and give owned
+//! [`check_with`], [`sums_into`], [`sums_with`], [`windows_into`] and [`lookup_into`] take lent space and allocate nothing;
+//! [`check_into`] takes a lent buffer, and workspace of its own where a request may have very many reports. [`check_with`]
+//! and [`sums_with`] also take the caller's [`Rules`]. [`Reports`] and [`ScopePath::decode`] read what they write. [`check`], [`sums`] and [`lookup`] take the space they need, up to [`MOST_SPACE`], and give owned
 //! values; [`Findings`] say whether there were more reports than that holds.
 //!
 //! Any bytes may be given as records: what is no record is refused, with a [`Cause`] and the record that it is about. A
@@ -82,7 +82,7 @@ pub use encode::{Class, EncodeError, Problem, MOST_BYTES, MOST_LEVELS, MOST_TEXT
 pub use findings::Findings;
 pub use operations::{
     check, check_into, check_with, lookup, lookup_into, read_condition, read_path, read_schema, read_targets, sums,
-    sums_into, windows, windows_into, workspace_for, write_decimal_into, MOST_SPACE,
+    sums_into, sums_with, windows, windows_into, workspace_for, write_decimal_into, MOST_SPACE,
 };
 pub use path::{Path, Scope};
 pub use refusal::{Cause, RecordKind, Refusal};

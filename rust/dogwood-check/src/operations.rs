@@ -156,6 +156,28 @@ pub fn sums_into(condition: &[u8], reports: &mut [u8]) -> Answer {
     Answer::new(ffi::sums(condition, reports))
 }
 
+/// The sums of [`sums_into`] with [`Rules`] that the caller chooses. Only [`Rules::own_bodies`] makes a difference: the
+/// binder of a summand is then the last of its name in the sum's own list, else the innermost around the sum, and where
+/// there is none the sum is not reported.
+///
+/// ```
+/// use dogwood_check::{sums_with, Aggregate, Binder, Condition, Operator, Rules, Term};
+///
+/// // 1 == (sum v for (v: Long). where ..) && exists (v: String). ..
+/// let sum = Aggregate::sum(5..35, "v", [Binder::new("v", "Long")], Condition::call(30..34));
+/// let left = Condition::comparison(0..35, Operator::Eq, Term::Integer, Term::aggregate(sum));
+/// let right = Condition::exists(39..60, Binder::new("v", "String"), Condition::call(56..60));
+/// let condition = Condition::and(0..60, left, right).encode()?;
+/// let mut buffer = [0; 1024];
+///
+/// assert_eq!(sums_with(Rules::plain(), &condition, &mut buffer).count, 1);
+/// assert_eq!(sums_with(Rules::own_bodies(), &condition, &mut buffer).count, 0);
+/// # Ok::<(), dogwood_check::EncodeError>(())
+/// ```
+pub fn sums_with(rules: Rules, condition: &[u8], reports: &mut [u8]) -> Answer {
+    Answer::new(ffi::sums_with(rules.bits(), condition, reports))
+}
+
 /// Lists the windows of a condition in sweeps of a period of so many seconds, with a lent buffer for the entries.
 ///
 /// Without refusal the buffer begins with [`count`](Answer::count) entries, which [`ListedWindows`] decodes. After

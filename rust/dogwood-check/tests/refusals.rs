@@ -83,6 +83,8 @@ const CHECK: Operation = (&[RecordKind::Schema, RecordKind::Condition, RecordKin
     answer.answer
 });
 const SUMS: Operation = (&[RecordKind::Condition], |records, buffer| sums_into(&records[0], buffer));
+const OWN_SUMS: Operation =
+    (&[RecordKind::Condition], |records, buffer| sums_with(Rules::own_bodies(), &records[0], buffer));
 const WINDOWS: Operation = (&[RecordKind::Condition], |records, buffer| windows_into(&records[0], 60, buffer));
 const LOOKUP: Operation = (&[RecordKind::Schema, RecordKind::Targets, RecordKind::Path], |records, buffer| {
     lookup_into(&records[0], &records[1], &records[2], buffer)
@@ -116,7 +118,7 @@ fn the_readers_refuse() {
 
 #[test]
 fn the_operations_refuse() {
-    for operation in [CHECK, SUMS, WINDOWS, LOOKUP] {
+    for operation in [CHECK, SUMS, OWN_SUMS, WINDOWS, LOOKUP] {
         for (place, record) in operation.0.iter().enumerate() {
             for (cause, bytes) in Cause::ALL.into_iter().filter_map(|cause| Some((cause, offending(*record, cause)?))) {
                 let mut records: Vec<Vec<u8>> = operation.0.iter().map(|record| good(*record).to_vec()).collect();
