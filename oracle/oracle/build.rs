@@ -6,7 +6,7 @@
 use std::path::PathBuf;
 use std::{env, fs};
 
-const FUNCTIONS: [&str; 10] = [
+const FUNCTIONS: [&str; 11] = [
     "dogwood_read_schema",
     "dogwood_read_condition",
     "dogwood_read_targets",
@@ -14,6 +14,7 @@ const FUNCTIONS: [&str; 10] = [
     "dogwood_check",
     "dogwood_check_with",
     "dogwood_sums",
+    "dogwood_sums_with",
     "dogwood_windows",
     "dogwood_lookup",
     "dogwood_write_decimal",

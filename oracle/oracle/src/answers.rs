@@ -1,8 +1,10 @@
 //! Check, Sums, the listing of windows and Lookup: records in, an answer and the bytes of a lent buffer out.
 
+use crate::own::Binding;
 use crate::records::{self, Refusal, Scope, TargetsRecord};
 use dogwood_rust::extension::temporal::schema_info::{RichType, SchemaInfo, ScopePath};
 use dogwood_rust::extension::temporal::validate::{self, LeafError};
+use std::collections::HashSet;
 
 /// What an operation returns.
 #[derive(Debug, Clone, Copy, PartialEq, Eq)]
@@ -40,26 +42,55 @@ pub fn read_number<T>(read: Result<T, Refusal>) -> u8 {
 }
 
 pub fn check(schema: &[u8], condition: &[u8], targets: &[u8], reports: &mut [u8]) -> Answer {
-    match check_errors(schema, condition, targets) {
+    check_by(Binding::Flat, [schema, condition, targets], reports)
+}
+
+/// A check in which names are bound so.
+pub fn check_by(binding: Binding, records: [&[u8]; 3], reports: &mut [u8]) -> Answer {
+    match check_errors(binding, records) {
         Ok(errors) => write_reports(&errors, reports),
         Err(answer) => answer,
     }
 }
 
 /// The reports of a check before they are written, or the answer that refuses a record.
-pub fn check_errors(schema: &[u8], condition: &[u8], targets: &[u8]) -> Result<Vec<LeafError>, Answer> {
+pub fn check_errors(binding: Binding, [schema, condition, targets]: [&[u8]; 3]) -> Result<Vec<LeafError>, Answer> {
     let schema = records::read_schema(schema).map_err(|r| Answer::refused(SCHEMA, r))?;
     let read = records::read_condition(condition).map_err(|r| Answer::refused(CONDITION, r))?;
     let targets = records::read_targets(targets).map_err(|r| Answer::refused(TARGETS, r))?;
     let info = SchemaInfo::from_validator_schema(&schema);
-    Ok(read
+    let asked = binding.checked(read.condition);
+    let errors = read
         .field_paths
-        .in_force(|| validate::oracle_check_types(&read.condition, &info, &targets.targets, targets.narrowing())))
+        .in_force(|| validate::oracle_check_types(&asked, &info, &targets.targets, targets.narrowing()));
+    Ok(match binding {
+        Binding::Flat => errors,
+        Binding::Own => each_once(said(binding, errors)),
+    })
+}
+
+/// What the Rust reports, with the names as they were.
+fn said(binding: Binding, errors: Vec<LeafError>) -> Vec<LeafError> {
+    errors.into_iter().map(|error| LeafError { message: binding.said(error.message), ..error }).collect()
+}
+
+/// The first of each pair of message and start.
+pub fn each_once(errors: Vec<LeafError>) -> Vec<LeafError> {
+    let mut seen = HashSet::new();
+    errors.into_iter().filter(|e| seen.insert((e.message.clone(), e.span.map(|span| span.start)))).collect()
 }
 
 pub fn sums(condition: &[u8], reports: &mut [u8]) -> Answer {
+    sums_by(Binding::Flat, condition, reports)
+}
+
+/// The sums where names are bound so.
+pub fn sums_by(binding: Binding, condition: &[u8], reports: &mut [u8]) -> Answer {
     match records::read_condition(condition) {
-        Ok(read) => write_reports(&validate::oracle_check_sum_summands(&read.condition), reports),
+        Ok(read) => {
+            let errors = validate::oracle_check_sum_summands(&binding.summed(read.condition));
+            write_reports(&said(binding, errors), reports)
+        }
         Err(refusal) => Answer::refused(CONDITION, refusal),
     }
 }

@@ -4,6 +4,7 @@
 use crate::answers::{self, Answer};
 use crate::examples::{strict, windows};
 use crate::hex;
+use crate::own::Binding;
 use crate::pieces::Piece;
 use crate::records;
 use crate::rng::Rng;
@@ -27,10 +28,14 @@ pub enum Operation {
     Terms,
     /// The strict check, of the examples alone.
     Strict,
+    /// The check with binders in their own bodies.
+    Own,
+    /// The sums with binders in their own bodies.
+    OwnSums,
 }
 
 impl Operation {
-    /// Those that the Rust judges.
+    /// Those that the Rust judges as it is.
     pub const ALL: [Operation; 9] = [
         Operation::ReadSchema,
         Operation::ReadCondition,
@@ -56,6 +61,25 @@ impl Operation {
             Operation::Windows => 'w',
             Operation::Terms => 'e',
             Operation::Strict => 'x',
+            Operation::Own => 'o',
+            Operation::OwnSums => 'n',
+        }
+    }
+
+    /// How names are bound.
+    pub fn binding(self) -> Binding {
+        match self {
+            Operation::Own | Operation::OwnSums => Binding::Own,
+            _ => Binding::Flat,
+        }
+    }
+
+    /// The operation with binders in their own bodies, where there is one.
+    pub fn with_own_bodies(self) -> Option<Operation> {
+        match self {
+            Operation::Check => Some(Operation::Own),
+            Operation::Sums => Some(Operation::OwnSums),
+            _ => None,
         }
     }
 }
@@ -118,18 +142,20 @@ impl Case {
         self.rust_outcome()
     }
 
-    /// What the published Rust says, of marked cases too; a strict check, which it has not, is an example's.
+    /// What the published Rust says, of marked cases too; with own bodies, of the condition whose binders are named apart; a
+    /// strict check, which it has not, is an example's.
     pub fn rust_outcome(&self) -> Option<Outcome> {
-        let r = &self.records;
+        let (r, binding) = (&self.records, self.operation.binding());
         Some(match self.operation {
             Operation::ReadSchema => Outcome::Number(answers::read_number(records::read_schema(&r[0]))),
             Operation::ReadCondition => Outcome::Number(answers::read_number(records::read_condition(&r[0]))),
             Operation::ReadTargets => Outcome::Number(answers::read_number(records::read_targets(&r[0]))),
             Operation::ReadPath => Outcome::Number(answers::read_number(records::read_path(&r[0]))),
-            Operation::Check => {
-                self.in_buffer(|buffer| visits::counted(answers::check(&r[0], &r[1], &r[2], buffer), r, self.size))
-            }
-            Operation::Sums => self.in_buffer(|buffer| answers::sums(&r[0], buffer)),
+            Operation::Check | Operation::Own => self.in_buffer(|buffer| {
+                let answer = answers::check_by(binding, [&r[0], &r[1], &r[2]], buffer);
+                visits::counted(binding, answer, r, self.size)
+            }),
+            Operation::Sums | Operation::OwnSums => self.in_buffer(|buffer| answers::sums_by(binding, &r[0], buffer)),
             Operation::Lookup => self.in_buffer(|buffer| answers::lookup(&r[0], &r[1], &r[2], buffer)),
             Operation::Windows => self.in_buffer(|buffer| answers::windows(&r[0], windows::period_of(&r[1]), buffer)),
             Operation::Terms => Outcome::Types(answers::operand_types(&r[0], &r[1], &r[2], self.size)?),

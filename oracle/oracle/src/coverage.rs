@@ -46,6 +46,20 @@ impl Coverage {
         }
     }
 
+    /// A case with binders in their own bodies, beside the one without.
+    pub fn note_own(&mut self, own: &Case, cannot_differ: bool) {
+        let letter = own.operation.letter();
+        self.add(format!("own bodies {letter}"), 1);
+        if cannot_differ {
+            self.add(format!("own bodies {letter}, as without: it has to be"), 1);
+            return;
+        }
+        let flat = if own.operation == Operation::Own { Operation::Check } else { Operation::Sums };
+        if own.outcome() != (Case { operation: flat, ..own.clone() }).outcome() {
+            self.add(format!("own bodies {letter}, otherwise than without"), 1);
+        }
+    }
+
     /// A marked case of whose outcome only a part is known.
     pub fn note_in_part(&mut self, case: &Case) {
         self.add(format!("marked     {}, judged in part", case.operation.letter()), 1);
@@ -58,7 +72,9 @@ impl Coverage {
     fn note_output(&mut self, operation: Operation, number: u8, count: usize, buffer: &[u8]) {
         match operation {
             Operation::Lookup if number == 0 => self.add(format!("lookup     {}", LOOKUP_CASES[buffer[0] as usize]), 1),
-            Operation::Check | Operation::Strict | Operation::Sums => self.note_reports(count, buffer),
+            Operation::Check | Operation::Strict | Operation::Own | Operation::Sums | Operation::OwnSums => {
+                self.note_reports(count, buffer)
+            }
             Operation::Windows => self.add("windows    listed".to_string(), count),
             _ => {}
         }

@@ -1,6 +1,7 @@
 //! The examples of document 01 and of the readings of its open points, in a table of our own.
 
 pub mod bytes;
+pub mod own;
 pub mod rules;
 pub mod strict;
 pub mod times;

@@ -44,7 +44,7 @@ pub fn scene_in(rng: &mut Rng, operation: Operation, version: u8) -> Scene {
 fn condition_for(rng: &mut Rng, operation: Operation, world: &World) -> Piece {
     match operation {
         Operation::Terms => conditions::comparison_record(rng, world),
-        Operation::Sums => conditions::summing_record(rng, world),
+        Operation::Sums | Operation::OwnSums => conditions::summing_record(rng, world),
         Operation::Windows => conditions::looking_back_record(rng, world),
         _ => conditions::condition_record(rng, world),
     }
@@ -106,6 +106,19 @@ pub fn timed_draft(rng: &mut Rng, operation: Operation) -> Draft {
     draft_with(rng, operation, scene)
 }
 
+/// A fresh draft with a condition in which it nearly never matters how names are bound; every fourth has a damaged record.
+pub fn scoped_draft(rng: &mut Rng, operation: Operation) -> Draft {
+    if operation == Operation::Terms {
+        // terms want a comparison as their root
+        return draft(rng, operation);
+    }
+    let (world, version) = (World::random(rng), rng.one(&[1, 2, 3]));
+    let condition = conditions::scoped_record(rng, &world);
+    let condition = in_version(rng, condition, version);
+    let scene = scene_with(rng, world, condition);
+    draft_with(rng, operation, scene)
+}
+
 fn draft_with(rng: &mut Rng, operation: Operation, scene: Scene) -> Draft {
     let mut draft = draft_of(rng, operation, scene);
     if operation != Operation::Terms && rng.chance(1, 4) {
@@ -137,11 +150,11 @@ fn draft_of(rng: &mut Rng, operation: Operation, scene: Scene) -> Draft {
     let Scene { schema, condition, targets, path, targets_count } = scene;
     let records = match operation {
         Operation::ReadSchema => vec![schema],
-        Operation::ReadCondition | Operation::Sums => vec![condition],
+        Operation::ReadCondition | Operation::Sums | Operation::OwnSums => vec![condition],
         Operation::Windows => vec![condition, Piece::Field(windows::period(rng))],
         Operation::ReadTargets => vec![targets],
         Operation::ReadPath => vec![path],
-        Operation::Check | Operation::Terms | Operation::Strict => vec![schema, condition, targets],
+        Operation::Check | Operation::Own | Operation::Terms | Operation::Strict => vec![schema, condition, targets],
         Operation::Lookup => vec![schema, targets, path],
     };
     let size = match operation {

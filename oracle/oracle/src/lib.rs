@@ -12,6 +12,7 @@ pub mod examples;
 pub mod generate;
 pub mod hex;
 pub mod lists;
+pub mod own;
 pub mod pieces;
 pub mod plot;
 pub mod records;

@@ -71,6 +71,13 @@ extern "C" {
     ) -> ReturnedCheck;
     fn dogwood_sums(condition: *const u8, condition_length: usize, reports: *mut u8, reports_length: usize)
         -> Returned;
+    fn dogwood_sums_with(
+        rules: u8,
+        condition: *const u8,
+        condition_length: usize,
+        reports: *mut u8,
+        reports_length: usize,
+    ) -> Returned;
     fn dogwood_windows(
         condition: *const u8,
         condition_length: usize,
@@ -132,6 +139,10 @@ pub fn check(schema: &[u8], condition: &[u8], targets: &[u8], reports: &mut [u8]
 #[allow(dead_code)]
 pub const STRICT: u8 = 1;
 
+/// The bit of `rules` that gives each binder its own body.
+#[allow(dead_code)]
+pub const OWN_BODIES: u8 = 2;
+
 /// The check with lent workspace: slots of any number that hold anything.
 #[allow(dead_code)]
 pub fn check_with(
@@ -152,6 +163,12 @@ pub fn check_with(
 
 pub fn sums(condition: &[u8], reports: &mut [u8]) -> Option<Answer> {
     let returned: Option<Returned> = called!(has_dogwood_sums, dogwood_sums, [condition], [reports]);
+    returned.map(Returned::answer)
+}
+
+#[allow(dead_code)]
+pub fn sums_with(rules: u8, condition: &[u8], reports: &mut [u8]) -> Option<Answer> {
+    let returned: Option<Returned> = called!(has_dogwood_sums_with, dogwood_sums_with, [rules], [condition], [reports]);
     returned.map(Returned::answer)
 }
 
@@ -191,12 +208,27 @@ pub fn outcome(case: &Case) -> Option<Outcome> {
         Operation::Sums => case.in_buffer(|buffer| noted(&mut answer, sums(&r[0], buffer))),
         Operation::Lookup => case.in_buffer(|buffer| noted(&mut answer, lookup(&r[0], &r[1], &r[2], buffer))),
         Operation::Windows => case.in_buffer(|buffer| noted(&mut answer, windows(&r[0], period_of(&r[1]), buffer))),
-        Operation::Strict => {
-            case.in_buffer(|buffer| noted(&mut answer, check_with(STRICT, [&r[0], &r[1], &r[2]], buffer, &mut [0; 8])))
-        }
+        Operation::Strict => return ruled(STRICT, case),
+        Operation::Own | Operation::OwnSums => return ruled(OWN_BODIES, case),
         Operation::Terms => return None,
         reading => return read(reading, &r[0]).map(Outcome::Number),
     };
+    answer.map(|_| outcome)
+}
+
+/// The library's outcome of a check or of sums by these rules, with few slots of workspace, whatever the rules of the case
+/// are; none where it lacks the function.
+#[allow(dead_code)]
+pub fn ruled(rules: u8, case: &Case) -> Option<Outcome> {
+    let r = &case.records;
+    let mut answer = None;
+    let outcome = case.in_buffer(|buffer| {
+        let given = match case.operation {
+            Operation::Sums | Operation::OwnSums => sums_with(rules, &r[0], buffer),
+            _ => check_with(rules, [&r[0], &r[1], &r[2]], buffer, &mut [0; 8]),
+        };
+        noted(&mut answer, given)
+    });
     answer.map(|_| outcome)
 }
 

@@ -2,7 +2,7 @@
 
 use crate::cases::{self, Case, Draft, Operation, Outcome};
 use crate::coverage::Coverage;
-use crate::examples::{bytes, rules, strict, times as timed_examples, values, visits, windows};
+use crate::examples::{bytes, own as bound_examples, rules, strict, times as timed_examples, values, visits, windows};
 use crate::generate::{self, boundaries, compared};
 use crate::pieces::{self, Piece};
 use crate::rng::Rng;
@@ -64,6 +64,13 @@ pub fn all() -> Vec<List> {
                    others the Rust was asked with decimal and Bool in the place of the two types: its words were exchanged, \
                    and what it reports of the order of two alike was left out.",
             cases: timed(),
+        },
+        List {
+            file: "own.cases",
+            form: "k and o (schema, condition, targets), m and n (condition). k and m as in the lists of these letters; o and \
+                   n are the same operations with binders in their own bodies, which the Rust has not: it was asked with \
+                   the binders named apart, and the names were put back in what it says.",
+            cases: bound(),
         },
         List {
             file: "terms.cases",
@@ -130,7 +137,7 @@ fn kept(
     count: usize,
     draft: fn(&mut Rng, Operation) -> Draft,
     may_be: fn(&Case) -> bool,
-    shows_little: fn(&Case) -> bool,
+    shows_little: impl Fn(&Case) -> bool,
 ) -> Vec<Case> {
     let mut rng = Rng::new(seed ^ operation.letter() as u64);
     let mut cases = Vec::new();
@@ -287,6 +294,25 @@ fn timed() -> Vec<Case> {
         let is_judged = |case: &Case| times::is_marked(case) && case.outcome().is_some();
         let says_the_same = |case: &Case| case.outcome() == case.rust_outcome();
         cases.extend(kept(SEED, operation, count, generate::timed_draft, is_judged, says_the_same));
+    }
+    once(cases)
+}
+
+/// The examples of binders in their own bodies, each beside the same operation without, and random cases. Where the bodies
+/// make no difference, a case shows little.
+fn bound() -> Vec<Case> {
+    let mut cases = Vec::new();
+    for e in bound_examples::all() {
+        for (operation, message) in e.answered() {
+            let reports: Vec<_> = message.into_iter().map(|message| (0, 0, message.to_string())).collect();
+            cases.extend(at_three_sizes(operation, e.records.clone(), &reports));
+        }
+    }
+    for (operation, flat, count) in
+        [(Operation::Own, Operation::Check, 200), (Operation::OwnSums, Operation::Sums, 120)]
+    {
+        let says_the_same = |case: &Case| case.outcome() == Case { operation: flat, ..case.clone() }.outcome();
+        cases.extend(kept(SEED, operation, count, generate::draft, |case| !times::is_marked(case), says_the_same));
     }
     once(cases)
 }

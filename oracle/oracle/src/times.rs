@@ -15,7 +15,6 @@ use crate::cases::{Case, Operation, Outcome};
 use crate::examples;
 use crate::records::{self, Named, Saying, Time, Words};
 use crate::visits;
-use std::collections::HashSet;
 
 /// The mark: whether an extension type's simple name or an annotation's last segment is one of the two words, in a case
 /// whose outcome depends on types.
@@ -27,7 +26,7 @@ pub fn is_marked(case: &Case) -> bool {
 fn words(case: &Case) -> [Words; 3] {
     let r = &case.records;
     match case.operation {
-        Operation::Check | Operation::Strict | Operation::Terms => {
+        Operation::Check | Operation::Strict | Operation::Own | Operation::Terms => {
             [records::words_of_schema(&r[0]), records::words_of_condition(&r[1]), Words::default()]
         }
         Operation::Lookup => [records::words_of_schema(&r[0]), Words::default(), Words::default()],
@@ -109,9 +108,10 @@ impl Exchange {
     pub fn outcome(&self) -> Option<Outcome> {
         let (r, size) = (&self.case.records, self.case.size);
         Some(match self.case.operation {
-            Operation::Check => self.case.in_buffer(|buffer| {
+            Operation::Check | Operation::Own => self.case.in_buffer(|buffer| {
                 let answer = self.check(buffer);
-                visits::counted_saying(answer, r, size, |message| self.message(&message))
+                let binding = self.case.operation.binding();
+                visits::counted_saying(binding, answer, r, size, |message| self.message(&message))
             }),
             Operation::Lookup => self.case.in_buffer(|buffer| match answers::look_up(&r[0], &r[1], &r[2]) {
                 Ok(found) => self.found(found).write(buffer),
@@ -128,14 +128,14 @@ impl Exchange {
     /// Reports that say the same once the words are put back are one: an entity type may be called as the type is.
     fn check(&self, buffer: &mut [u8]) -> Answer {
         let r = &self.case.records;
-        let mut said = HashSet::new();
-        match answers::check_errors(&r[0], &r[1], &r[2]) {
+        match answers::check_errors(self.case.operation.binding(), [&r[0], &r[1], &r[2]]) {
             Ok(errors) => {
                 let amended = errors.into_iter().filter_map(|mut error| {
                     error.message = self.message(&error.message)?;
-                    said.insert((error.message.clone(), error.span.map(|span| span.start))).then_some(error)
+                    Some(error)
                 });
-                answers::write_all(amended.map(|error| report_bytes(&error)), buffer)
+                let reports = answers::each_once(amended.collect());
+                answers::write_all(reports.iter().map(report_bytes), buffer)
             }
             Err(answer) => answer,
         }

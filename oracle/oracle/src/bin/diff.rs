@@ -6,6 +6,10 @@
 //! is made strictly, with space for all reports, where every pair of the plain one has to be among the strict ones, and the
 //! visits are as many. As many numbers are written as decimals, and read back.
 //!
+//! Each check and each sums is made with binders in their own bodies too, and held against what the Rust says of the
+//! condition whose binders are named apart (`oracle::own`); and where the two ways of binding cannot differ, against the
+//! one without, to the byte, strictly too.
+//!
 //! A case with the types `datetime` and `duration` is marked, and not held to what the Rust says of it: `oracle::times` has
 //! what is known of its outcome, the whole of it where other types can stand for the two, and else a part.
 
@@ -14,7 +18,7 @@ mod library;
 
 use oracle::cases::{Case, Draft, Operation, Outcome, FILL};
 use oracle::coverage::Coverage;
-use oracle::{decimals, generate, hex, lists, rng::Rng, shrink, times, workloads};
+use oracle::{decimals, generate, hex, lists, own, rng::Rng, shrink, times, workloads};
 use std::collections::BTreeSet;
 use std::time::{SystemTime, UNIX_EPOCH};
 
@@ -29,8 +33,9 @@ fn main() {
     let mut operations = library::operations();
     operations.retain(|o| wanted.as_ref().is_none_or(|letters| letters.contains(o.letter())));
     let letters: String = operations.iter().map(|o| o.letter()).collect();
-    let lends =
-        library::check_with(0, [&[]; 3], &mut [], &mut []).is_some() && library::write_decimal(0, &mut []).is_some();
+    let lends = library::check_with(0, [&[]; 3], &mut [], &mut []).is_some()
+        && library::sums_with(0, &[], &mut []).is_some()
+        && library::write_decimal(0, &mut []).is_some();
     if operations.is_empty() || wanted.is_none() && (operations.len() < COMPARED || !lends) {
         println!("oracle: NOTHING COMPARED, the static library is not there or lacks functions: it has '{letters}'");
         std::process::exit(1);
@@ -56,9 +61,16 @@ fn compare_stored(operations: &[Operation]) -> usize {
     let large =
         workloads::all().into_iter().chain(crowded).chain(names).chain(workloads::timed()).flat_map(|w| w.cases());
     let all = lists::all().into_iter().flat_map(|list| list.cases).chain(large);
-    let has = |operation| operations.contains(&operation);
+    let has = |operation: Operation| {
+        let plain = match operation {
+            Operation::Strict | Operation::Own => Operation::Check,
+            Operation::OwnSums => Operation::Sums,
+            other => other,
+        };
+        operations.contains(&plain)
+    };
     let mut compared = 0;
-    for case in all.filter(|c| has(c.operation) || c.operation == Operation::Strict && has(Operation::Check)) {
+    for case in all.filter(|c| has(c.operation)) {
         if differs(&case) {
             show(&case);
             std::process::exit(1);
@@ -77,6 +89,7 @@ fn compare_fresh(operations: &[Operation], count: usize, seed: u64) -> Coverage 
             0 => generate::large_draft(&mut rng, operation),
             1 | 2 => generate::compared_draft(&mut rng, operation),
             3..=14 => generate::timed_draft(&mut rng, operation),
+            15..=24 => generate::scoped_draft(&mut rng, operation),
             _ => generate::draft(&mut rng, operation),
         };
         let case = draft.case();
@@ -89,8 +102,16 @@ fn compare_fresh(operations: &[Operation], count: usize, seed: u64) -> Coverage 
             Some(outcome) => coverage.note(&case, &outcome),
             None => coverage.note_in_part(&case),
         }
+        if let Some(own) = in_own_bodies(&case) {
+            coverage.note_own(&own, cannot_differ(&case));
+        }
     }
     coverage
+}
+
+/// The case with binders in their own bodies, of a check and of sums.
+fn in_own_bodies(case: &Case) -> Option<Case> {
+    Some(Case { operation: case.operation.with_own_bodies()?, ..case.clone() })
 }
 
 /// The examples and as many random numbers, written by the library into buffers of lengths that show something.
@@ -113,7 +134,28 @@ fn compare_decimals(count: usize, seed: u64) {
 }
 
 fn differs(case: &Case) -> bool {
-    is_contradicted(case) || lent_differs(case) || strict_lacks(case)
+    is_contradicted(case)
+        || lent_differs(case)
+        || strict_lacks(case)
+        || in_own_bodies(case).is_some_and(|own| is_contradicted(&own))
+        || bindings_differ(case)
+}
+
+/// Whether the binders' bodies make a difference where they cannot, in the plain check, in the strict one or in the sums.
+fn bindings_differ(case: &Case) -> bool {
+    const RULES: [u8; 2] = [0, library::STRICT];
+    cannot_differ(case)
+        && RULES
+            .into_iter()
+            .any(|rules| library::ruled(rules, case) != library::ruled(rules | library::OWN_BODIES, case))
+}
+
+fn cannot_differ(case: &Case) -> bool {
+    match case.operation {
+        Operation::Check => own::checks_are_alike(&case.records[1]),
+        Operation::Sums => own::sums_are_alike(&case.records[0]),
+        _ => false,
+    }
 }
 
 /// Whether the library's outcome is not what the oracle knows of it: all of it, or of some marked cases a part.
@@ -185,8 +227,8 @@ fn lent_differs(case: &Case) -> bool {
     outcome != library::outcome(case) || refused && left != workspace
 }
 
-/// A rules byte without the strict bit and workspace: none, a slot, a few, many, enough for the buffer. The case alone decides, so that one that
-/// is made smaller is tried in the same way every time.
+/// A rules byte without the two bits that have a meaning, and workspace: none, a slot, a few, many, enough for the buffer.
+/// The case alone decides, so that one that is made smaller is tried in the same way every time.
 fn lent_to(case: &Case) -> (u8, Vec<u32>) {
     let sum: u64 = case.records.iter().flatten().map(|byte| u64::from(*byte)).sum();
     let mut rng = Rng::new(sum ^ (case.size as u64) << 32);
@@ -197,7 +239,7 @@ fn lent_to(case: &Case) -> (u8, Vec<u32>) {
         3 => rng.below(3_000),
         _ => workloads::workspace_for(case.size),
     };
-    let rules = rng.below(256) as u8 & !library::STRICT;
+    let rules = rng.below(256) as u8 & !(library::STRICT | library::OWN_BODIES);
     // places in the buffer are what would do harm, were they believed
     let bound = rng.one(&[1, case.size + 2, 1 << 32]);
     (rules, (0..slots).map(|_| rng.below(bound) as u32).collect())
@@ -221,6 +263,10 @@ fn show(case: &Case) {
         println!("  which is marked; wanted: {}", shown(case.outcome()));
     }
     println!("  ours:     {}", shown(library::outcome(case)));
+    if let Some(own) = in_own_bodies(case) {
+        println!("  own bodies, wanted: {}", shown(own.outcome()));
+        println!("  own bodies, ours:   {}", shown(library::outcome(&own)));
+    }
     if case.operation == Operation::Check {
         let (rules, workspace) = lent_to(case);
         println!(

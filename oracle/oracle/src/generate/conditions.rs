@@ -27,21 +27,21 @@ const ANNOTATIONS: [&[&str]; 14] = [
 const DEEPEST_ARRAY: usize = 8;
 
 pub fn condition_record(rng: &mut Rng, world: &World) -> Piece {
-    let mut maker = Maker { budget: 4 + rng.below(20), rng, world, summing: false };
+    let mut maker = Maker { budget: 4 + rng.below(20), rng, world, summing: false, scopes: None };
     let root = maker.conjunction(5);
     pieces::condition_record(root)
 }
 
 /// A condition with many sums in it.
 pub fn summing_record(rng: &mut Rng, world: &World) -> Piece {
-    let mut maker = Maker { budget: 4 + rng.below(12), rng, world, summing: true };
+    let mut maker = Maker { budget: 4 + rng.below(12), rng, world, summing: true, scopes: None };
     let root = maker.conjunction(3);
     pieces::condition_record(root)
 }
 
 /// A condition in which much looks back.
 pub fn looking_back_record(rng: &mut Rng, world: &World) -> Piece {
-    let mut maker = Maker { budget: 4 + rng.below(12), rng, world, summing: true };
+    let mut maker = Maker { budget: 4 + rng.below(12), rng, world, summing: true, scopes: None };
     let root = maker.conjunction(3);
     let deeper = (0..maker.rng.below(6)).fold(root, |inner, _| {
         let at = maker.span();
@@ -56,14 +56,24 @@ pub fn looking_back_record(rng: &mut Rng, world: &World) -> Piece {
 
 /// A condition of many nodes, often deep enough to pass the last level.
 pub fn large_record(rng: &mut Rng, world: &World) -> Piece {
-    let mut maker = Maker { budget: 100 + rng.below(400), rng, world, summing: false };
+    let mut maker = Maker { budget: 100 + rng.below(400), rng, world, summing: false, scopes: None };
     let root = maker.conjunction(20);
     let deeper = (0..rng.below(30)).fold(root, |inner, _| condition(rng.one(&[3, 4, 5, 13]), (0, 0), vec![inner]));
     pieces::condition_record(deeper)
 }
 
+/// A condition in which nearly each name is declared once and used in the body of its binder, and an aggregate stands in
+/// no argument, so that it does not matter how names are bound. In one of four a name is like another after all.
+pub fn scoped_record(rng: &mut Rng, world: &World) -> Piece {
+    let scopes = Scopes { made: 0, around: Vec::new(), repeats: rng.chance(1, 4) };
+    let (budget, summing) = (8 + rng.below(24), rng.chance(1, 2));
+    let mut maker = Maker { budget, rng, world, summing, scopes: Some(scopes) };
+    let root = maker.conjunction(6);
+    pieces::condition_record(root)
+}
+
 pub fn comparison_record(rng: &mut Rng, world: &World) -> Piece {
-    let mut maker = Maker { budget: 4 + rng.below(16), rng, world, summing: false };
+    let mut maker = Maker { budget: 4 + rng.below(16), rng, world, summing: false, scopes: None };
     let root = maker.comparison(4);
     pieces::condition_record(root)
 }
@@ -75,6 +85,15 @@ struct Maker<'a> {
     budget: usize,
     /// Every other term that may be an aggregate is one.
     summing: bool,
+    /// Where names are declared apart and used inside, those that are around.
+    scopes: Option<Scopes>,
+}
+
+struct Scopes {
+    made: usize,
+    around: Vec<String>,
+    /// Whether a binder may have a name that others have too, and that is used outside of its body.
+    repeats: bool,
 }
 
 /// What a term may be, by where it stands.
@@ -126,8 +145,10 @@ impl Maker<'_> {
                 condition(kind, at, vec![inner])
             }
             5..=7 => {
+                let outside = self.around();
                 let binder = self.binder();
                 let body = self.condition(depth - 1);
+                self.leave(outside);
                 exists(at, binder, body)
             }
             8..=10 => self.predicate(depth),
@@ -158,7 +179,7 @@ impl Maker<'_> {
         let (at, own) = (self.span(), self.span());
         let (namespaces, action, paths) = self.world.predicate_of(self.rng);
         let count = self.rng.below(4);
-        let room = Room { depth: depth.saturating_sub(1), arrays: 0, aggregates: true };
+        let room = Room { depth: depth.saturating_sub(1), arrays: 0, aggregates: self.scopes.is_none() };
         let arguments = (0..count)
             .map(|i| {
                 let path = &paths[i % paths.len()];
@@ -172,17 +193,55 @@ impl Maker<'_> {
         predicate(at, own, &namespaces, &action, arguments)
     }
 
+    /// A use.
     fn slot(&mut self) -> Piece {
         match self.rng.below(10) {
             0 => slot(None, 1),
             1 => slot(None, 2),
-            _ => slot(Some(self.rng.one(&VARIABLES)), 0),
+            _ => slot(Some(&self.used()), 0),
+        }
+    }
+
+    /// A name that is used: with scopes mostly one of those around.
+    fn used(&mut self) -> String {
+        match &self.scopes {
+            Some(scopes) if !scopes.around.is_empty() && self.rng.chance(7, 8) => self.rng.pick(&scopes.around).clone(),
+            _ => self.rng.one(&VARIABLES).to_string(),
+        }
+    }
+
+    /// A name that is declared: with scopes a new one.
+    fn declared(&mut self) -> String {
+        match &mut self.scopes {
+            Some(scopes) if !(scopes.repeats && self.rng.chance(1, 4)) => {
+                scopes.made += 1;
+                let name = format!("b{}", scopes.made);
+                scopes.around.push(name.clone());
+                name
+            }
+            _ => self.rng.one(&VARIABLES).to_string(),
         }
     }
 
     fn binder(&mut self) -> Piece {
-        let slot = self.slot();
+        let slot = match self.rng.below(10) {
+            0 => slot(None, 1),
+            1 => slot(None, 2),
+            _ => slot(Some(&self.declared()), 0),
+        };
         binder(slot, self.rng.one(&ANNOTATIONS))
+    }
+
+    /// How many names are around.
+    fn around(&self) -> usize {
+        self.scopes.as_ref().map_or(0, |scopes| scopes.around.len())
+    }
+
+    /// Behind the body of some binders.
+    fn leave(&mut self, outside: usize) {
+        if let Some(scopes) = &mut self.scopes {
+            scopes.around.truncate(outside);
+        }
     }
 
     fn binders(&mut self) -> Vec<Piece> {
@@ -202,7 +261,7 @@ impl Maker<'_> {
             2 => term(3, vec![]),
             3 => term(4, vec![]),
             4 => term(5, vec![]),
-            5 | 6 => var(self.rng.one(&VARIABLES)),
+            5 | 6 => var(&self.used()),
             7..=9 => context_field(&self.world.context_path(self.rng)),
             10..=12 => scope_field(&self.scope_path()),
             13 => wildcard(),
@@ -238,12 +297,18 @@ impl Maker<'_> {
     }
 
     fn aggregate(&mut self, depth: usize) -> Piece {
-        let at = self.span();
-        match self.rng.below(8) {
+        let (at, outside) = (self.span(), self.around());
+        let aggregate = match self.rng.below(8) {
             0 => aggregate_call(at),
             1..=3 => {
                 let binders = self.binders();
                 count(at, binders, self.condition(depth - 1))
+            }
+            _ if self.scopes.is_some() => {
+                let mut binders = self.binders();
+                binders.push(self.binder());
+                let summand = self.slot();
+                sum(at, summand, binders, self.condition(depth - 1))
             }
             _ => {
                 let (summand, mut binders) = (self.slot(), self.binders());
@@ -252,7 +317,9 @@ impl Maker<'_> {
                 }
                 sum(at, summand, binders, self.condition(depth - 1))
             }
-        }
+        };
+        self.leave(outside);
+        aggregate
     }
 
     fn scope_path(&mut self) -> Vec<String> {
