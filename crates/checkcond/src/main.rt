@@ -1,11 +1,12 @@
 // Checks a condition under a target record, and prints the reports. It reads schema.dws, cond.dwc and targets.dwt, or the files
 // that its three arguments name; with any other number of arguments it reads nothing. Of the options before them `--strict` has
-// the strict check made, and `--visits` adds a line with the number of visits.
+// the strict check made, `--own-bodies` gives each binder its own body, and `--visits` adds a line with the number of visits.
 use program::Loaded;
 
-// What the options say, and how many they are: `rules` is 1 where the check is strict, and else 0.
+// What the options say, and how many they are.
 struct Options {
-    rules: u8,
+    strict: bool,
+    own: bool,
     visits: bool,
     count: usize,
 }
@@ -19,17 +20,20 @@ fn main() {
         first(options);
         return;
     }
-    program::print_usage(b"usage: checkcond [--strict] [--visits] [SCHEMA CONDITION TARGETS]\n");
+    program::print_usage(
+        b"usage: checkcond [--strict] [--own-bodies] [--visits] [SCHEMA CONDITION TARGETS]\n",
+    );
 }
 
-// The options: each of the first two arguments may be one.
+// The options: each of the first three arguments may be one.
 fn chosen() -> Options {
     let none = Options {
-        rules: 0,
+        strict: false,
+        own: false,
         visits: false,
         count: 0,
     };
-    one_more(one_more(none))
+    one_more(one_more(one_more(none)))
 }
 
 // With the next argument, where it is an option.
@@ -37,14 +41,24 @@ fn one_more(options: Options) -> Options {
     let at = behind(options, 1);
     if is_word(at, b"--strict") {
         return Options {
-            rules: 1,
+            strict: true,
+            own: options.own,
+            visits: options.visits,
+            count: at,
+        };
+    }
+    if is_word(at, b"--own-bodies") {
+        return Options {
+            strict: options.strict,
+            own: true,
             visits: options.visits,
             count: at,
         };
     }
     if is_word(at, b"--visits") {
         return Options {
-            rules: options.rules,
+            strict: options.strict,
+            own: options.own,
             visits: true,
             count: at,
         };
@@ -62,6 +76,24 @@ fn is_word(i: usize, word: &[u8]) -> bool {
 // The place of an argument behind the options.
 fn behind(options: Options, i: usize) -> usize {
     std::num::wrapping_add_usize(options.count, i)
+}
+
+// The rules that the options choose: 1 is strict, 2 gives each binder its own body, 3 is both.
+fn rules(options: Options) -> u8 {
+    if options.own {
+        return own_rules(options.strict);
+    }
+    if options.strict {
+        return 1;
+    }
+    0
+}
+
+fn own_rules(strict: bool) -> u8 {
+    if strict {
+        return 3;
+    }
+    2
 }
 
 // The schema is read,
@@ -98,7 +130,7 @@ fn run<'a>(options: Options, schema: &'a [u8], condition: &'a [u8], targets: &'a
     let mut space = program::report_space();
     let mut workspace = [0u32; 2048];
     let answer = dogwood::dogwood_check_with(
-        options.rules,
+        rules(options),
         schema,
         condition,
         targets,

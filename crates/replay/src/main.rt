@@ -98,10 +98,10 @@ fn number(letter: u8, record: &[u8]) -> u8 {
     255
 }
 
-// The strict check, with few slots of workspace.
-fn strict<'a>(a: &'a [u8], b: &'a [u8], c: &'a [u8], buffer: &mut [u8]) -> CheckAnswer {
+// The check by rules, with few slots of workspace: 1 is strict, and 2 gives each binder its own body.
+fn ruled<'a>(rules: u8, a: &'a [u8], b: &'a [u8], c: &'a [u8], buffer: &mut [u8]) -> CheckAnswer {
     let mut workspace = [0u32; 8];
-    dogwood::dogwood_check_with(1, a, b, c, buffer, &mut workspace)
+    dogwood::dogwood_check_with(rules, a, b, c, buffer, &mut workspace)
 }
 
 // The answer of an operation that makes no visits.
@@ -126,10 +126,16 @@ fn exported<'a>(
         return dogwood::dogwood_check(a, b, c, buffer);
     }
     if letter == b'x' {
-        return strict(a, b, c, buffer);
+        return ruled(1, a, b, c, buffer);
+    }
+    if letter == b'o' {
+        return ruled(2, a, b, c, buffer);
     }
     if letter == b'm' {
         return unvisited(dogwood::dogwood_sums(a, buffer));
+    }
+    if letter == b'n' {
+        return unvisited(dogwood::dogwood_sums_with(2, a, buffer));
     }
     if letter == b'l' {
         return unvisited(dogwood::dogwood_lookup(a, b, c, buffer));
@@ -330,5 +336,6 @@ fn main() {
     replay(b"windows.cases");
     replay(b"values.cases");
     replay(b"times.cases");
+    replay(b"own.cases");
     replay(b"terms.cases");
 }
