@@ -200,8 +200,8 @@ pub fn sums_are_alike(condition: &[u8]) -> bool {
         .is_some_and(|seen| seen.each_once() && !seen.aggregate_in_argument && seen.are_inside(&seen.summands))
 }
 
-/// A name that is used, and the names that are declared around it.
-type Use = (String, Vec<String>);
+/// A name that is used, and whether a binder around it has that name.
+type Use = (String, bool);
 
 /// What a check and the sums meet of names, at the conditions that they reach.
 #[derive(Default)]
@@ -228,7 +228,12 @@ impl Seen {
     }
 
     fn are_inside(&self, uses: &[Use]) -> bool {
-        uses.iter().all(|(name, around)| !self.declared.contains(name) || around.contains(name))
+        let declared: HashSet<&String> = self.declared.iter().collect();
+        uses.iter().all(|(name, inside)| *inside || !declared.contains(name))
+    }
+
+    fn used(&self, name: &String) -> Use {
+        (name.clone(), self.around.contains(name))
     }
 
     fn condition(&mut self, condition: &Condition) {
@@ -251,14 +256,14 @@ impl Seen {
             ConditionKind::Exists { var, body } => {
                 self.within(std::slice::from_ref(var), |seen| seen.condition(body));
             }
-            ConditionKind::Tp { var: BinderSlot::Name(name) } => self.uses.push((name.clone(), self.around.clone())),
+            ConditionKind::Tp { var: BinderSlot::Name(name) } => self.uses.push(self.used(name)),
             ConditionKind::Tp { .. } | ConditionKind::Call(_) | ConditionKind::SigilRef { .. } => {}
         }
     }
 
     fn operand(&mut self, term: &Term) {
         match term {
-            Term::Var(name) => self.uses.push((name.clone(), self.around.clone())),
+            Term::Var(name) => self.uses.push(self.used(name)),
             Term::Arith { left, right, .. } => {
                 self.operand(left);
                 self.operand(right);
@@ -266,7 +271,7 @@ impl Seen {
             Term::Agg(aggregate) => match &aggregate.kind {
                 AggExprKind::Sum { bound_var, for_vars, body } => self.within(for_vars, |seen| {
                     if let BinderSlot::Name(name) = bound_var {
-                        seen.summands.push((name.clone(), seen.around.clone()));
+                        seen.summands.push(seen.used(name));
                     }
                     seen.condition(body);
                 }),
@@ -280,7 +285,7 @@ impl Seen {
     /// Of an argument a check looks up the name that it is, and none below its arithmetic.
     fn argument(&mut self, value: &Term) {
         if let Term::Var(name) = value {
-            self.uses.push((name.clone(), self.around.clone()));
+            self.uses.push(self.used(name));
         }
         value.for_each_operand_agg(&mut |_| self.aggregate_in_argument = true);
     }

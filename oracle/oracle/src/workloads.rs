@@ -123,6 +123,22 @@ pub fn timed() -> Vec<Workload> {
     vec![own("32 KB of orders of Long", ty(0, vec![])), own("32 KB of orders of datetime", datetime)]
 }
 
+/// Names in scopes, for both ways of binding them: uses below many binders of one name each, many bodies one beside the
+/// other, and what is worst for a search that goes outwards, uses that pass all of some long lists.
+pub fn scoped() -> Vec<Workload> {
+    let own = |name: &str, targets: usize, condition: Piece| {
+        let age = path(0, &["profile", "age"], 0);
+        let w = workload(name, false, shop(2, targets.max(4)), condition, view_targets(targets), age);
+        Workload { lends: true, ..w }
+    };
+    vec![
+        own("nested binders, 255 targets", 255, nested_binders()),
+        own("sibling binders, 255 targets", 255, sibling_binders()),
+        own("sibling sums, 255 targets", 255, sibling_sums()),
+        own("variables in nested lists, 1 target", 1, nested_lists()),
+    ]
+}
+
 /// Conditions of growing size under one target.
 pub fn sizes() -> Vec<Workload> {
     let sized = |power: u32| {
@@ -466,6 +482,53 @@ fn variable_tree() -> Piece {
     of(most(LONGEST, of))
 }
 
+/// A record of 32 KB with 18 binders around all else: comparisons of each of their names, one after the other.
+fn nested_binders() -> Piece {
+    const DEPTH: usize = 18;
+    let name = |i: usize| format!("v{}", i % DEPTH);
+    let used = |i: usize| comparison((0, 9), 1, var(&name(i)), integer());
+    let of = |count: usize| {
+        let uses = joined((0..count).map(used).collect());
+        condition_record((0..DEPTH).fold(uses, |body, i| exists((0, 9), named(&name(i), &["Long"]), body)))
+    };
+    of(most(LONGEST, of))
+}
+
+/// A record of 32 KB of binders one beside the other, each with a use in its body.
+fn sibling_binders() -> Piece {
+    let used = |i: usize| comparison((0, 9), 1, var(&format!("v{i}")), integer());
+    let bound = |i: usize| exists((0, 9), named(&format!("v{i}"), &["Long"]), used(i));
+    let of = |count: usize| condition_record(joined((0..count).map(bound).collect()));
+    of(most(LONGEST, of))
+}
+
+/// A record of 32 KB of sums one beside the other, each of a name that its own list declares.
+fn sibling_sums() -> Piece {
+    let summed = |i: usize| {
+        let name = format!("v{i}");
+        let body = condition(11, (0, 9), vec![]);
+        let total = sum((0, 9), slot(Some(&name), 0), vec![named(&name, &["Long"])], body);
+        comparison((0, 9), 1, total, integer())
+    };
+    let of = |count: usize| condition_record(joined((0..count).map(summed).collect()));
+    of(most(LONGEST, of))
+}
+
+/// A record of 32 KB: a comparison that is a tree of variables, in eight lists of 255 binders each, and the binder that is
+/// meant around them.
+fn nested_lists() -> Piece {
+    const LISTS: usize = 8;
+    let list = || vec![named("w", &NONE); 255];
+    let listed = |body: Piece| comparison((0, 9), 1, count((0, 9), list(), body), integer());
+    let of = |count: usize| {
+        let leaves = (0..count).map(|_| var("v")).collect();
+        let uses = comparison((0, 9), 1, paired(leaves, arith), integer());
+        let inner = (0..LISTS).fold(uses, |body, _| listed(body));
+        condition_record(exists((0, 9), named("v", &["Long"]), inner))
+    };
+    of(most(LONGEST, of))
+}
+
 /// The largest count whose record has no more than so many bytes.
 fn most(bytes: usize, of: impl Fn(usize) -> Piece) -> usize {
     let fits = |count: &usize| of(*count).bytes().len() <= bytes;
@@ -524,6 +587,17 @@ mod tests {
         assert!(
             matches!(same.outcome(), Some(Outcome::Answered(answer, _)) if answer.count == 0 && answer.visits > 1_000)
         );
+    }
+
+    /// Each is read, is long, has no report either way, and is one about which the two ways of binding cannot differ.
+    #[test]
+    fn names_in_scopes_are_bound() {
+        for w in scoped() {
+            assert_eq!(answers::read_number(crate::records::read_condition(&w.condition)), 0, "{}", w.name);
+            assert!(w.condition.len() > LONGEST - 100, "{}: {}", w.name, w.condition.len());
+            assert_eq!(reported(&w, SPACE), (0, 0), "{}", w.name);
+            assert!(w.name.contains("nested lists") || crate::own::checks_are_alike(&w.condition), "{}", w.name);
+        }
     }
 
     #[test]

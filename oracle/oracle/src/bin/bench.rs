@@ -73,6 +73,12 @@ fn table(text: &str) -> String {
     for w in workloads::timed().iter().filter(|w| w.name.contains(text)) {
         out += &row(&w.name, "check", &check(w));
     }
+    for w in workloads::scoped().iter().filter(|w| w.name.contains(text)) {
+        out += &row(&w.name, "check", &check(w));
+        out += &row(&w.name, "check, own bodies", &check_in_own_bodies(w));
+        out += &row(&w.name, "sums", &sums(w));
+        out += &row(&w.name, "sums, own bodies", &sums_in_own_bodies(w));
+    }
     let all = workloads::all().into_iter().chain(workloads::crowded()).chain(workloads::searching());
     for w in all.filter(|w| w.name.contains(text)) {
         for (input, operation, times) in rows_of(&w) {
@@ -154,7 +160,21 @@ fn strictly(w: &Workload) -> Times {
     Times { ours: lent(w, library::STRICT, &mut vec![0; w.space]), ..check(w) }
 }
 
-/// Our time with these rules and with workspace lent beside the buffer, and a random key in it; none where the library has no such function.
+/// Our check with binders in their own bodies beside the Rust's flat one: it has no other.
+fn check_in_own_bodies(w: &Workload) -> Times {
+    Times { ours: lent(w, library::OWN_BODIES, &mut vec![0; w.space]), ..check(w) }
+}
+
+/// Our sums in the same way.
+fn sums_in_own_bodies(w: &Workload) -> Times {
+    let mut buffer = vec![0; 65_536];
+    let mut call = || library::sums_with(library::OWN_BODIES, black_box(&w.condition), &mut buffer);
+    let ours = call().map(|_| time(|| used(call())));
+    Times { ours, ..sums(w) }
+}
+
+/// Our time with these rules and with workspace lent beside the buffer, and a random key in it; none where the library has
+/// no such function.
 fn lent(w: &Workload, rules: u8, buffer: &mut [u8]) -> Option<f64> {
     let (s, c, t) = (&w.schema[..], &w.condition[..], &w.targets[..]);
     let mut workspace = vec![0; workspace_for(w.space)];
@@ -231,16 +251,19 @@ fn stacks() -> String {
     out
 }
 
-fn stacks_of(w: &Workload) -> [(&'static str, usize); 5] {
+fn stacks_of(w: &Workload) -> [(&'static str, usize); 7] {
+    const OWN: u8 = library::OWN_BODIES;
     let (mut buffer, mut workspace) = (vec![0; 65_536], vec![0; workspace_for(65_536)]);
     let (s, c, t, p) = (&w.schema[..], &w.condition[..], &w.targets[..], &w.path[..]);
+    let mut lent =
+        |rules: u8| stack::taken(|| used(library::check_with(rules, [s, c, t], &mut buffer, &mut workspace)));
+    let (flat, own) = (lent(0), lent(OWN));
     [
         ("check", stack::taken(|| used(library::check(s, c, t, &mut buffer)))),
-        (
-            "check, workspace lent",
-            stack::taken(|| used(library::check_with(0, [s, c, t], &mut buffer, &mut workspace))),
-        ),
+        ("check, workspace lent", flat),
+        ("check, workspace lent, own bodies", own),
         ("sums", stack::taken(|| used(library::sums(c, &mut buffer)))),
+        ("sums, own bodies", stack::taken(|| used(library::sums_with(OWN, c, &mut buffer)))),
         ("windows", stack::taken(|| used(library::windows(c, 60, &mut buffer)))),
         ("lookup", stack::taken(|| used(library::lookup(s, t, p, &mut buffer)))),
     ]

@@ -58,8 +58,8 @@ fn seed_from_clock() -> u64 {
 fn compare_stored(operations: &[Operation]) -> usize {
     let crowded = [workloads::differing("reports", 200, 20, 1 << 20), workloads::alike("one start", 3, 1 << 20)];
     let names = [workloads::many_principals("principals", 255, 1), workloads::many_actions("actions", 2)];
-    let large =
-        workloads::all().into_iter().chain(crowded).chain(names).chain(workloads::timed()).flat_map(|w| w.cases());
+    let others = workloads::timed().into_iter().chain(workloads::scoped());
+    let large = workloads::all().into_iter().chain(crowded).chain(names).chain(others).flat_map(|w| w.cases());
     let all = lists::all().into_iter().flat_map(|list| list.cases).chain(large);
     let has = |operation: Operation| {
         let plain = match operation {
@@ -180,20 +180,20 @@ fn in_common_differs(case: &Case) -> bool {
 const AMPLE: usize = 1 << 20;
 
 /// Whether the strict check of a case lacks a pair (message, start) of the plain one, or has another beside them that is
-/// not about an equality, or makes another number of visits. With space for all: where it does not do, nothing is said.
+/// not about an equality, or makes another number of visits, in either way of binding names. With space for all: where it
+/// does not do, nothing is said.
 fn strict_lacks(case: &Case) -> bool {
     if case.operation != Operation::Check {
         return false;
     }
-    let [plain, strict] = [0, library::STRICT].map(|rules| pairs(case, rules));
-    match (plain, strict) {
+    [0, library::OWN_BODIES].into_iter().any(|rules| match (pairs(case, rules), pairs(case, rules | library::STRICT)) {
         (Some((plain, visits)), Some((strict, strict_visits))) => {
             visits != strict_visits
                 || !plain.is_subset(&strict)
                 || strict.difference(&plain).any(|(message, _)| !message.starts_with(b"equality "))
         }
         _ => false,
-    }
+    })
 }
 
 /// Messages with their starts.
