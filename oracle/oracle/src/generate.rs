@@ -106,14 +106,23 @@ pub fn timed_draft(rng: &mut Rng, operation: Operation) -> Draft {
     draft_with(rng, operation, scene)
 }
 
-/// A fresh draft with a condition in which it nearly never matters how names are bound; every fourth has a damaged record.
-pub fn scoped_draft(rng: &mut Rng, operation: Operation) -> Draft {
+/// A fresh draft with a condition in which it does not matter how names are bound; every fourth has a damaged record.
+pub fn apart_draft(rng: &mut Rng, operation: Operation) -> Draft {
+    named_draft(rng, operation, conditions::apart_record)
+}
+
+/// A fresh draft with a condition in which it matters much; every fourth has a damaged record.
+pub fn again_draft(rng: &mut Rng, operation: Operation) -> Draft {
+    named_draft(rng, operation, conditions::again_record)
+}
+
+fn named_draft(rng: &mut Rng, operation: Operation, make: fn(&mut Rng, &World) -> Piece) -> Draft {
     if operation == Operation::Terms {
         // terms want a comparison as their root
         return draft(rng, operation);
     }
     let (world, version) = (World::random(rng), rng.one(&[1, 2, 3]));
-    let condition = conditions::scoped_record(rng, &world);
+    let condition = make(rng, &world);
     let condition = in_version(rng, condition, version);
     let scene = scene_with(rng, world, condition);
     draft_with(rng, operation, scene)

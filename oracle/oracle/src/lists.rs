@@ -312,7 +312,14 @@ fn bound() -> Vec<Case> {
         [(Operation::Own, Operation::Check, 200), (Operation::OwnSums, Operation::Sums, 120)]
     {
         let says_the_same = |case: &Case| case.outcome() == Case { operation: flat, ..case.clone() }.outcome();
-        cases.extend(kept(SEED, operation, count, generate::draft, |case| !times::is_marked(case), says_the_same));
+        cases.extend(kept(
+            SEED,
+            operation,
+            count,
+            generate::again_draft,
+            |case| !times::is_marked(case),
+            says_the_same,
+        ));
     }
     once(cases)
 }

@@ -119,13 +119,13 @@ fn the_rust_answers_alike_where_the_bodies_cannot_matter() {
     let mut rng = Rng::new(106);
     let mut alike = [0, 0];
     for _ in 0..1_500 {
-        let case = generate::scoped_draft(&mut rng, Operation::Check).case();
+        let case = generate::apart_draft(&mut rng, Operation::Check).case();
         if checks_are_alike(&case.records[1]) {
             let own = Case { operation: Operation::Own, ..case.clone() };
             assert_eq!(own.outcome(), case.outcome(), "{case:?}");
             alike[0] += 1;
         }
-        let case = generate::scoped_draft(&mut rng, Operation::Sums).case();
+        let case = generate::apart_draft(&mut rng, Operation::Sums).case();
         if sums_are_alike(&case.records[0]) {
             let own = Case { operation: Operation::OwnSums, ..case.clone() };
             assert_eq!(own.outcome(), case.outcome(), "{case:?}");
@@ -133,4 +133,19 @@ fn the_rust_answers_alike_where_the_bodies_cannot_matter() {
         }
     }
     assert!(alike.iter().all(|count| *count > 500), "{alike:?}");
+}
+
+/// And where names are declared again and again, most conditions with a report come out otherwise.
+#[test]
+fn the_bodies_matter_where_names_are_reused() {
+    let mut rng = Rng::new(106);
+    let mut other = [0, 0];
+    for _ in 0..600 {
+        for (place, operation) in [Operation::Check, Operation::Sums].into_iter().enumerate() {
+            let case = generate::again_draft(&mut rng, operation).case();
+            let own = Case { operation: operation.with_own_bodies().expect("both have one"), ..case.clone() };
+            other[place] += usize::from(own.outcome() != case.outcome());
+        }
+    }
+    assert!(other.iter().all(|count| *count > 100), "{other:?}");
 }

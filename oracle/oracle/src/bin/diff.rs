@@ -89,7 +89,8 @@ fn compare_fresh(operations: &[Operation], count: usize, seed: u64) -> Coverage 
             0 => generate::large_draft(&mut rng, operation),
             1 | 2 => generate::compared_draft(&mut rng, operation),
             3..=14 => generate::timed_draft(&mut rng, operation),
-            15..=24 => generate::scoped_draft(&mut rng, operation),
+            15..=18 => generate::apart_draft(&mut rng, operation),
+            19..=24 => generate::again_draft(&mut rng, operation),
             _ => generate::draft(&mut rng, operation),
         };
         let case = draft.case();

@@ -6,6 +6,9 @@ use crate::rng::Rng;
 
 const VARIABLES: [&str; 8] = ["", "age", "n", "t", "v", "w", "x", "y"];
 
+/// Few names, which an input may have too.
+const AGAIN: [&str; 3] = ["age", "n", "v"];
+
 const ANNOTATIONS: [&[&str]; 14] = [
     &[],
     &[],
@@ -27,21 +30,21 @@ const ANNOTATIONS: [&[&str]; 14] = [
 const DEEPEST_ARRAY: usize = 8;
 
 pub fn condition_record(rng: &mut Rng, world: &World) -> Piece {
-    let mut maker = Maker { budget: 4 + rng.below(20), rng, world, summing: false, scopes: None };
+    let mut maker = Maker { budget: 4 + rng.below(20), rng, world, summing: false, names: Names::Any };
     let root = maker.conjunction(5);
     pieces::condition_record(root)
 }
 
 /// A condition with many sums in it.
 pub fn summing_record(rng: &mut Rng, world: &World) -> Piece {
-    let mut maker = Maker { budget: 4 + rng.below(12), rng, world, summing: true, scopes: None };
+    let mut maker = Maker { budget: 4 + rng.below(12), rng, world, summing: true, names: Names::Any };
     let root = maker.conjunction(3);
     pieces::condition_record(root)
 }
 
 /// A condition in which much looks back.
 pub fn looking_back_record(rng: &mut Rng, world: &World) -> Piece {
-    let mut maker = Maker { budget: 4 + rng.below(12), rng, world, summing: true, scopes: None };
+    let mut maker = Maker { budget: 4 + rng.below(12), rng, world, summing: true, names: Names::Any };
     let root = maker.conjunction(3);
     let deeper = (0..maker.rng.below(6)).fold(root, |inner, _| {
         let at = maker.span();
@@ -56,24 +59,32 @@ pub fn looking_back_record(rng: &mut Rng, world: &World) -> Piece {
 
 /// A condition of many nodes, often deep enough to pass the last level.
 pub fn large_record(rng: &mut Rng, world: &World) -> Piece {
-    let mut maker = Maker { budget: 100 + rng.below(400), rng, world, summing: false, scopes: None };
+    let mut maker = Maker { budget: 100 + rng.below(400), rng, world, summing: false, names: Names::Any };
     let root = maker.conjunction(20);
     let deeper = (0..rng.below(30)).fold(root, |inner, _| condition(rng.one(&[3, 4, 5, 13]), (0, 0), vec![inner]));
     pieces::condition_record(deeper)
 }
 
-/// A condition in which nearly each name is declared once and used in the body of its binder, and an aggregate stands in
-/// no argument, so that it does not matter how names are bound. In one of four a name is like another after all.
-pub fn scoped_record(rng: &mut Rng, world: &World) -> Piece {
-    let scopes = Scopes { made: 0, around: Vec::new(), repeats: rng.chance(1, 4) };
+/// A condition in which each name is declared once and used in the body of its binder, or declared by none, and an
+/// aggregate stands in no argument: it does not matter how names are bound.
+pub fn apart_record(rng: &mut Rng, world: &World) -> Piece {
+    named_record(rng, world, Names::Apart { made: 0, around: Vec::new() })
+}
+
+/// A condition in which three names are declared again and again, and used in their bodies and outside: it matters much.
+pub fn again_record(rng: &mut Rng, world: &World) -> Piece {
+    named_record(rng, world, Names::Again)
+}
+
+fn named_record(rng: &mut Rng, world: &World, names: Names) -> Piece {
     let (budget, summing) = (8 + rng.below(24), rng.chance(1, 2));
-    let mut maker = Maker { budget, rng, world, summing, scopes: Some(scopes) };
+    let mut maker = Maker { budget, rng, world, summing, names };
     let root = maker.conjunction(6);
     pieces::condition_record(root)
 }
 
 pub fn comparison_record(rng: &mut Rng, world: &World) -> Piece {
-    let mut maker = Maker { budget: 4 + rng.below(16), rng, world, summing: false, scopes: None };
+    let mut maker = Maker { budget: 4 + rng.below(16), rng, world, summing: false, names: Names::Any };
     let root = maker.comparison(4);
     pieces::condition_record(root)
 }
@@ -85,15 +96,17 @@ struct Maker<'a> {
     budget: usize,
     /// Every other term that may be an aggregate is one.
     summing: bool,
-    /// Where names are declared apart and used inside, those that are around.
-    scopes: Option<Scopes>,
+    names: Names,
 }
 
-struct Scopes {
-    made: usize,
-    around: Vec<String>,
-    /// Whether a binder may have a name that others have too, and that is used outside of its body.
-    repeats: bool,
+/// Which names are declared, and which are used.
+enum Names {
+    /// Any of `VARIABLES`.
+    Any,
+    /// Each is declared once; those around are used, and such as none declares.
+    Apart { made: usize, around: Vec<String> },
+    /// Any of `AGAIN`, and often.
+    Again,
 }
 
 /// What a term may be, by where it stands.
@@ -179,7 +192,7 @@ impl Maker<'_> {
         let (at, own) = (self.span(), self.span());
         let (namespaces, action, paths) = self.world.predicate_of(self.rng);
         let count = self.rng.below(4);
-        let room = Room { depth: depth.saturating_sub(1), arrays: 0, aggregates: self.scopes.is_none() };
+        let room = Room { depth: depth.saturating_sub(1), arrays: 0, aggregates: !self.is_apart() };
         let arguments = (0..count)
             .map(|i| {
                 let path = &paths[i % paths.len()];
@@ -202,25 +215,28 @@ impl Maker<'_> {
         }
     }
 
-    /// A name that is used: with scopes mostly one of those around.
     fn used(&mut self) -> String {
-        match &self.scopes {
-            Some(scopes) if !scopes.around.is_empty() && self.rng.chance(7, 8) => self.rng.pick(&scopes.around).clone(),
+        match &self.names {
+            Names::Apart { around, .. } if !around.is_empty() && self.rng.chance(7, 8) => self.rng.pick(around).clone(),
+            Names::Again => self.rng.one(&AGAIN).to_string(),
             _ => self.rng.one(&VARIABLES).to_string(),
         }
     }
 
-    /// A name that is declared: with scopes a new one.
     fn declared(&mut self) -> String {
-        match &mut self.scopes {
-            Some(scopes) if !(scopes.repeats && self.rng.chance(1, 4)) => {
-                scopes.made += 1;
-                let name = format!("b{}", scopes.made);
-                scopes.around.push(name.clone());
-                name
+        match &mut self.names {
+            Names::Any => self.rng.one(&VARIABLES).to_string(),
+            Names::Apart { made, around } => {
+                *made += 1;
+                around.push(format!("b{made}"));
+                format!("b{made}")
             }
-            _ => self.rng.one(&VARIABLES).to_string(),
+            Names::Again => self.rng.one(&AGAIN).to_string(),
         }
+    }
+
+    fn is_apart(&self) -> bool {
+        matches!(self.names, Names::Apart { .. })
     }
 
     fn binder(&mut self) -> Piece {
@@ -232,15 +248,18 @@ impl Maker<'_> {
         binder(slot, self.rng.one(&ANNOTATIONS))
     }
 
-    /// How many names are around.
+    /// How many names are around, where it is kept.
     fn around(&self) -> usize {
-        self.scopes.as_ref().map_or(0, |scopes| scopes.around.len())
+        match &self.names {
+            Names::Apart { around, .. } => around.len(),
+            _ => 0,
+        }
     }
 
     /// Behind the body of some binders.
     fn leave(&mut self, outside: usize) {
-        if let Some(scopes) = &mut self.scopes {
-            scopes.around.truncate(outside);
+        if let Names::Apart { around, .. } = &mut self.names {
+            around.truncate(outside);
         }
     }
 
@@ -255,6 +274,9 @@ impl Maker<'_> {
         }
         if room.depth > 0 && self.rng.chance(2, 5) && self.spend() {
             return self.branch(room);
+        }
+        if !matches!(self.names, Names::Any) && self.rng.chance(2, 5) {
+            return var(&self.used());
         }
         match self.rng.below(16) {
             0 | 1 => integer(),
@@ -304,7 +326,7 @@ impl Maker<'_> {
                 let binders = self.binders();
                 count(at, binders, self.condition(depth - 1))
             }
-            _ if self.scopes.is_some() => {
+            _ if self.is_apart() => {
                 let mut binders = self.binders();
                 binders.push(self.binder());
                 let summand = self.slot();
