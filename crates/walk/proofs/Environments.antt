@@ -22,7 +22,7 @@ use Rattle.condition.specs.Places.{isRecord, recordIn, isSlot, isAnnotation, an
 use Rattle.condition.specs.Laws.Sizes.{named-append, record-bytes}
 use Rattle.nodes.specs.Looked.{Skipped}
 use Rattle.nodes.specs.Parts.{BoundBy, nameIn}
-use Rattle.walk.specs.Environment.{nameAt, Sorted, Entry, Environment, SpotOf, insertAt, Inserted, MayDeclare, Declared}
+use Rattle.walk.specs.Environment.{nameAt, Sorted, Entry, Environment, SomeEnvironment, SaysOf, SpotOf, insertAt, Inserted, MayDeclare, Declared}
 use Rattle.condition.specs.Laws.Records.{record-small}
 use Rattle.walk.proofs.ByPlace.{prefix}
 use Rattle.walk.specs.Laws.Named.{last-append}
@@ -275,36 +275,54 @@ pub ruleset beginning = (needs, room-for-all, entries-fit, environment-is)
 
 -- ---- the search for a name
 
-module _ (s table name : List ℕ) (bs : List Binder) (env : Environment s bs table) (p : Spot) (o : SpotOf s table name p) where
+module _ (s table name : List ℕ) (h : SomeEnvironment s table) (p : Spot) (o : SpotOf s table name p) where
   module _ (is : p .found ≡ true) where
     pub found-index : p .at < length table
     found-index = o .found is .0
 
     module _ (q : ℕ) (e : q ≡ getD table (p .at) 0) where
-      found : Entry s bs q
-      found = rw e (env .entries (p .at) found-index)
+      found : (bs : List Binder) → Environment s bs table → Entry s bs q
+      found bs env = rw e (env .entries (p .at) found-index)
+
+      stands : isBinder s q ≡ true
+      stands = found (h .declared) (h .is) .stands
 
       found-name : nameIn s q ≡ name
       unfolding nameAt
       found-name = ap (λ m. nameIn s m) e ∙ o .found is .1
 
       pub found-slot : isSlot s q ≡ true
-      found-slot = binder-slot s q (found .stands)
+      found-slot = binder-slot s q stands
 
       module _ (m : ℕ) (z : Skipped (slot s q) q m) where
         pub found-annotation : isAnnotation s m ≡ true
-        found-annotation = binder-annotation s q (found .stands) m z
+        found-annotation = binder-annotation s q stands m z
 
-        pub found-says : (r : Bound) → BoundBy s (some (annotationIn s m)) r → BoundBy s (lastNamed name bs) r
-        found-says r y =
-            let f : lastNamed name bs ≡ some (annotationIn s m) = ap (λ w. lastNamed w bs) (sym found-name) ∙ found .last ∙ ap some (annotation-is s q (found .stands) m z) in
-            rw f y
+        pub found-says : (r : Bound) → BoundBy s (some (annotationIn s m)) r → SaysOf s table name r
+        found-says r y = record {
+          of = λ bs env.
+              let f : lastNamed name bs ≡ some (annotationIn s m) = ap (λ w. lastNamed w bs) (sym found-name) ∙ found bs env .last ∙ ap some (annotation-is s q stands m z) in
+              rw f y;
+        }
 
-  pub none-says : p .found ≡ false → BoundBy s (lastNamed name bs) Nothing
-  none-says is = rw (env .complete name (λ i h. differ i h (ltb i (p .at)) refl)) (says-nothing s)
+  pub none-says : p .found ≡ false → SaysOf s table name Nothing
+  none-says is = record { of = λ bs env. rw (env .complete name (λ i l. differ i l (ltb i (p .at)) refl)) (says-nothing s) }
     where
       differ : (i : ℕ) → i < length table → (b : Bool) → ltb i (p .at) ≡ b → same (nameAt s table i) name ≡ false
-      differ i h true e = below-differs _ _ (o .before i (ltb-true i (p .at) e))
-      differ i h false e = above-differs _ _ (o .missing is i (ltb-false i (p .at) e) h)
+      differ i l true e = below-differs _ _ (o .before i (ltb-true i (p .at) e))
+      differ i l false e = above-differs _ _ (o .missing is i (ltb-false i (p .at) e) l)
 
-pub ruleset finding = (needs, found-index, found-slot, found-annotation, found-says, none-says)
+pub some-sorted : (s table : List ℕ) → SomeEnvironment s table → Sorted s table
+some-sorted s table h = h .is .sorted
+
+pub ruleset finding = (needs, some-sorted, found-index, found-slot, found-annotation, found-says, none-says)
+
+-- the same of binders that are known
+module _ (s : List ℕ) (bs : List Binder) (table : List ℕ) (env : Environment s bs table) where
+  pub some-environment : SomeEnvironment s table
+  some-environment = record { declared = bs; is = env }
+
+  pub environment-says : (name : List ℕ) (r : Bound) → SaysOf s table name r → BoundBy s (lastNamed name bs) r
+  environment-says name r y = y .of bs env
+
+pub ruleset asking = (needs, some-environment, environment-says)

@@ -9,3 +9,4 @@ pub mod Lookups
 pub mod Spots
 pub mod Environments
 pub mod Declarations
+pub mod Directories

@@ -1,12 +1,15 @@
 -- A name among the binders of a list, of a holder, of all holders around a reached condition. Assumes nothing.
-use mathlib.Core.Path.{_≡_, refl, sym, ap, _∙_}
+use mathlib.Core.Path.{_≡_, refl, sym, ap, ap₂, _∙_}
 use mathlib.Core.Bool.{Bool, true, false, cond, false≢true}
 use mathlib.Core.List.{List, [], _∷_, _++_, append-assoc, append-nil}
 use mathlib.Core.Option.{Option, none, some}
-use Prim.Native.Nat.{ℕ, _+_, _*_, _-_, _≤_, _<_}
+use Prim.Native.Nat.{ℕ, _+_, _*_, _-_, _≤_, _<_, min}
 use native.Mathlib.Omega.{arith}
 use borrow.Author.Needs.{needs}
-use lib.ListN.{length, getD}
+use lib.ListN.{length, getD, take, length-take}
+use lib.Seq.{getD-take}
+use Rattle.names.specs.declared.Found.{Found}
+use Rattle.names.specs.declared.Found.the-variants.{At}
 use Rattle.names.specs.Lists.{maybe}
 use Rattle.names.specs.Names.{same}
 use Rattle.names.specs.Read.{wordAt, Listed}
@@ -27,9 +30,12 @@ use Rattle.nodes.specs.Laws.Pieces.{counted-here, counted-index}
 use Rattle.nodes.specs.Laws.Binders.{says-nothing, binder-slot, binder-annotation, slot-is, annotation-is}
 use Rattle.walk.specs.Scopes.{own}
 use Rattle.walk.specs.Index.{nodesOf}
-use Rattle.walk.specs.Enclosing.{IsHolder, heldIn, Chain, joined, Encloses, RowEncloses, aroundAt, Enclosing, isBound, laterOf}
+use Rattle.walk.specs.Enclosing.{IsHolder, heldIn, Chain, joined, Encloses, RowEncloses, aroundAt, listCount, Bodies, isBound, laterOf}
+use Rattle.walk.specs.Rows.{rowAt}
+use Rattle.walk.specs.Lists.{IsEntry, EntryOf}
 use Rattle.walk.specs.Laws.Named.{last-append}
 use Rattle.walk.proofs.Bindings.{binders-index}
+use Rattle.walk.proofs.Chains.{row-on}
 use Rattle.walk.proofs.Holders.{held-exists, held-aggregate, holder-index, exists-stands, exists-nine, aggregate-stands, no-call}
 
 -- ---- one binder
@@ -146,10 +152,22 @@ module _ (s : List ℕ) (at : ℕ) (h : IsHolder s at) (name : List ℕ) where
   pub held-all : (getD s at 0 ≡ 9 → ⊥) → (p : ℕ) → BindersHere s at p → (r : Bound) → BoundBy s (lastNamed name (bindersIn s p)) r → BoundBy s (lastNamed name (heldIn s at)) r
   held-all other p b r y = rw (held-aggregate s at (aggregate-stands s at h other), b .value) y
 
+  -- in its list
+  pub held-listed : (table : List ℕ) (r : Found) → EntryOf table at r → (e : ℕ) → r ≡ At e → (x : Bound) → BoundBy s (lastNamed name (heldIn s (getD table e 0))) x → BoundBy s (lastNamed name (heldIn s at)) x
+  unfolding EntryOf
+  held-listed table r y e q x z = let f = rw q at y in rw (f .1) at z
+
+pub entry-there : (table : List ℕ) (at : ℕ) (r : Found) → EntryOf table at r → (e : ℕ) → r ≡ At e → IsEntry table e
+unfolding EntryOf
+entry-there table at r y e q = let f = rw q at y in f .0
+
+pub lists-room : (s table : List ℕ) → Bodies s table → 3 * listCount table < length table
+lists-room s table b = omega (arith, b .lists .room)
+
 pub binders-stand : (s : List ℕ) (at p : ℕ) → BindersHere s at p → isBinders s p ≡ true
 binders-stand s at p b = b .stands
 
-pub ruleset holding = (needs, holder-index, exists-stands, held-binder, held-one, aggregate-stands, no-call, binders-stand, held-all)
+pub ruleset holding = (needs, holder-index, exists-stands, held-binder, held-one, aggregate-stands, no-call, binders-stand, held-all, lists-room, entry-there, held-listed)
 
 -- ---- the holders around
 
@@ -184,24 +202,36 @@ module _ (s table : List ℕ) (row : ℕ) (bs : List Binder) where
       go [] c v = sym v
       go (p ∷ ps) c v = absurd (omega (arith, c .0 .place, c .0 .some))
 
+pub holder-of : (s table : List ℕ) (row : ℕ) (bs : List Binder) → RowEncloses s table row bs → (getD table (2 * row) 0 ≡ 0 → ⊥) → IsHolder s (getD table (2 * row) 0)
+holder-of s table row bs e other = further s table row bs e other .holds
+
+-- the rows of a table that has lists behind them
+module _ (s table : List ℕ) (h : Bodies s table) where
+  rows-size : min (h .rows) (length table) ≡ 2 * length (nodesOf s)
+  rows-size = sym (length-take (h .rows) table) ∙ h .enclosing .size
+
+  rows-fit : 2 * length (nodesOf s) ≤ length table
+  rows-fit = omega (arith, rows-size)
+
+  rows-there : (i : ℕ) → i < length (nodesOf s) → RowEncloses s table i (aroundAt own s i)
+  unfolding rowAt
+  rows-there i l =
+      let e : (k : ℕ) → k < h .rows → getD table k 0 ≡ getD (take (h .rows) table) k 0 = λ k j. sym (getD-take (h .rows) table k 0 j) in
+      row-on s (take (h .rows) table) table i (λ k j. ap₂ (λ (a b : ℕ). (a, b)) (e (2 * k) (omega (arith, rows-size))) (e (2 * k + 1) (omega (arith, rows-size)))) (h .enclosing .rows i l)
+
 -- the binders around a row are those that are left to be asked
 pub record Outward (s table name : List ℕ) (node row : ℕ) : Type 0 where
   pub within : row < length (nodesOf s)
+  pub inside : 2 * row + 1 < length table
   pub left : List Binder
   pub scope : RowEncloses s table row left
   pub same : lastNamed name (aroundAt own s node) ≡ lastNamed name left
 
 module _ (s table name : List ℕ) (node : ℕ) where
-  pub outward-begin : Enclosing s table → node < length (nodesOf s) → Outward s table name node node
-  outward-begin h l = record { within = l; left = aroundAt own s node; scope = h .rows node l; same = refl }
+  pub outward-begin : Bodies s table → node < length (nodesOf s) → Outward s table name node node
+  outward-begin h l = record { within = l; inside = omega (arith, rows-fit s table h); left = aroundAt own s node; scope = rows-there s table h node l; same = refl }
 
   module _ (row : ℕ) (inv : Outward s table name node row) where
-    pub row-first : Enclosing s table → 2 * row < length table
-    row-first h = omega (arith, h .size, inv .within)
-
-    pub row-second : Enclosing s table → 2 * row + 1 < length table
-    row-second h = omega (arith, h .size, inv .within)
-
     module _ (holder : ℕ) (e : holder ≡ getD table (2 * row) 0) where
       pub none-around : holder ≡ 0 → BoundBy s (lastNamed name (aroundAt own s node)) Nothing
       unfolding lastNamed
@@ -228,9 +258,10 @@ module _ (s table name : List ℕ) (node : ℕ) where
             pub outward-next : Outward s table name node m
             outward-next = record {
               within = omega (arith, inv .within, outward-less);
+              inside = omega (arith, inv .inside, outward-less);
               left = beyond .outer;
               scope = rw g (beyond .scope);
               same = split ∙ ap (maybe (lastNamed name (beyond .outer)) some) (sym (y .value) ∙ bound-none s r (sym f ∙ i));
             }
 
-pub ruleset outward = (needs, outward-begin, row-first, row-second, none-around, holder-there, found-around, outward-less, outward-next)
+pub ruleset outward = (needs, outward-begin, none-around, holder-there, found-around, outward-less, outward-next)

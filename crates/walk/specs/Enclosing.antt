@@ -1,11 +1,11 @@
 -- The binders around each reached condition in a table: for each of them a row of two entries, what holds the innermost binders around it and the row of the
--- reached condition that this stands in. And a name looked up in either way.
+-- reached condition that this stands in; behind the rows, the binders of long lists, sorted by name. And a name looked up in either way.
 use mathlib.Core.Path.{_≡_}
 use mathlib.Core.Bool.{Bool, true, false, cond}
 use mathlib.Core.List.{List, [], _∷_, _++_, map}
-use Prim.Native.Nat.{ℕ, _+_, _*_, _<_}
+use Prim.Native.Nat.{ℕ, _+_, _*_, _-_, _≤_, _<_}
 use lib.Dec.{eqb}
-use lib.ListN.{length, getD}
+use lib.ListN.{length, getD, take, drop}
 use Rattle.walk.specs.declared.Binding as declared
 use Rattle.walk.specs.declared.Binding.the-variants as code
 use Rattle.condition.specs.Condition.{Binder}
@@ -63,6 +63,31 @@ pub record Enclosing (s table : List ℕ) : Type 0 where
   pub size : length table ≡ 2 * length (nodesOf s)
   pub rows : (i : ℕ) → i < length (nodesOf s) → RowEncloses s table i (aroundAt own s i)
 
+-- three entries about a list of the table, which ends before `free`: the place of what holds its binders, where it starts and how many entries it has
+pub record IsList (s table : List ℕ) (free entry : ℕ) : Type 0 where
+  pub within : getD table (entry + 1) 0 + getD table (entry + 2) 0 ≤ free
+  pub list : Environment s (heldIn s (getD table entry 0)) (take (getD table (entry + 2) 0) (drop (getD table (entry + 1) 0) table))
+
+-- the directory of the lists stands before the last entry of a table of so many entries, the first list's three entries last: where those of the k-th are
+abbrev pub entryAt : ℕ → ℕ → ℕ
+entryAt size k = size - (3 * k + 4)
+
+-- the table has so many lists, all before `free`, and there the directory has not come
+pub record HasLists (s table : List ℕ) (free count : ℕ) : Type 0 where
+  pub room : free + 3 * count < length table
+  pub each : (k : ℕ) → k < count → IsList s table free (entryAt (length table) k)
+
+-- how many lists a table has, by its last entry
+abbrev pub listCount : List ℕ → ℕ
+listCount table = getD table (length table - 1) 0
+
+-- the rows in front, and behind them the lists
+pub record Bodies (s table : List ℕ) : Type 0 where
+  pub rows : ℕ
+  pub enclosing : Enclosing s (take rows table)
+  pub free : ℕ
+  pub lists : HasLists s table free (listCount table)
+
 -- whether an answer is that a name is bound
 unfoldable pub isBound : Bound → Bool
 isBound (Segments p) = true
@@ -73,7 +98,7 @@ isBound Nothing = false
 unfoldable pub laterOf : Bound → Bound → Bound
 laterOf before here = cond (isBound here) here before
 
--- how a name is bound, by the code's answer
+-- how a name is bound, by the code's choice
 unfoldable pub bindingIn : declared.Binding → Binding
 bindingIn code.Flat = flat
 bindingIn code.Own = own
@@ -81,4 +106,4 @@ bindingIn code.Own = own
 -- the table is the one that names are looked up in
 unfoldable pub Names : List ℕ → Binding → List ℕ → Type 0
 Names s flat table = Environment s (binders (recordIn s)) table
-Names s own table = Enclosing s table
+Names s own table = Bodies s table

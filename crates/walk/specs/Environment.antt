@@ -6,7 +6,8 @@ use mathlib.Core.Option.{none, some}
 use Prim.Native.Nat.{ℕ, _+_, _≤_, _<_}
 use lib.ListN.{length, getD, take, drop}
 use Rattle.names.specs.Names.{same, below}
-use Rattle.nodes.specs.Parts.{nameIn}
+use Rattle.nodes.specs.declared.Bound.{Bound}
+use Rattle.nodes.specs.Parts.{nameIn, BoundBy}
 use Rattle.walk.specs.declared.Spot.{Spot}
 use Rattle.condition.specs.Condition.{Binder, named}
 use Rattle.condition.specs.Walk.{namedOnes, lastNamed}
@@ -31,6 +32,14 @@ pub record Environment (s : List ℕ) (bs : List Binder) (table : List ℕ) : Ty
   pub entries : (i : ℕ) → i < length table → Entry s bs (getD table i 0)
   pub sorted : Sorted s table
   pub complete : (name : List ℕ) → ((i : ℕ) → i < length table → same (nameAt s table i) name ≡ false) → lastNamed name bs ≡ none
+
+-- the table is the environment of some binders; and what it says of a name, of whatever binders it is the environment
+pub record SomeEnvironment (s table : List ℕ) : Type 0 where
+  pub declared : List Binder
+  pub is : Environment s declared table
+
+pub record SaysOf (s table name : List ℕ) (r : Bound) : Type 0 where
+  pub of : (bs : List Binder) → Environment s bs table → BoundBy s (lastNamed name bs) r
 
 -- where a name stands in a sorted table, or where it belongs: those before it are below it
 pub record SpotOf (s table name : List ℕ) (r : Spot) : Type 0 where

@@ -1,5 +1,8 @@
 // A name among the binders around a reached condition: the last of that name in the innermost list that has it.
+use crate::lists::bound_entered;
+use crate::lists::entry_of;
 use crate::sorted::wide;
+use names::Found;
 use nodes::Bound;
 use nodes::SlotAt;
 use nodes::binders_at;
@@ -18,7 +21,7 @@ ghost use Rattle.condition.specs.Places.{isBinder, binderIn};
 ghost use Rattle.nodes.specs.Parts.{isBinders, bindersIn, BoundBy};
 ghost use Rattle.walk.specs.Scopes.{own};
 ghost use Rattle.walk.specs.Index.{nodesOf};
-ghost use Rattle.walk.specs.Enclosing.{isBound, laterOf, IsHolder, heldIn, Enclosing, aroundAt};
+ghost use Rattle.walk.specs.Enclosing.{isBound, laterOf, IsHolder, heldIn, aroundAt, Bodies};
 
 // Whether a name is bound.
 fn is_bound(found: Bound) -> bool
@@ -76,20 +79,25 @@ pub fn bound_among(s: &[u8], start: usize, name: &[u8]) -> Bound
     found
 }
 
-// Among those of an Exists or an aggregate.
-fn bound_held(s: &[u8], at: usize, name: &[u8]) -> Bound
+// Among those of an Exists or an aggregate: in its list, where it has one.
+fn bound_held(s: &[u8], table: &[u16], at: usize, name: &[u8]) -> Bound
+    requires { ⌜ Bodies (now s) (now table) ⌝ }
     requires { ⌜ IsHolder (now s) at ⌝ }
     ensures { λ r. ⌜ BoundBy (now (s .entry)) (lastNamed (now (name .entry)) (heldIn (now (s .entry)) at)) r ⌝ }
 {
     if s[at] == 9 {
         return bound_one(s, first_part(s, at), name);
     }
-    bound_among(s, binders_at(s, at), name)
+    let listed = entry_of(table, at);
+    let Found::At(entry) = listed else {
+        return bound_among(s, binders_at(s, at), name);
+    };
+    bound_entered(s, table, entry, name)
 }
 
 // Among those around a reached condition: from its row on, holder by holder outwards.
 pub fn bound_around(s: &[u8], table: &[u16], node: usize, name: &[u8]) -> Bound
-    requires { ⌜ Enclosing (now s) (now table) ⌝ }
+    requires { ⌜ Bodies (now s) (now table) ⌝ }
     requires { ⌜ node < length (nodesOf (now s)) ⌝ }
     ensures { λ r. ⌜ BoundBy (now (s .entry)) (lastNamed (now (name .entry)) (aroundAt own (now (s .entry)) node)) r ⌝ }
 {
@@ -100,7 +108,7 @@ pub fn bound_around(s: &[u8], table: &[u16], node: usize, name: &[u8]) -> Bound
         if holder == 0 {
             return Bound::Nothing;
         }
-        let found = bound_held(s, holder, name);
+        let found = bound_held(s, table, holder, name);
         if is_bound(found) {
             return found;
         }

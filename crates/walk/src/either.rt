@@ -3,7 +3,7 @@ use crate::Binding;
 use crate::around::bound_around;
 use crate::flat::bound_in;
 use crate::flat::environment;
-use crate::index::enclosing;
+use crate::lists::bodies;
 use nodes::Bound;
 ghost use mathlib.Core.Path.{_≡_};
 ghost use mathlib.Core.Bool.{true};
@@ -36,7 +36,7 @@ pub fn names_of(binding: Binding, s: &[u8], places: &[u16], table: &mut [u16]) -
 {
     match binding {
         Binding::Flat => environment(s, places, table),
-        Binding::Own => enclosing(s, table),
+        Binding::Own => bodies(s, table),
     }
 }
 

@@ -28,7 +28,7 @@ ghost use Rattle.condition.specs.Places.{isRecord, recordIn, isCondition, condi
 ghost use Rattle.nodes.specs.Kinds.{kindOf};
 ghost use Rattle.nodes.specs.Parts.{nameIn, isBinders, bindersIn, BoundBy};
 ghost use Rattle.walk.specs.Index.{Index};
-ghost use Rattle.walk.specs.Environment.{Environment, SpotOf, MayDeclare, Declared};
+ghost use Rattle.walk.specs.Environment.{Environment, SomeEnvironment, SaysOf, SpotOf, MayDeclare, Declared};
 
 // Where the name of a binder stands among the entries so far, or where it belongs.
 fn spot_of(s: &[u8], table: &[u16], n: usize, at: usize) -> Spot
@@ -69,7 +69,7 @@ fn declare(s: &[u8], table: &mut [u16], n: usize, at: usize) -> usize
 }
 
 // The binders whose count stands there, one after the other.
-fn declare_all(s: &[u8], table: &mut [u16], n: usize, start: usize) -> usize
+pub fn declare_all(s: &[u8], table: &mut [u16], n: usize, start: usize) -> usize
     requires { ⌜ isBinders (now s) start ≡ true ⌝ }
     requires { ⌜ MayDeclare (now s) (bindersIn (now s) start) (now table) n ⌝ }
     ensures { λ r. ⌜ Declared (now (s .entry)) (bindersIn (now (s .entry)) start) (now (table .entry)) n (now (table .exit)) r ⌝ }
@@ -159,10 +159,10 @@ pub fn environment(s: &[u8], places: &[u16], table: &mut [u16]) -> usize
     declare_places(s, places, table, 0)
 }
 
-// The annotation of the last binder of a name, by halving.
-pub fn bound_in(s: &[u8], table: &[u16], name: &[u8]) -> Bound
-    requires { ⌜ Environment (now s) (binders (recordIn (now s))) (now table) ⌝ }
-    ensures { λ r. ⌜ BoundBy (now (s .entry)) (lastNamed (now (name .entry)) (binders (recordIn (now (s .entry))))) r ⌝ }
+// The annotation of the last binder of a name, by halving: in the environment of whatever binders.
+pub fn bound_listed(s: &[u8], table: &[u16], name: &[u8]) -> Bound
+    requires { ⌜ SomeEnvironment (now s) (now table) ⌝ }
+    ensures { λ r. ⌜ SaysOf (now (s .entry)) (now (table .entry)) (now (name .entry)) r ⌝ }
 {
     let p = spot(s, table, name);
     let i = p.at;
@@ -170,4 +170,12 @@ pub fn bound_in(s: &[u8], table: &[u16], name: &[u8]) -> Bound
         return bound_at(s, past_slot(s, wide(table[i])));
     }
     Bound::Nothing
+}
+
+// In the environment of the record.
+pub fn bound_in(s: &[u8], table: &[u16], name: &[u8]) -> Bound
+    requires { ⌜ Environment (now s) (binders (recordIn (now s))) (now table) ⌝ }
+    ensures { λ r. ⌜ BoundBy (now (s .entry)) (lastNamed (now (name .entry)) (binders (recordIn (now (s .entry))))) r ⌝ }
+{
+    bound_listed(s, table, name)
 }

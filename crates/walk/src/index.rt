@@ -151,7 +151,7 @@ pub fn index_record(s: &[u8], table: &mut [u16]) -> usize
 pub fn enclosing(s: &[u8], table: &mut [u16]) -> usize
     requires { ⌜ isRecord (now s) ≡ true ⌝ }
     requires { ⌜ 7282 ≤ length (now table) ⌝ }
-    ensures fits { λ r. ⌜ r ≤ length (now (table .exit)) ⌝ }
+    ensures fits { λ r. ⌜ r ≤ 7282 ⌝ }
     ensures enclosing { λ r. ⌜ Enclosing (now (s .entry)) (take r (now (table .exit))) ⌝ }
 {
     let outermost = Row::Around(Scope { holder: 0, node: 0 });

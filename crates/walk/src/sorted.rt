@@ -29,7 +29,7 @@ fn order_at(s: &[u8], table: &[u16], i: usize, name: &[u8]) -> usize
 }
 
 // A place in the middle of those from `low` on and before `high`.
-fn halfway(low: usize, high: usize) -> usize
+pub fn halfway(low: usize, high: usize) -> usize
     requires { ⌜ low < high ⌝ }
     ensures { λ r. ⌜ (low ≤ r) × (r < high) ⌝ }
 {

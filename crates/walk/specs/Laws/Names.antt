@@ -11,7 +11,7 @@ use Rattle.condition.specs.Places.{recordIn}
 use Rattle.nodes.specs.Parts.{BoundBy}
 use Rattle.walk.specs.Scopes.{own, bindingOf}
 use Rattle.walk.specs.Environment.{Environment}
-use Rattle.walk.specs.Enclosing.{Enclosing, bindingIn, aroundAt, Names}
+use Rattle.walk.specs.Enclosing.{bindingIn, aroundAt, Bodies, Names}
 
 module _ (s table : List ℕ) (binding : declared.Binding) where
   module _ (is : binding ≡ code.Flat) where
@@ -24,11 +24,11 @@ module _ (s table : List ℕ) (binding : declared.Binding) where
     flat-names h = rw is h
 
   module _ (is : binding ≡ code.Own) where
-    pub own-table : Names s (bindingIn binding) table → Enclosing s table
+    pub own-table : Names s (bindingIn binding) table → Bodies s table
     unfolding bindingIn Names
     own-table h = rw is at h
 
-    pub own-names : Enclosing s table → Names s (bindingIn binding) table
+    pub own-names : Bodies s table → Names s (bindingIn binding) table
     unfolding bindingIn Names
     own-names h = rw is h
 
