@@ -1,7 +1,7 @@
 -- The lists of a table: how they are put there, and how one is found. Assumes nothing.
 use mathlib.Core.Path.{_≡_, refl, sym, ap, _∙_}
 use mathlib.Core.Bool.{Bool, true, false, cond}
-use mathlib.Core.List.{List, [], _∷_, _++_, append-assoc}
+use mathlib.Core.List.{List, [], _∷_, _++_}
 use Prim.Native.Nat.{ℕ, _+_, _*_, _-_, _≤_, _<_}
 use native.Mathlib.Omega.{arith}
 use borrow.Author.Count.{below-more}
@@ -24,7 +24,7 @@ use Rattle.nodes.specs.Laws.Pieces.{counted-here}
 use Rattle.walk.specs.Index.{nodesOf}
 use Rattle.walk.specs.Environment.{Environment, SomeEnvironment, SaysOf, MayDeclare, Declared}
 use Rattle.walk.specs.Enclosing.{IsHolder, heldIn, Enclosing, IsList, entryAt, HasLists, listCount, Bodies}
-use Rattle.walk.specs.Lists.{Outside, MaySort, SortedFrom, Entered, MayList, MoreLists, HolderIn, RowsOnly, IsEntry, EntryOf}
+use Rattle.walk.specs.Lists.{MaySort, SortedFrom, Entered, MayList, MoreLists, HolderIn, RowsOnly, IsEntry, EntryOf}
 use Rattle.walk.proofs.ByPlace.{prefix}
 use Rattle.walk.proofs.Environments.{entries-fit, environment-is}
 use Rattle.walk.proofs.Bindings.{binders-index}

@@ -63,16 +63,16 @@ pub record Enclosing (s table : List ℕ) : Type 0 where
   pub size : length table ≡ 2 * length (nodesOf s)
   pub rows : (i : ℕ) → i < length (nodesOf s) → RowEncloses s table i (aroundAt own s i)
 
--- three entries about a list of the table, which ends before `free`: the place of what holds its binders, where it starts and how many entries it has
+-- three entries say where a list stands, which ends before `free`: the place of what holds its binders, where it starts, and how many entries it has
 pub record IsList (s table : List ℕ) (free entry : ℕ) : Type 0 where
   pub within : getD table (entry + 1) 0 + getD table (entry + 2) 0 ≤ free
   pub list : Environment s (heldIn s (getD table entry 0)) (take (getD table (entry + 2) 0) (drop (getD table (entry + 1) 0) table))
 
--- the directory of the lists stands before the last entry of a table of so many entries, the first list's three entries last: where those of the k-th are
+-- the directory of the lists grows from the end of a table to its front, before its last entry: where the three entries of the k-th list are
 abbrev pub entryAt : ℕ → ℕ → ℕ
 entryAt size k = size - (3 * k + 4)
 
--- the table has so many lists, all before `free`, and there the directory has not come
+-- the table has so many lists, all of them before `free`, and the directory stands behind that
 pub record HasLists (s table : List ℕ) (free count : ℕ) : Type 0 where
   pub room : free + 3 * count < length table
   pub each : (k : ℕ) → k < count → IsList s table free (entryAt (length table) k)
@@ -81,7 +81,7 @@ pub record HasLists (s table : List ℕ) (free count : ℕ) : Type 0 where
 abbrev pub listCount : List ℕ → ℕ
 listCount table = getD table (length table - 1) 0
 
--- the rows in front, and behind them the lists
+-- the rows in front, and the lists behind them
 pub record Bodies (s table : List ℕ) : Type 0 where
   pub rows : ℕ
   pub enclosing : Enclosing s (take rows table)

@@ -1,12 +1,13 @@
 // Lists of binders, sorted by name, behind the rows of a table: a name is found in a long list by halving.
 //
-// An aggregate of at least four binders has a list: the places of its named binders, the last of each name. The lists stand one after the other behind the rows. A
-// directory of them stands at the end of the table, before the last entry, which counts them: for each the place of the aggregate, where its list starts and how
-// many entries it has. It grows from the end to the front, and the places in it ascend that way, so that an aggregate is found by halving too.
+// An aggregate of at least four binders has a list: the places of its named binders, of each name the last one's. The lists stand one after the other behind the
+// rows. A directory of them stands before the last entry of the table, which counts them: for each list the place of its aggregate, where it starts and how many
+// entries it has. It grows from the end to the front, and the places in it ascend that way, so that an aggregate is found by halving too.
 //
-// Nothing that is promised depends on which aggregates have a list: a name is looked up among the binders of the others one by one. In 10,921 entries there is
-// room for all of them: each reached condition takes nine bytes of a record and two entries, each binder three bytes and at most one entry, each aggregate eleven
-// bytes and at most three entries, and behind its first five bytes a record has at most 32,763.
+// Nothing that is promised depends on which aggregates have a list: among the binders of the others a name is looked up one by one. A record has room for all of
+// them in 10,921 entries: behind its first five bytes it has at most 32,763, of which each reached condition takes nine for two entries, each named binder three
+// for one, and each aggregate eleven for three; and there is a condition at least, so that the count has its entry too. Only at the end of a full record a list may
+// be left out, for binders of it that have no name.
 use crate::Directory;
 use crate::flat::bound_listed;
 use crate::flat::declare_all;
