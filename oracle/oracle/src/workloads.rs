@@ -135,7 +135,8 @@ pub fn scoped() -> Vec<Workload> {
         own("nested binders, 255 targets", 255, nested_binders()),
         own("sibling binders, 255 targets", 255, sibling_binders()),
         own("sibling sums, 255 targets", 255, sibling_sums()),
-        own("variables in nested lists, 1 target", 1, nested_lists()),
+        own("variables in nested lists, 1 target", 1, nested_lists(|_| "w".into())),
+        own("variables in nested lists of 255 names, 1 target", 1, nested_lists(pair)),
     ]
 }
 
@@ -514,11 +515,16 @@ fn sibling_sums() -> Piece {
     of(most(LONGEST, of))
 }
 
+/// Two letters, another two for each of 255 numbers.
+fn pair(i: usize) -> String {
+    [i / 16, i % 16].map(|digit| char::from(b'a' + digit as u8)).iter().collect()
+}
+
 /// A record of 32 KB: a comparison that is a tree of variables, in eight lists of 255 binders each, and the binder that is
-/// meant around them.
-fn nested_lists() -> Piece {
+/// meant around them. The names of a list are given by their numbers.
+fn nested_lists(name: fn(usize) -> String) -> Piece {
     const LISTS: usize = 8;
-    let list = || vec![named("w", &NONE); 255];
+    let list = || (0..255).map(|i| named(&name(i), &NONE)).collect();
     let listed = |body: Piece| comparison((0, 9), 1, count((0, 9), list(), body), integer());
     let of = |count: usize| {
         let leaves = (0..count).map(|_| var("v")).collect();
