@@ -2,7 +2,7 @@
 use crate::Spot;
 use names::Order;
 ghost use mathlib.Core.Path.{_≡_};
-ghost use Prim.Native.Nat.{_+_, _<_, _≤_};
+ghost use Prim.Native.Nat.{_+_, _-_, _/_, _<_, _≤_};
 ghost use lib.ListN.{length, set};
 ghost use Rattle.names.specs.Names.{order};
 ghost use Rattle.walk.specs.Environment.{nameAt, Sorted, SpotOf, Inserted};
@@ -31,7 +31,7 @@ fn order_at(s: &[u8], table: &[u16], i: usize, name: &[u8]) -> usize
 // A place in the middle of those from `low` on and before `high`.
 pub fn halfway(low: usize, high: usize) -> usize
     requires { ⌜ low < high ⌝ }
-    ensures { λ r. ⌜ (low ≤ r) × (r < high) ⌝ }
+    ensures { λ r. ⌜ (r ≡ low + (high - low) / 2) × (low ≤ r) × (r < high) ⌝ }
 {
     low + (high - low) / 2
 }
