@@ -3,6 +3,7 @@ pub mod Decode
 pub mod Kept
 pub mod Sink
 pub mod Slots
+pub mod Standing
 pub mod Pairs
 pub mod Answers
 pub mod Placed

@@ -3,6 +3,7 @@ mod buffer;
 mod earlier;
 mod pieces;
 mod slots;
+mod standing;
 mod tabled;
 
 pub use buffer::answer_of;
@@ -17,6 +18,8 @@ pub use pieces::put_piece;
 pub use pieces::text_size;
 pub use pieces::word_count;
 pub use slots::clear;
+pub use standing::refile;
+pub use standing::resume;
 pub use tabled::push_scratch;
 
 // What the buffer holds: the bytes used, the reports in them, and whether one did not fit.
@@ -24,6 +27,12 @@ pub struct State {
     pub used: usize,
     pub count: usize,
     pub full: bool,
+}
+
+// A buffer that is handed back: what it holds, and how many of its bytes may be used.
+pub struct Resumed {
+    pub state: State,
+    pub size: usize,
 }
 
 // What a run answers: the number of a refusal, 0 for none; the record that it is about, 0 for none; how many reports the buffer holds.

@@ -1,9 +1,12 @@
 // The target record and the path record: which bytes are one, and what stands in them.
+mod append;
 mod list;
 mod query;
 mod read;
 mod scope;
 
+pub use append::count_at;
+pub use append::read_alone;
 pub use list::count;
 pub use list::first_target;
 pub use list::id_of;

@@ -23,7 +23,7 @@ fn read_narrowing(s: &[u8], at: usize) -> Read
     names::read_string(s, at + 1, Class::PathName)
 }
 
-fn read_target(s: &[u8], at: usize) -> Read
+pub fn read_target(s: &[u8], at: usize) -> Read
     ensures { λ r. ⌜ r ≡ ending (target (now (s .entry)) at) ⌝ }
 {
     let namespace = names::read_string(s, at, Class::PathOrNone);

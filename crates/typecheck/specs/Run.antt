@@ -5,15 +5,19 @@ use mathlib.Core.Bool.{true, cond}
 use mathlib.Core.List.{List, [], _∷_, map}
 use lib.ListN.{length}
 use Rattle.names.specs.Lists.{gather}
+use Rattle.names.specs.Fields.{either, whole}
 use Rattle.types.specs.Types.{dated}
 use Rattle.types.specs.declared.Profile.{Profile}
 use Rattle.types.specs.Meaning.{profileIn}
+use Rattle.schema.specs.Schema.{Schema, schemaRecord}
 use Rattle.schema.specs.Places.{isSchema, schemaIn, actionIn, foundIn}
+use Rattle.condition.specs.Condition.{Condition, conditionRecord}
 use Rattle.condition.specs.Places.{isRecord, recordIn}
 use Rattle.walk.specs.Index.{nodesOf}
 use Rattle.walk.specs.Scopes.{nodesBy}
 use Rattle.walk.specs.Enclosing.{bindingIn}
 use Rattle.walk.specs.declared.Binding.{Binding}
+use Rattle.targets.specs.Targets.{Targets, targetRecord}
 use Rattle.targets.specs.Places.{areTargets, targetsIn, targetIn}
 use Rattle.terms.specs.declared.Common.{Common}
 use Rattle.terms.specs.declared.Facts.{Facts}
@@ -22,7 +26,7 @@ use Rattle.reports.specs.Reports.{Breach}
 use Rattle.reports.specs.declared.State.{State}
 use Rattle.reports.specs.Sink.{Sink, sink, pushAll}
 use Rattle.reports.specs.Slots.{Pushed}
-use Rattle.typecheck.specs.Check.{Choices, breachesAt, visitsUnder, unvisited, checkWith}
+use Rattle.typecheck.specs.Check.{Choices, breachesAt, visitsUnder}
 use Rattle.typecheck.specs.declared.Progress.{Progress}
 use Rattle.typecheck.specs.declared.Records.{Records}
 use Rattle.typecheck.specs.declared.Records.the-variants.{Refused, Read}
@@ -35,10 +39,24 @@ pub record Accepted (s c n : List ℕ) : Type 0 where
   pub condition : isRecord c ≡ true
   pub targets : areTargets n ≡ true
 
--- what reading them says: they are accepted, or the check is refused by this number and record, whatever the rules
+-- the three records read in their order: what they hold, or the first refusal, its number and its record
+pub data Reading : Type 0 where
+  refused : ℕ → ℕ → Reading
+  read : Schema → Condition → Targets → Reading
+
+unfoldable pub reading : List ℕ → List ℕ → List ℕ → Reading
+reading s c n =
+    either (λ r. refused r 1) (λ s. either (λ r. refused r 2) (λ c. either (λ r. refused r 3) (λ ts. read s c ts) (whole targetRecord n)) (whole conditionRecord c)) (whole schemaRecord s)
+
+-- by cases on it
+abbrev pub byReading : {A : Type 0} → (ℕ → ℕ → A) → (Schema → Condition → Targets → A) → Reading → A
+byReading f g (refused number which) = f number which
+byReading f g (read s c ts) = g s c ts
+
+-- what reading them says: they are accepted, or refused by this number and record
 abbrev pub ReadAs : List ℕ → List ℕ → List ℕ → Records → Type 0
 ReadAs s c n Read = Accepted s c n
-ReadAs s c n (Refused number which) = (rules : ℕ) (b : List ℕ) → unvisited number which b ≡ checkWith rules s c n b
+ReadAs s c n (Refused number which) = reading s c n ≡ refused number which
 
 -- what the code's choices mean, and those that all targets have in common
 abbrev pub choicesIn : Profile → Binding → Choices

@@ -3,7 +3,9 @@ mod run;
 
 use reports::State;
 pub use run::check;
+pub use run::check_target;
 pub use run::check_with;
+pub use run::read_records;
 use terms::Facts;
 
 // What a check answers: the number of a refusal, 0 for none; the record that it is about, 0 for none; how many reports the buffer holds; how many visits were

@@ -19,14 +19,14 @@ ghost use Rattle.names.specs.Lists.{maybe};
 ghost use Rattle.types.specs.Types.{plain};
 ghost use Rattle.types.specs.Meaning.{profileIn};
 ghost use Rattle.schema.specs.Places.{isSchema, schemaIn, isAction, actionIn, foundIn, foundStands, ActionsOf};
-ghost use Rattle.targets.specs.Places.{areTargets, targetsIn, isTarget};
+ghost use Rattle.targets.specs.Places.{areTargets, targetsIn, isTarget, targetIn};
 ghost use Rattle.condition.specs.Places.{recordIn};
 ghost use Rattle.walk.specs.Index.{Index};
 ghost use Rattle.resolution.specs.Resolution.{admitsAnyEnv};
 ghost use Rattle.reports.specs.Sink.{sink};
 ghost use Rattle.reports.specs.Slots.{Lent, Empty};
 ghost use Rattle.terms.specs.Facts.{Ready};
-ghost use Rattle.typecheck.specs.Check.{profileOf, checked, checkWith, check};
+ghost use Rattle.typecheck.specs.Check.{profileOf, choicesOf, visitsUnder, checked, checkWith, check};
 ghost use Rattle.typecheck.specs.Answers.{checkOutcomeOf, WithVisits, Spared};
 ghost use Rattle.typecheck.specs.Run.{Accepted, ReadAs, choicesIn, chosenIn, KnownUnder, underVisits, UnderKnown, UnderHere, allVisits, Visited};
 
@@ -264,7 +264,7 @@ fn checked<'a>(
 }
 
 // The records, read in their order: the first refusal stands.
-fn read_records(schema: &[u8], condition: &[u8], targets: &[u8]) -> Records
+pub fn read_records(schema: &[u8], condition: &[u8], targets: &[u8]) -> Records
     ensures { λ r. ⌜ ReadAs (now (schema .entry)) (now (condition .entry)) (now (targets .entry)) r ⌝ }
 {
     let first = schema::read_schema(schema);
@@ -280,6 +280,77 @@ fn read_records(schema: &[u8], condition: &[u8], targets: &[u8]) -> Records
         return Records::Refused(names::refusal_number(third), 3);
     };
     Records::Read
+}
+
+// The visits under one target, the one that stands at `at`, with the caller's rules: the reached nodes are given, and the binders are put into a table.
+fn target_places<'a>(
+    buf: &mut [u8],
+    table: &mut [u32],
+    state: State,
+    schema: &'a [u8],
+    condition: &'a [u8],
+    targets: &[u8],
+    places: &[u16],
+    at: usize,
+    rules: u8,
+) -> Progress
+    requires { ⌜ Lent (sink (now buf) state) (now table) ⌝ }
+    requires { ⌜ Accepted (now schema) (now condition) (now targets) ⌝ }
+    requires { ⌜ Index (now condition) (now places) ⌝ }
+    requires { ⌜ isTarget (now targets) at ≡ true ⌝ }
+    ensures { λ r. ⌜ Visited (now (buf .entry)) state (visitsUnder (choicesOf rules) (schemaIn (now (schema .entry))) (recordIn (now (condition .entry))) (targetsIn (now (targets .entry)) .scope) (targetIn (now (targets .entry)) at)) (now (buf .exit)) r (now (table .exit)) ⌝ }
+{
+    let mut binders = [0u16; 10921];
+    let binding = walk::binding_of(rules);
+    let n = walk::names_of(binding, condition, places, &mut binders);
+    let common = Common {
+        actions: schema::actions(schema),
+        profile: profile_of(rules),
+        binding,
+    };
+    let target = under_target(schema, targets, common, at);
+    under(
+        buf,
+        table,
+        state,
+        schema,
+        condition,
+        targets,
+        places,
+        &binders[..n],
+        target,
+    )
+}
+
+// The visits under one target, from a buffer with its state and its table on. What they find is put behind the reports that the buffer holds.
+pub fn check_target<'a>(
+    buf: &mut [u8],
+    table: &mut [u32],
+    state: State,
+    schema: &'a [u8],
+    condition: &'a [u8],
+    targets: &[u8],
+    at: usize,
+    rules: u8,
+) -> Progress
+    requires { ⌜ Lent (sink (now buf) state) (now table) ⌝ }
+    requires { ⌜ Accepted (now schema) (now condition) (now targets) ⌝ }
+    requires { ⌜ isTarget (now targets) at ≡ true ⌝ }
+    ensures { λ r. ⌜ Visited (now (buf .entry)) state (visitsUnder (choicesOf rules) (schemaIn (now (schema .entry))) (recordIn (now (condition .entry))) (targetsIn (now (targets .entry)) .scope) (targetIn (now (targets .entry)) at)) (now (buf .exit)) r (now (table .exit)) ⌝ }
+{
+    let mut places = [0u16; 3641];
+    let n = walk::index_record(condition, &mut places);
+    target_places(
+        buf,
+        table,
+        state,
+        schema,
+        condition,
+        targets,
+        &places[..n],
+        at,
+        rules,
+    )
 }
 
 // The profile that a caller's rules choose: bit 0 is strict.

@@ -1,0 +1,133 @@
+-- The stepping check: a list of targets of which each position is pending, done or withdrawn. A step does the first pending one; between steps targets are
+-- appended, or a pending one is withdrawn, and no position ever moves.
+-- The caller holds all of it: the list is record 3, the reports stand in the buffer, and the state says what those two do not. Nothing is assumed of any of them.
+use Prim.Native.Nat.{ℕ, zero, suc, _+_, _-_}
+use mathlib.Core.Bool.{Bool, true, false, cond, _&&_, _||_}
+use mathlib.Core.List.{List, [], _∷_, _++_}
+use mathlib.Core.Option.{Option, none, some}
+use lib.ListN.{length, getD, set, take, drop}
+use lib.Dec.{leb, ltb, eqb}
+use Rattle.names.specs.Lists.{maybe}
+use Rattle.names.specs.Fields.{either, whole}
+use Rattle.schema.specs.Schema.{Schema}
+use Rattle.condition.specs.Condition.{Condition}
+use Rattle.targets.specs.Targets.{Target, Targets, Scope, targetRecord}
+use Rattle.targets.specs.Appending.{aloneTarget, withOneMore}
+use Rattle.reports.specs.Reports.{Outcome, refusal}
+use Rattle.reports.specs.Placed.{placed}
+use Rattle.reports.specs.Sink.{answer, pushAll}
+use Rattle.reports.specs.Standing.{standing, resumed}
+use Rattle.typecheck.specs.Check.{Choices, choicesOf, breachesUnder, visitsUnder, CheckOutcome, unvisited}
+use Rattle.typecheck.specs.Run.{reading, byReading, begunFrom}
+use Rattle.steps.specs.declared.Steps.{Steps}
+
+-- ---- the list
+
+-- What a mark says of its position: 0 pending, 1 done, 2 withdrawn. (A state that was not left by these calls may have others: they are those of positions that
+-- are not pending.)
+abbrev pub pending done withdrawn : ℕ
+pending = 0
+done = 1
+withdrawn = 2
+
+unfoldable pub isPending : List ℕ → ℕ → Bool
+isPending marks i = eqb (getD marks i pending) pending
+
+-- the first pending target, with its position, of those that stand from a position on
+unfoldable pub firstPending : List ℕ → ℕ → List Target → Option (ℕ × Target)
+firstPending marks i [] = none
+firstPending marks i (t ∷ rest) = cond (isPending marks i) (some (i, t)) (firstPending marks (i + 1) rest)
+
+unfoldable pub zeros : ℕ → List ℕ
+zeros zero = []
+zeros (suc n) = 0 ∷ zeros n
+
+-- ---- what a call gives: the answer, the buffer and the visits as a check has them, and the state to hand in next
+pub record SteppedOutcome : Type 0 where
+  pub check : CheckOutcome
+  pub state : Steps
+
+-- a refused call changes nothing
+abbrev pub unchanged : Steps → List ℕ → ℕ → ℕ → SteppedOutcome
+unchanged st buffer number rec = record { check = unvisited number rec buffer; state = st }
+
+-- ---- the start: the records are read as Check reads them, and no target is done. (No buffer is lent.)
+unfoldable pub begins : ℕ → Steps
+begins rules = record { rules = rules; stopped = 0; marks = zeros 256; used = 0; visits = 0 }
+
+unfoldable pub start : ℕ → List ℕ → List ℕ → List ℕ → SteppedOutcome
+start rules schemaBytes conditionBytes targetBytes =
+    byReading (unchanged (begins rules) []) (λ s c ts. unchanged (begins rules) [] 0 0) (reading schemaBytes conditionBytes targetBytes)
+
+-- ---- a step
+
+-- the answer of the check so far, which is the answer again where no target is done any more
+unfoldable pub soFar : Steps → List ℕ → SteppedOutcome
+soFar st buffer =
+    record {
+      check =
+          record {
+            outcome =
+                record {
+                  answer = record { number = cond (eqb (st .stopped) 0) 0 11; recordNumber = 0; count = length (standing (take (st .used) buffer)) };
+                  buffer = buffer;
+                };
+            visits = st .visits;
+          };
+      state = st;
+    }
+
+-- a number of visits as the state holds it: those above 2^32 - 1 are that many
+unfoldable pub capped : ℕ → ℕ
+capped n = cond (ltb n 4294967296) n 4294967295
+
+-- a target done: what it breaks goes behind the earlier reports, as far as it is new and fits; it is done whether all fits or not
+unfoldable pub doing : Choices → Schema → Condition → Scope → Steps → List ℕ → ℕ × Target → SteppedOutcome
+doing k s c scope st buffer (i, t) =
+    let before = resumed (st .used) buffer in
+    let after = pushAll before (breachesUnder k s c scope t) in
+    let visits = capped (st .visits + begunFrom before (visitsUnder k s c scope t)) in
+    record {
+      check = record { outcome = record { answer = answer (after .state); buffer = after .bytes ++ drop (length (after .bytes)) buffer }; visits = visits };
+      state =
+          record {
+            rules = st .rules;
+            stopped = cond (after .state .full) 1 0;
+            marks = set (st .marks) i done;
+            used = st .used + (after .state .used - before .state .used);
+            visits = visits;
+          };
+    }
+
+-- the first pending target is done, nothing where none is pending, and nothing after one that did not fit
+unfoldable pub stepOver : Choices → Schema → Condition → Targets → Steps → List ℕ → SteppedOutcome
+stepOver k s c ts st buffer =
+    cond (eqb (st .stopped) 0)
+    (maybe (soFar st buffer) (doing k s c (ts .scope) st buffer) (firstPending (st .marks) 0 (ts .list)))
+    (soFar st buffer)
+
+unfoldable pub step : Steps → List ℕ → List ℕ → List ℕ → List ℕ → SteppedOutcome
+step st schemaBytes conditionBytes targetBytes buffer =
+    byReading (unchanged st buffer) (λ s c ts. stepOver (choicesOf (st .rules)) s c ts st buffer) (reading schemaBytes conditionBytes targetBytes)
+
+-- ---- between steps
+
+-- A target appended to the list, which is the first `used` bytes of a buffer (all of it where it is shorter): the list is read, then the target, both as
+-- record 3; 18 where the list would have more than 255 targets or 32,768 bytes; 11 where the buffer has no room for it. The count is the list's new length
+unfoldable pub append : List ℕ → ℕ → List ℕ → Outcome
+append buffer used new =
+    let list = take used buffer in
+    either (λ r. refusal r 3 buffer)
+    (λ ts. either (λ r. refusal r 3 buffer)
+    (λ t. cond (ltb 254 (length (ts .list)) || ltb 32768 (length list + length new)) (refusal 18 0 buffer) (placed (withOneMore list new) buffer))
+    (aloneTarget new 0))
+    (whole targetRecord list)
+
+-- a pending target withdrawn by its position; 19 where it is done, withdrawn or absent. (No buffer is lent.)
+unfoldable pub withdraw : Steps → List ℕ → ℕ → SteppedOutcome
+withdraw st targetBytes position =
+    either (λ r. unchanged st [] r 3)
+    (λ ts. cond (ltb position (length (ts .list)) && isPending (st .marks) position)
+    (unchanged (record { rules = st .rules; stopped = st .stopped; marks = set (st .marks) position withdrawn; used = st .used; visits = st .visits }) [] 0 0)
+    (unchanged st [] 19 0))
+    (whole targetRecord targetBytes)
