@@ -1,20 +1,18 @@
 -- The run: each reached node under a target, each target, and the records that are read before them. Assumes nothing.
 use mathlib.Core.Path.{_≡_, refl, sym, ap, ap₂, _∙_}
-use mathlib.Core.Bool.{Bool, true, false, cond}
+use mathlib.Core.Bool.{Bool, true, false}
 use mathlib.Core.List.{List, [], _∷_, _++_, map, append-nil}
 use mathlib.Core.Option.{Option, none, some}
-use Prim.Native.Nat.{ℕ, suc, _+_, _-_, _*_, _%_, _≤_, _<_}
+use Prim.Native.Nat.{ℕ, _+_, _-_, _*_, _%_, _≤_, _<_}
 use native.Mathlib.Nat.{add-assoc}
 use native.Mathlib.Omega.{arith}
 use borrow.Author.Needs.{needs}
 use borrow.Author.Tests.{ne-eqb}
-use lib.Dec.{eqb}
 use lib.ListN.{length, length-map, drop, drop-of-length-le}
 use lib.Seq.{length-take-le}
 use Rattle.names.specs.Lists.{maybe, gather}
-use Rattle.names.specs.Laws.Lists.{gather-append}
 use Rattle.names.specs.Fields.{whole}
-use Rattle.names.specs.Read.{ending, readNumber, valueOr, Listed}
+use Rattle.names.specs.Read.{ending, readNumber, Listed}
 use Rattle.names.specs.declared.Read.{Read}
 use Rattle.names.specs.declared.Read.the-variants as Read
 use Rattle.names.specs.Laws.Readers.{accept, passes, refused-by, refuses}
@@ -43,23 +41,24 @@ use Rattle.walk.specs.declared.Binding as walk
 use Rattle.walk.specs.declared.Binding.the-variants as Binding
 use Rattle.resolution.specs.Resolution.{admitsAnyEnv}
 use Rattle.reports.specs.Reports.{Breach, Outcome, once, reported}
-use Rattle.reports.specs.Kept.{fold, fold-append}
+use Rattle.reports.specs.Kept.{fold}
 use Rattle.reports.specs.declared.State.{State}
 use Rattle.reports.specs.declared.Answer.{Answer}
 use Rattle.reports.specs.Sink as sinks
-use Rattle.reports.specs.Sink.{Sink, sink, push, pushAll, start}
+use Rattle.reports.specs.Sink.{Sink, sink, pushAll}
 use Rattle.reports.specs.Slots.{Lent, Pushed}
-use Rattle.reports.specs.Laws.Sinks.{recorded-none, push-full, pushAll-reported}
+use Rattle.reports.specs.Laws.Sinks.{recorded-none}
 use Rattle.reports.specs.Laws.Slots.{zeros-empty, lent-start}
 use Rattle.reports.specs.Answers.{outcomeOf, Answers, Refuses, pushed}
 use Rattle.terms.specs.declared.Common.{Common}
 use Rattle.terms.specs.declared.Facts.{Facts}
 use Rattle.terms.specs.Facts.{factsIn, scopeIn, atNode, Ready, Known, FactsOf}
 use Rattle.rules.specs.Rules.{nodeBreaches}
-use Rattle.typecheck.specs.Check.{profileOf, Choices, breachesAt, breachesUnder, isChecked, visitsUnderBy, visitsUnder, begun, CheckOutcome, checkedBy, checked, checkWithBy, checkWith, check}
+use Rattle.typecheck.specs.Check.{profileOf, Choices, breachesAt, breachesUnder, isChecked, visitsUnderBy, visitsUnder, CheckOutcome, checkedBy, checked, checkWith, check}
 use Rattle.typecheck.specs.Answers.{checkOutcomeOf, WithVisits, Spared}
-use Rattle.typecheck.specs.Run.{Accepted, ReadAs, choicesIn, chosenIn, KnownUnder, underVisits, UnderKnown, UnderHere, foundBy, begunFrom, Visited}
-use Rattle.typecheck.specs.Laws.Visits.{found-all}
+use Rattle.typecheck.specs.Run.{Accepted, ReadAs, reading, choicesIn, chosenIn, KnownUnder, underVisits, UnderKnown, UnderHere, foundBy, begunFrom, Visited}
+use Rattle.typecheck.specs.Laws.Visits.{found-all, full-stays, full-begins, found-append, begun-append, begun-few, begun-run}
+use Rattle.typecheck.specs.Laws.Reading.{check-reading, accepted-reading}
 use Rattle.typecheck.specs.declared.CheckAnswer.{CheckAnswer}
 use Rattle.typecheck.specs.declared.Progress.{Progress}
 use Rattle.typecheck.specs.declared.Records.{Records}
@@ -68,49 +67,6 @@ use Rattle.typecheck.specs.declared.Under.{Under}
 use Rattle.typecheck.specs.declared.Under.the-variants.{Skipped, Checked}
 
 -- ---- visits
-
--- a buffer that is full stays as it is, and no visit is begun any more
-full-stays : (s : Sink) → s .state .full ≡ true → (bs : List Breach) → pushAll s bs ≡ s
-unfolding fold
-full-stays s h [] = refl
-full-stays s h (b ∷ bs) = rw (← push-full (s .bytes) (s .state) b h) (full-stays s h bs)
-
-full-begins : (s : Sink) → s .state .full ≡ true → (visits : List (List Breach)) → begunFrom s visits ≡ 0
-unfolding begunFrom
-full-begins s h [] = refl
-full-begins s h (v ∷ vs) = rw h
-
-found-append : (s : Sink) (xs ys : List (List Breach)) → pushAll s (foundBy (xs ++ ys)) ≡ pushAll (pushAll s (foundBy xs)) (foundBy ys)
-found-append s xs ys = ap (pushAll s) (gather-append (λ v. v) xs ys) ∙ fold-append push s (foundBy xs) (foundBy ys)
-
-open-begins : (s : Sink) → s .state .full ≡ false → (v : List Breach) (vs : List (List Breach)) → begunFrom s (v ∷ vs) ≡ suc (begunFrom (pushAll s v) vs)
-unfolding begunFrom
-open-begins s h v vs = ap (λ (b : Bool). cond b 0 (suc (begunFrom (pushAll s v) vs))) h
-
-none-begins : (s : Sink) → begunFrom s [] ≡ 0
-unfolding begunFrom
-none-begins s = refl
-
-begun-append : (s : Sink) (xs ys : List (List Breach)) → begunFrom s (xs ++ ys) ≡ begunFrom s xs + begunFrom (pushAll s (foundBy xs)) ys
-unfolding gather fold
-begun-append s [] ys = omega (arith, none-begins s)
-begun-append s (x ∷ xs) ys = go (s .state .full) refl (begun-append (pushAll s x) xs ys)
-  where
-    go : (full : Bool) → s .state .full ≡ full → begunFrom (pushAll s x) (xs ++ ys) ≡ begunFrom (pushAll s x) xs + begunFrom (pushAll (pushAll s x) (foundBy xs)) ys
-        → begunFrom s (x ∷ (xs ++ ys)) ≡ begunFrom s (x ∷ xs) + begunFrom (pushAll s (x ++ foundBy xs)) ys
-    go true e rest =
-        omega (arith, full-begins s e (x ∷ (xs ++ ys)), full-begins s e (x ∷ xs), ap (λ (t : Sink). begunFrom t ys) (full-stays s e (x ++ foundBy xs)), full-begins s e ys)
-    go false e rest =
-        omega (arith, open-begins s e x (xs ++ ys), open-begins s e x xs, ap (λ (t : Sink). begunFrom t ys) (fold-append push s x (foundBy xs)), rest)
-
-begun-few : (s : Sink) (visits : List (List Breach)) → begunFrom s visits ≤ length visits
-unfolding begunFrom
-begun-few s [] = omega arith
-begun-few s (v ∷ vs) = go (s .state .full) (begunFrom (pushAll s v) vs) (begun-few (pushAll s v) vs)
-  where
-    go : (full : Bool) (n : ℕ) → n ≤ length vs → cond full 0 (suc n) ≤ length (v ∷ vs)
-    go true n h = omega arith
-    go false n h = omega arith
 
 -- a loop that makes visits: those that are left, made, make the whole, and those begun since make up the count
 pub record Visiting (all : Sink) (total : ℕ) (now : Sink) (table : List ℕ) (count : ℕ) (left : List (List Breach)) : Type 0 where
@@ -298,19 +254,6 @@ pub ruleset each-target = (needs, targets-begin, targets-over, targets-full, tar
 
 -- ---- the records
 
--- a run from no report begins the visits of the definition
-begun-run : (old : List ℕ) (before : List Breach) (visits : List (List Breach)) → begunFrom (pushAll (start old) before) visits ≡ begun old before visits
-unfolding begunFrom begun
-begun-run old before [] = refl
-begun-run old before (v ∷ vs) =
-    let e : reported (once [] before) old .answer .number ≡ cond (pushAll (start old) before .state .full) 11 0 = sym (ap (λ (o : Outcome). o .answer .number) (pushAll-reported old before)) in
-    let next : begunFrom (pushAll (pushAll (start old) before) v) vs ≡ begun old (before ++ v) vs = ap (λ (s : Sink). begunFrom s vs) (sym (fold-append push (start old) before v)) ∙ begun-run old (before ++ v) vs in
-    go (pushAll (start old) before .state .full) _ e (begunFrom (pushAll (pushAll (start old) before) v) vs) (begun old (before ++ v) vs) next
-  where
-    go : (full : Bool) (number : ℕ) → number ≡ cond full 11 0 → (a b : ℕ) → a ≡ b → cond full 0 (suc a) ≡ cond (eqb number 0) (suc b) 0
-    go true number e a b q = rw e
-    go false number e a b q = rw (e, q)
-
 pub all-checked : (k : Choices) (s : Schema) (c : Condition) (ts : Targets) (b : List ℕ) {t table : List ℕ} {end : Progress} → Visited b sinks.none (gather (visitsUnder k s c (ts .scope)) (ts .list)) t end table
     → {a : Answer} → Answers (end .state) a → {r : CheckAnswer} → WithVisits a (end .visits) r → checkOutcomeOf r t ≡ checked k s c ts b
 unfolding checkedBy fold
@@ -329,8 +272,8 @@ pub ruleset indexed = (needs, length-take-le, lent-start, all-ready, all-checked
 
 module _ (s c n : List ℕ) (x : Read) (is-x : x ≡ ending (whole schemaRecord s)) where
   pub schema-refused : (r : ℕ) → x ≡ Read.Refused r → (k : ℕ) → k ≡ readNumber x → ReadAs s c n (Records.Refused k 1)
-  unfolding checkWithBy
-  schema-refused r e k f rules b = rw (refused-by (whole schemaRecord s) x r is-x e, ← refuses e f)
+  unfolding reading
+  schema-refused r e k f = rw (refused-by (whole schemaRecord s) x r is-x e, ← refuses e f)
 
   module _ (p : ℕ) (e : x ≡ Read.Next p) where
     schema-read : isSchema s ≡ true
@@ -338,8 +281,8 @@ module _ (s c n : List ℕ) (x : Read) (is-x : x ≡ ending (whole schemaRecord 
 
     module _ (y : Read) (is-y : y ≡ ending (whole conditionRecord c)) where
       pub condition-refused : (r : ℕ) → y ≡ Read.Refused r → (k : ℕ) → k ≡ readNumber y → ReadAs s c n (Records.Refused k 2)
-      unfolding checkWithBy
-      condition-refused r d k f rules b =
+      unfolding reading
+      condition-refused r d k f =
           let g = accept (whole schemaRecord s) schema-read in
           rw (g .read, refused-by (whole conditionRecord c) y r is-y d, ← refuses d f)
 
@@ -349,8 +292,8 @@ module _ (s c n : List ℕ) (x : Read) (is-x : x ≡ ending (whole schemaRecord 
 
         module _ (z : Read) (is-z : z ≡ ending (whole targetRecord n)) where
           pub targets-refused : (r : ℕ) → z ≡ Read.Refused r → (k : ℕ) → k ≡ readNumber z → ReadAs s c n (Records.Refused k 3)
-          unfolding checkWithBy
-          targets-refused r d k f rules b =
+          unfolding reading
+          targets-refused r d k f =
               let g = accept (whole schemaRecord s) schema-read in
               let h = accept (whole conditionRecord c) condition-read in
               rw (g .read, h .read, refused-by (whole targetRecord n) z r is-z d, ← refuses d f)
@@ -358,7 +301,7 @@ module _ (s c n : List ℕ) (x : Read) (is-x : x ≡ ending (whole schemaRecord 
           pub records-read : (p″ : ℕ) → z ≡ Read.Next p″ → Accepted s c n
           records-read p″ e″ = record { schema = schema-read; condition = condition-read; targets = passes (whole targetRecord n) is-z e″ }
 
-pub ruleset reading = (needs, schema-refused, condition-refused, targets-refused, records-read)
+pub ruleset reading-records = (needs, schema-refused, condition-refused, targets-refused, records-read)
 
 -- the profile that the rules choose
 module _ (rules : ℕ) where
@@ -379,16 +322,10 @@ module _ (s c n b : List ℕ) (x : Records) (is : ReadAs s c n x) where
 
   module _ (rules : ℕ) where
     pub refused-records : (k w : ℕ) → x ≡ Records.Refused k w → {a : Answer} → Refuses k w a → {r : CheckAnswer} → WithVisits a 0 r → checkOutcomeOf r b ≡ checkWith rules s c n b
-    refused-records k w e f v = v .is b ∙ ap (λ (o : Outcome). record { outcome = o; visits = 0 }) (f .is b) ∙ (rw e at is) rules b
+    refused-records k w e f v = v .is b ∙ ap (λ (o : Outcome). record { outcome = o; visits = 0 }) (f .is b) ∙ sym (check-reading rules s c n b ∙ rw (rw e at is))
 
     pub records-checked : x ≡ Records.Read → (p : Profile) → profileIn p ≡ profileOf rules → (d : walk.Binding) → bindingIn d ≡ bindingOf rules → (a : CheckAnswer) (t : List ℕ) → checkOutcomeOf a t ≡ checked (choicesIn p d) (schemaIn s) (recordIn c) (targetsIn n) b → checkOutcomeOf a t ≡ checkWith rules s c n b
-    unfolding checkWithBy valueOr recordIn
-    records-checked e p h d l a t i =
-        let r = accepted-records e in
-        let u = accept (whole schemaRecord s) (r .schema) in
-        let v = accept (whole conditionRecord c) (r .condition) in
-        let w = accept (whole targetRecord n) (r .targets) in
-        i ∙ rw (h, l, u .read, v .read, w .read)
+    records-checked e p h d l a t i = i ∙ rw (h, l) (sym (check-reading rules s c n b ∙ rw (accepted-reading s c n (accepted-records e))))
 
   pub refused-plain : (k w : ℕ) → x ≡ Records.Refused k w → {a : Answer} → Refuses k w a → {r : CheckAnswer} → WithVisits a 0 r → checkOutcomeOf r b ≡ check s c n b
   unfolding check
