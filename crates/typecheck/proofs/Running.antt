@@ -54,7 +54,7 @@ use Rattle.terms.specs.declared.Common.{Common}
 use Rattle.terms.specs.declared.Facts.{Facts}
 use Rattle.terms.specs.Facts.{factsIn, scopeIn, atNode, Ready, Known, FactsOf}
 use Rattle.rules.specs.Rules.{nodeBreaches}
-use Rattle.typecheck.specs.Check.{profileOf, Choices, breachesAt, breachesUnder, isChecked, visitsUnderBy, visitsUnder, CheckOutcome, checkedBy, checked, checkWith, check}
+use Rattle.typecheck.specs.Check.{profileOf, Choices, choicesOf, breachesAt, breachesUnder, isChecked, visitsUnderBy, visitsUnder, CheckOutcome, checkedBy, checked, checkWith, check}
 use Rattle.typecheck.specs.Answers.{checkOutcomeOf, WithVisits, Spared}
 use Rattle.typecheck.specs.Run.{Accepted, ReadAs, reading, choicesIn, chosenIn, KnownUnder, underVisits, UnderKnown, UnderHere, foundBy, begunFrom, Visited}
 use Rattle.typecheck.specs.Laws.Visits.{found-all, full-stays, full-begins, found-append, begun-append, begun-few, begun-run}
@@ -269,6 +269,13 @@ pub all-ready : (s c n env : List ℕ) (row : Row) (p : Profile) (b : walk.Bindi
 all-ready s c n env row p b a e g = record { schema = a .schema; condition = a .condition; named = e; actions = g }
 
 pub ruleset indexed = (needs, length-take-le, lent-start, all-ready, all-checked)
+
+-- one target alone, under the choices of the rules
+pub target-alone : (rules : ℕ) (p : Profile) → profileIn p ≡ profileOf rules → (b : walk.Binding) → bindingIn b ≡ bindingOf rules → (s c n : List ℕ) (row : Row) (at : ℕ) (x : Under) → UnderHere s n (record { actions = row; profile = p; binding = b }) at x
+    → {old now table : List ℕ} {st : State} {r : Progress} → Visited old st (underVisits s c n x) now r table → Visited old st (visitsUnder (choicesOf rules) (schemaIn s) (recordIn c) (targetsIn n .scope) (targetIn n at)) now r table
+target-alone rules p h b l s c n row at x u v = rw (← h, ← l) (rw (u .value c) at v)
+
+pub ruleset alone = (needs, length-take-le, all-ready, target-known, target-alone)
 
 module _ (s c n : List ℕ) (x : Read) (is-x : x ≡ ending (whole schemaRecord s)) where
   pub schema-refused : (r : ℕ) → x ≡ Read.Refused r → (k : ℕ) → k ≡ readNumber x → ReadAs s c n (Records.Refused k 1)
