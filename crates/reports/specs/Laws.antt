@@ -5,3 +5,4 @@ pub mod Sinks
 pub mod Sets
 pub mod Once
 pub mod Slots
+pub mod Standing

@@ -88,11 +88,18 @@ pub record EntryOf (bs : List Breach) (entry : ℕ) : Type 0 where
   pub split : bs ≡ before ++ (here ∷ after)
   pub place : entry ≡ size before + 1
 
--- the slots have these reports, each where the search for it comes under the key, and nothing else
+-- the search for a pair meets the entry of a report that has it
+pub record Meets (key : ℕ) (bs : List Breach) (slots : List ℕ) (b : Breach) : Type 0 where
+  pub entry : ℕ
+  pub met : Met slots (firstSlot key (length slots) b) entry
+  pub entryOf : EntryOf bs entry
+  pub same : samePair b (entryOf .here) ≡ true
+
+-- the slots have the pairs of these reports, each where the search for it comes under the key, and nothing else
 pub record Tabled (key : ℕ) (bs : List Breach) (slots : List ℕ) : Type 0 where
-  pub number : taken slots ≡ length bs
+  pub number : taken slots ≤ length bs
   pub entries : (j : ℕ) → 0 < getD slots j 0 → EntryOf bs (getD slots j 0)
-  pub met : (before : List Breach) (b : Breach) (after : List Breach) → bs ≡ before ++ (b ∷ after) → Met slots (firstSlot key (length slots) b) (size before + 1)
+  pub met : (b : Breach) → anyOf (samePair b) bs ≡ true → Meets key bs slots b
 
 -- how many reports m slots take, so that a search passes few
 abbrev pub room : ℕ → ℕ

@@ -29,6 +29,13 @@ pub struct State {
     pub full: bool,
 }
 
+// What stands before a report's message: its start, its end, and the message's length.
+struct Header {
+    start: u32,
+    end: u32,
+    long: usize,
+}
+
 // A buffer that is handed back: what it holds, and how many of its bytes may be used.
 pub struct Resumed {
     pub state: State,

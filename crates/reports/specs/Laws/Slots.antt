@@ -24,7 +24,7 @@ use Rattle.reports.specs.Decode.{width, size, reports, long, longAt, rep
 use Rattle.reports.specs.Kept.{fold, Log, step}
 use Rattle.reports.specs.Sink.{Sink, sink, held, append, push, Sound, written, logOf, start}
 use Rattle.reports.specs.Laws.Sinks.{log-written, length-written, append-written, step-fits, sound-size, sound-start, sound-push}
-use Rattle.reports.specs.Slots.{keyOf, slotsOf, hashed, firstSlot, slotAt, Met, taken, EntryOf, Tabled, FreeFor, Finds, room, isOpen, Filed, Empty, Lent, Pushed}
+use Rattle.reports.specs.Slots.{keyOf, slotsOf, hashed, firstSlot, slotAt, Met, taken, EntryOf, Meets, Tabled, FreeFor, Finds, room, isOpen, Filed, Empty, Lent, Pushed}
 
 -- ---- the reports of a sound buffer, by the size of those before them
 
@@ -62,11 +62,6 @@ module _ (q : Breach → Bool) where
       or-true : (t : Bool) → (t || true) ≡ true
       or-true true = refl
       or-true false = refl
-
-  pub any-nowhere : (bs : List Breach) → ((before : List Breach) (b : Breach) (after : List Breach) → bs ≡ before ++ (b ∷ after) → q b ≡ false) → anyOf q bs ≡ false
-  unfolding anyOf
-  any-nowhere [] h = refl
-  any-nowhere (b ∷ bs) h = rw (h [] b bs refl, any-nowhere bs (λ before c after e. h (b ∷ before) c after (ap (λ (l : List Breach). b ∷ l) e)))
 
 -- ---- the search
 
@@ -147,12 +142,19 @@ module _ (key : ℕ) (s slots : List ℕ) (b : Breach) (k entry : ℕ) (before :
     other = λ i h. below-more (λ n. samePair b (report (drop (getD slots (slotAt (length slots) (firstSlot key (length slots) b) n) 0 - 1) s)) ≡ false) k (before .other) (rw (← is, ← here) unlike) i h;
   }
 
--- pairs that are alike are looked for from the same slot
-same-first : (key m : ℕ) (a b : Breach) → samePair a b ≡ true → firstSlot key m b ≡ firstSlot key m a
-same-first key m a b h =
-    let starts : a .start ≡ b .start = eqb-true (a .start) (b .start) (and-left (eqb (a .start) (b .start)) (same (a .message) (b .message)) h) in
-    let messages : a .message ≡ b .message = same-eq (a .message) (b .message) (and-right (eqb (a .start) (b .start)) (same (a .message) (b .message)) h) in
-    rw (starts, messages)
+-- pairs that are alike are looked for from the same slot, and are those of the same reports
+module _ (a b : Breach) (h : samePair a b ≡ true) where
+  starts : a .start ≡ b .start
+  starts = eqb-true (a .start) (b .start) (and-left (eqb (a .start) (b .start)) (same (a .message) (b .message)) h)
+
+  messages : a .message ≡ b .message
+  messages = same-eq (a .message) (b .message) (and-right (eqb (a .start) (b .start)) (same (a .message) (b .message)) h)
+
+  same-first : (key m : ℕ) → firstSlot key m b ≡ firstSlot key m a
+  same-first key m = rw (starts, messages)
+
+  same-any : (bs : List Breach) → anyOf (samePair b) bs ≡ anyOf (samePair a) bs
+  same-any bs = rw (starts, messages)
 
 module _ (sink : Sink) (p : Sound sink) (key : ℕ) (slots : List ℕ) (tabled : Tabled key (held sink) slots) (b : Breach) where
   -- an entry's report, and that it is whole
@@ -170,33 +172,32 @@ module _ (sink : Sink) (p : Sound sink) (key : ℕ) (slots : List ℕ) (tabled :
 
   -- a free slot after k steps: none of the reports is the pair
   module _ (k : ℕ) (searched : Searched key (sink .bytes) slots b k) (free : getD slots (slotAt (length slots) (firstSlot key (length slots) b) k) 0 ≡ 0) where
-    -- a report that is the pair would have been met: before, at, or behind the free slot
-    module _ (before : List Breach) (c : Breach) (after : List Breach) (e : held sink ≡ before ++ (c ∷ after)) (q : samePair b c ≡ true) where
-      its-slot : Met slots (firstSlot key (length slots) b) (size before + 1)
-      its-slot = subst (λ f. Met slots f (size before + 1)) (same-first key (length slots) b c q) (tabled .met before c after e)
-
-      met-before : its-slot .steps < k → ⊥
+    -- a report that has the pair would have been met: before, at, or behind the free slot
+    module _ (m : Meets key (held sink) slots b) where
+      met-before : m .met .steps < k → ⊥
       met-before l =
-          let at : getD slots (slotAt (length slots) (firstSlot key (length slots) b) (its-slot .steps)) 0 - 1 ≡ size before = omega (arith, its-slot .here) in
-          let other : samePair b c ≡ false = rw (at, report-at sink p before c after e) at (searched .other (its-slot .steps) l) in
-          true≢false (sym q ∙ other)
+          let e = m .entryOf in
+          let at : getD slots (slotAt (length slots) (firstSlot key (length slots) b) (m .met .steps)) 0 - 1 ≡ size (e .before) = omega (arith, m .met .here, e .place) in
+          let other : samePair b (e .here) ≡ false = rw (at, report-at sink p (e .before) (e .here) (e .after) (e .split)) at (searched .other (m .met .steps) l) in
+          true≢false (sym (m .same) ∙ other)
 
-      met-behind : k ≤ its-slot .steps → ⊥
-      met-behind l = ⊎-elim (λ same. omega (arith, its-slot .here, free, ap (λ n. getD slots (slotAt (length slots) (firstSlot key (length slots) b) n) 0) same)) (λ less. omega (arith, its-slot .passed k less)) (eq-or-lt-of-le l)
+      met-behind : k ≤ m .met .steps → ⊥
+      met-behind l =
+          ⊎-elim (λ same. omega (arith, m .met .here, m .entryOf .place, free, ap (λ n. getD slots (slotAt (length slots) (firstSlot key (length slots) b) n) 0) same)) (λ less. omega (arith, m .met .passed k less)) (eq-or-lt-of-le l)
 
       not-met : ⊥
-      not-met = go (ltb (its-slot .steps) k) refl
+      not-met = go (ltb (m .met .steps) k) refl
         where
-          go : (t : Bool) → ltb (its-slot .steps) k ≡ t → ⊥
-          go true l = met-before (ltb-true (its-slot .steps) k l)
-          go false l = met-behind (ltb-false (its-slot .steps) k l)
+          go : (t : Bool) → ltb (m .met .steps) k ≡ t → ⊥
+          go true l = met-before (ltb-true (m .met .steps) k l)
+          go false l = met-behind (ltb-false (m .met .steps) k l)
 
     pub free-new : anyOf (samePair b) (held sink) ≡ false
-    free-new = any-nowhere (samePair b) (held sink) (λ before c after e. go before c after e (samePair b c) refl)
+    free-new = go (anyOf (samePair b) (held sink)) refl
       where
-        go : (before : List Breach) (c : Breach) (after : List Breach) → held sink ≡ before ++ (c ∷ after) → (t : Bool) → samePair b c ≡ t → samePair b c ≡ false
-        go before c after e true q = absurd (not-met before c after e q)
-        go before c after e false q = q
+        go : (t : Bool) → anyOf (samePair b) (held sink) ≡ t → t ≡ false
+        go true q = absurd (not-met (tabled .met b q))
+        go false q = refl
 
   -- and one is free while there are fewer reports than slots
   pub some-free : (k : ℕ) → length slots ≤ k → Searched key (sink .bytes) slots b k → length (held sink) < length slots → ⊥
@@ -208,24 +209,15 @@ module _ (sink : Sink) (p : Sound sink) (key : ℕ) (slots : List ℕ) (tabled :
 
 -- ---- one report more
 
--- a part of a list with one more at its end: that one, or a part of the list
-module _ (x : Breach) where
-  data Part (xs before : List Breach) (b : Breach) : Type 0 where
-    last : before ≡ xs → b ≡ x → Part xs before b
-    within : (rest : List Breach) → xs ≡ before ++ (b ∷ rest) → Part xs before b
-
-  part-under : (y : Breach) {xs before : List Breach} {b : Breach} → Part xs before b → Part (y ∷ xs) (y ∷ before) b
-  part-under y (last e q) = last (ap (λ (l : List Breach). y ∷ l) e) q
-  part-under y (within rest e) = within rest (ap (λ (l : List Breach). y ∷ l) e)
-
-  part-of-snoc : (xs before : List Breach) (b : Breach) (after : List Breach) → xs ++ (x ∷ []) ≡ before ++ (b ∷ after) → Part xs before b
-  part-of-snoc [] [] b after e = last refl (cc)
-  part-of-snoc [] (c ∷ before) b after e = absurd (omega (arith, simp length-append at (ap length e)))
-  part-of-snoc (y ∷ xs) [] b after e = within xs (cc)
-  part-of-snoc (y ∷ xs) (c ∷ before) b after e =
-      let heads : y ≡ c = cc in
-      let tails : xs ++ (x ∷ []) ≡ before ++ (b ∷ after) = cc in
-      subst (λ d. Part (y ∷ xs) (d ∷ before) b) heads (part-under y (part-of-snoc xs before b after tails))
+-- a pair of a list with one more at its end: of the list, or that one's
+any-snoc : (c b : Breach) (bs : List Breach) → anyOf (samePair c) (bs ++ (b ∷ [])) ≡ true → (anyOf (samePair c) bs ≡ true) ⊎ (samePair c b ≡ true)
+unfolding anyOf
+any-snoc c b bs h = go (anyOf (samePair c) bs) (samePair c b) refl refl (sym (any-append (samePair c) bs (b ∷ [])) ∙ h)
+  where
+    go : (t u : Bool) → anyOf (samePair c) bs ≡ t → samePair c b ≡ u → (anyOf (samePair c) bs || (samePair c b || false)) ≡ true → (anyOf (samePair c) bs ≡ true) ⊎ (samePair c b ≡ true)
+    go true u e g k = inl e
+    go false true e g k = inr g
+    go false false e g k = absurd (false≢true (rw (e, g) at k))
 
 -- an entry stays in its slot where a free slot is taken
 module _ (slots : List ℕ) (j e : ℕ) (h : j < length slots) (free : getD slots j 0 ≡ 0) (p : 0 < e) where
@@ -244,13 +236,26 @@ module _ (slots : List ℕ) (j e : ℕ) (h : j < length slots) (free : getD slot
   }
 
 -- the entry of one of the reports is that of one of more
-entry-more : (bs : List Breach) (b : Breach) {entry : ℕ} → EntryOf bs entry → EntryOf (bs ++ (b ∷ [])) entry
+abbrev entry-more : (bs : List Breach) (b : Breach) {entry : ℕ} → EntryOf bs entry → EntryOf (bs ++ (b ∷ [])) entry
 entry-more bs b x = record {
   before = x .before;
   here = x .here;
   after = x .after ++ (b ∷ []);
   split = ap (λ (l : List Breach). l ++ (b ∷ [])) (x .split) ∙ append-assoc (x .before) (x .here ∷ x .after) (b ∷ []);
   place = x .place;
+}
+
+abbrev entry-last : (bs : List Breach) (b : Breach) → EntryOf (bs ++ (b ∷ [])) (size bs + 1)
+entry-last bs b = record { before = bs; here = b; after = []; split = refl; place = refl }
+
+-- a report whose pair the slots have is there already
+pub tabled-repeat : (key : ℕ) (bs : List Breach) (slots : List ℕ) → Tabled key bs slots → (b : Breach) → anyOf (samePair b) bs ≡ true → Tabled key (bs ++ (b ∷ [])) slots
+tabled-repeat key bs slots tabled b h = record {
+  number = omega (arith, tabled .number, length-append bs (b ∷ []));
+  entries = λ j l. entry-more bs b (tabled .entries j l);
+  met = λ c q.
+      let m = tabled .met c (⊎-elim (λ old. old) (λ like. sym (same-any c b like bs) ∙ h) (any-snoc c b bs q)) in
+      record { entry = m .entry; met = m .met; entryOf = entry-more bs b (m .entryOf); same = m .same };
 }
 
 -- the slot that a search gave takes the report
@@ -272,24 +277,34 @@ module _ (key : ℕ) (bs : List Breach) (slots : List ℕ) (tabled : Tabled key 
     passed = λ k l. rw length-set (still slots j entry slot-inside (slot .free) (omega arith) (slotAt (length slots) (firstSlot key (length slots) b) k) (slot .passed k l));
   }
 
-  met-all : (before : List Breach) (c : Breach) → Part b bs before c → Met (set slots j entry) (firstSlot key (length (set slots j entry)) c) (size before + 1)
-  met-all before c (last e q) = rw (e, q) met-new
-  met-all before c (within rest e) = rw length-set (met-still slots j entry slot-inside (slot .free) (omega arith) (firstSlot key (length slots) c) (size before + 1) (omega arith) (tabled .met before c rest e))
+  met-all : (c : Breach) → anyOf (samePair c) (bs ++ (b ∷ [])) ≡ true → Meets key (bs ++ (b ∷ [])) (set slots j entry) c
+  met-all c h = ⊎-elim (λ q. old (tabled .met c q)) (λ q. new q) (any-snoc c b bs h)
+    where
+      old : Meets key bs slots c → Meets key (bs ++ (b ∷ [])) (set slots j entry) c
+      old m = record {
+        entry = m .entry;
+        met = rw length-set (met-still slots j entry slot-inside (slot .free) (omega arith) (firstSlot key (length slots) c) (m .entry) (omega (arith, m .entryOf .place)) (m .met));
+        entryOf = entry-more bs b (m .entryOf);
+        same = m .same;
+      }
+
+      new : samePair c b ≡ true → Meets key (bs ++ (b ∷ [])) (set slots j entry) c
+      new q = record { entry = entry; met = rw (← same-first c b q key (length (set slots j entry))) met-new; entryOf = entry-last bs b; same = q }
 
   entries-all : (i : ℕ) → 0 < getD (set slots j entry) i 0 → EntryOf (bs ++ (b ∷ [])) (getD (set slots j entry) i 0)
   entries-all i l = go (eqb i j) refl
     where
       go : (t : Bool) → eqb i j ≡ t → EntryOf (bs ++ (b ∷ [])) (getD (set slots j entry) i 0)
-      go true e = rw (eqb-true i j e, here-now) (record { before = bs; here = b; after = []; split = refl; place = refl })
+      go true e = rw (eqb-true i j e, here-now) (entry-last bs b)
       go false e =
           let other : getD (set slots j entry) i 0 ≡ getD slots i 0 = getD-set-other slots j i entry 0 (eqb-false i j e) in
           rw other (entry-more bs b (tabled .entries i (rw other at l)))
 
   pub tabled-more : Tabled key (bs ++ (b ∷ [])) (set slots j entry)
   tabled-more = record {
-    number = taken-set slots j entry slot-inside (slot .free) (omega arith) ∙ rw (tabled .number) (sym (length-append bs (b ∷ [])));
+    number = omega (arith, taken-set slots j entry slot-inside (slot .free) (omega arith), tabled .number, length-append bs (b ∷ []));
     entries = entries-all;
-    met = λ before c after e. met-all before c (part-of-snoc b bs before c after e);
+    met = met-all;
   }
 
 -- no report is in slots that are all free
@@ -299,10 +314,11 @@ taken-none [] h = refl
 taken-none (e ∷ es) h = rw (eq-eqb e 0 (h 0)) (taken-none es (λ j. h (suc j)))
 
 pub tabled-none : (key : ℕ) (slots : List ℕ) → ((j : ℕ) → getD slots j 0 ≡ 0) → Tabled key [] slots
+unfolding anyOf
 tabled-none key slots free = record {
-  number = taken-none slots free;
+  number = omega (arith, taken-none slots free);
   entries = λ j l. absurd (omega (arith, free j));
-  met = λ before b after e. absurd (omega (arith, simp length-append at (ap length e)));
+  met = λ b q. absurd (false≢true q);
 }
 
 -- ---- a buffer and its table
@@ -323,11 +339,11 @@ slots-set [] j e = refl
 slots-set (x ∷ xs) j e = rw add-one
 
 module _ (s : Sink) (p : Sound s) where
-  held-count : length (held s) ≡ s .state .count
+  pub held-count : length (held s) ≡ s .state .count
   unfolding written
   held-count = sym (ap (λ (t : Sink). t .state .count) (p .is))
 
-  held-used : s .state .used ≡ size (held s)
+  pub held-used : s .state .used ≡ size (held s)
   unfolding written size
   held-used = ap (λ (t : Sink). t .state .used) (p .is)
 
@@ -376,7 +392,7 @@ module _ (s : List ℕ) (st : State) (table : List ℕ) (p : Sound (sink s st)) 
     few-open : t ≡ true → st .count < room (length (slotsOf table))
     few-open e = ltb-true (st .count) (room (length (slotsOf table))) (and-left (ltb (st .count) (room (length (slotsOf table)))) (ltb (length s) 4294967295) (sym is ∙ e))
 
-    open-short : t ≡ true → length s < 4294967295
+    pub open-short : t ≡ true → length s < 4294967295
     open-short e = ltb-true (length s) 4294967295 (and-right (ltb (st .count) (room (length (slotsOf table)))) (ltb (length s) 4294967295) (sym is ∙ e))
 
     pub open-tabled : t ≡ true → Tabled (keyOf table) (held before) (slotsOf table)
@@ -401,6 +417,12 @@ module _ (s : List ℕ) (st : State) (table : List ℕ) (p : Sound (sink s st)) 
     filed-more tabled j slot kept′ table′ e = record {
       tabled = λ few short.
           rw (is, held-more before p b (ap (λ (x : Sink). x .state .full) (sym is) ∙ kept′), e, key-set, slots-set, held-used before p) (tabled-more (keyOf table) (held before) (slotsOf table) tabled b j slot);
+    }
+
+    -- one whose pair the table has
+    pub filed-repeat : Tabled (keyOf table) (held before) (slotsOf table) → anyOf (samePair b) (held before) ≡ true → after .state .full ≡ false → Filed after table
+    filed-repeat tabled old kept′ = record {
+      tabled = λ few short. rw (is, held-more before p b (ap (λ (x : Sink). x .state .full) (sym is) ∙ kept′)) (tabled-repeat (keyOf table) (held before) (slotsOf table) tabled b old);
     }
 
     pub filed-still : after .state .full ≡ true → Filed after table
