@@ -2,7 +2,7 @@
 -- The first entry of a lent table is a key, which the caller may choose, and the slots are the entries behind it. The number is made with the key, so that
 -- whoever writes a request without knowing it does not know which reports share a slot. What is reported does not depend on it.
 -- A slot is 0 where it is free, else one more than the place of a report in the buffer. A report stands in the first slot that was free when it came, from
--- its own first slot on and from the last slot to the first one again.
+-- its own first slot on and from the last slot to the first one again. (Of reports with one pair, which only a buffer that was handed back can hold, the first does.)
 -- Every function that reports a (message, start) once says: `requires` Lent (sink (now buf) state) (now table), and `ensures` Pushed of its breaches.
 use mathlib.Core.Path.{_≡_}
 use mathlib.Core.Bool.{Bool, true, false, cond, _&&_}

@@ -1,10 +1,12 @@
 -- Laws of the reports that stand in some bytes. Assumes nothing.
---     standing-encoded, resumed-sound     what was written stands there, and a buffer that is handed back as it was left holds what it held
+--     standing-held, standing-count       those of a sound sink are the reports that it holds
+--     resumed-held                        and where all fitted, the buffer is taken up again as it was left
+--     sound-pushAll, pushAll-long, pushAll-used    what is put in leaves a sound sink of as many bytes, of which no fewer are used
 --     header-..                           a header that was read
 --     further, further-sound              one more of the reports that stand there
 --     standing-over, resumed-..           the cases of the code, as it learns them
 use mathlib.Core.Path.{_≡_, refl, sym, ap, ap₂, subst, _∙_}
-use mathlib.Core.Bool.{false, cond}
+use mathlib.Core.Bool.{Bool, true, false, cond}
 use mathlib.Core.List.{List, [], _∷_, _++_, append-assoc, append-nil}
 use Prim.Native.Nat.{ℕ, zero, suc, _+_, _-_, _*_, _/_, _%_, _≤_, _<_}
 use native.Mathlib.Nat.{add-assoc}
@@ -13,7 +15,7 @@ use lib.ListN.{length, getD, take, drop, length-append, length-drop, take-append
 use lib.Seq.{length-take-le, take-length, take-append-seam, drop-append-seam, take-take, drop-drop, take-add}
 use lib.Dec.{leb}
 use borrow.Author.Tests.{le-leb, lt-leb, eq-eqb, ne-eqb}
-use Rattle.names.specs.Lists.{gather}
+use Rattle.names.specs.Lists.{anyOf, gather}
 use Rattle.names.specs.Fields.{number, digits}
 use Rattle.names.specs.Laws.Fields.{number-front, behind-digits, eight-digits}
 use Rattle.names.specs.Laws.Walks.{here, take-at-most}
@@ -21,11 +23,11 @@ use Rattle.names.specs.Laws.Words.{Bytes, WordAt}
 use Rattle.names.specs.Writer.{store}
 use Rattle.reports.specs.declared.State.{State}
 use Rattle.reports.specs.declared.Header.{Header}
-use Rattle.reports.specs.Reports.{Breach, encoded}
+use Rattle.reports.specs.Reports.{Breach, samePair, once, encoded, fitting}
 use Rattle.reports.specs.Decode.{header, encoded-parts, width, width-is, size, long, report, behind, report-encoded, behind-encoded, fits-encoded}
-use Rattle.reports.specs.Kept.{Log}
-use Rattle.reports.specs.Sink.{Sink, sink, held, more, append, written, Sound}
-use Rattle.reports.specs.Laws.Sinks.{sound-written, sound-append, sound-count}
+use Rattle.reports.specs.Kept.{fold, Log, kept, fitting-fits}
+use Rattle.reports.specs.Sink.{Sink, sink, held, more, append, push, pushAll, written, Sound, start}
+use Rattle.reports.specs.Laws.Sinks.{length-written, sound-written, sound-append, sound-push, sound-count, pushAll-kept}
 use Rattle.reports.specs.Laws.Slots.{held-count, held-used}
 use Rattle.reports.specs.Standing.{standingAmong, standing, standingState, resumed, HeaderAt, Stands, Resumes}
 
@@ -75,22 +77,52 @@ module _ (s : Sink) (p : Sound s) where
   stands-alone : standing (drop (s .state .used) (s .bytes)) ≡ [] → standing (s .bytes) ≡ held s
   stands-alone e = ap standing bytes-are ∙ standing-encoded (held s) (drop (s .state .used) (s .bytes)) ∙ rw (e, append-nil)
 
+  pub standing-held : standing (take (s .state .used) (s .bytes)) ≡ held s
+  standing-held = ap standing (front-is ∙ sym (append-nil (gather encoded (held s)))) ∙ standing-encoded (held s) [] ∙ rw (standing-none, append-nil)
+
+  pub standing-count : length (standing (take (s .state .used) (s .bytes))) ≡ s .state .count
+  standing-count = ap length standing-held ∙ held-count s p
+
   module _ (yet : s .state .full ≡ false) where
     state-is : (t : List ℕ) → standing t ≡ held s → s .state ≡ standingState t
     unfolding standingState
     state-is t e = λ i. record { used = (held-used s p ∙ ap size (sym e)) i; count = (sym (held-count s p) ∙ ap length (sym e)) i; full = yet i }
 
     -- a buffer that is handed back as it was left
-    pub resumed-sound : resumed (s .state .used) (s .bytes) ≡ s
+    pub resumed-held : resumed (s .state .used) (s .bytes) ≡ s
     unfolding resumed
-    resumed-sound =
-        let front : standing (take (s .state .used) (s .bytes)) ≡ held s = ap standing (front-is ∙ sym (append-nil (gather encoded (held s)))) ∙ standing-encoded (held s) [] ∙ rw (standing-none, append-nil) in
-        rw (← state-is (take (s .state .used) (s .bytes)) front, eq-eqb (s .state .used) (s .state .used) refl)
+    resumed-held = rw (← state-is (take (s .state .used) (s .bytes)) standing-held, eq-eqb (s .state .used) (s .state .used) refl)
 
     pub standing-over : length (drop (s .state .used) (s .bytes)) < 10 + long (drop (s .state .used) (s .bytes)) → s .state ≡ standingState (s .bytes)
     standing-over h =
         let rest = drop (s .state .used) (s .bytes) in
         state-is (s .bytes) (stands-alone (standing-first rest ∙ rw (lt-leb (10 + long rest) (length rest) h)))
+
+-- what is put in
+pub sound-pushAll : (s : Sink) (bs : List Breach) → Sound s → Sound (pushAll s bs)
+unfolding fold
+sound-pushAll s [] p = p
+sound-pushAll s (b ∷ bs) p = sound-pushAll (push s b) bs (sound-push s b p)
+
+pub pushAll-long : (old : List ℕ) (bs : List Breach) → length (pushAll (start old) bs .bytes) ≡ length old
+unfolding written kept
+pushAll-long old bs = ap (λ (s : Sink). length (s .bytes)) (pushAll-kept old bs) ∙ length-written old (fitting (length old) (once [] bs)) (fitting-fits (length old) (once [] bs))
+
+push-used : (s : Sink) (b : Breach) → s .state .used ≤ push s b .state .used
+unfolding push append
+push-used s b = go (anyOf (samePair b) (held s)) (s .state .full) (leb (s .state .used + width b) (length (s .bytes))) _ _ (omega arith) (omega arith)
+  where
+    go : (seen full fits : Bool) (more stopped : Sink) → s .state .used ≤ more .state .used → s .state .used ≤ stopped .state .used
+        → s .state .used ≤ cond seen s (cond full s (cond fits more stopped)) .state .used
+    go true full fits more stopped h i = omega arith
+    go false true fits more stopped h i = omega arith
+    go false false true more stopped h i = h
+    go false false false more stopped h i = i
+
+pub pushAll-used : (s : Sink) (bs : List Breach) → s .state .used ≤ pushAll s bs .state .used
+unfolding fold
+pushAll-used s [] = omega arith
+pushAll-used s (b ∷ bs) = omega (arith, push-used s b, pushAll-used (push s b) bs)
 
 -- bytes that begin with reports, and the state of these
 sound-front : (s : List ℕ) (bs : List Breach) (rest : List ℕ) → s ≡ gather encoded bs ++ rest → (st : State) → st ≡ record { used = size bs; count = length bs; full = false } → Sound (sink s st)
