@@ -19,6 +19,7 @@ use Rattle.names.specs.Laws.Records.{start-stops, start-goes, at-end}
 use Rattle.names.specs.Laws.Rows.{counted-end, counted-start, each-done, each-stops, each-turn}
 use Rattle.targets.specs.Targets.{narrowings, narrowing, target, targetRecord}
 use Rattle.targets.specs.PathRecord.{sides, scopeSide, pathRecord}
+use Rattle.targets.specs.Appending.{aloneTarget}
 
 -- A narrowing, by its first byte.
 module _ (s : List ℕ) (at : ℕ) where
@@ -56,6 +57,16 @@ module _ (s : List ℕ) (at : ℕ) (x : Read) (is : x ≡ ending (stringOf pathO
   pub target-read : (n : ℕ) → x ≡ Next n → (y : Read) → y ≡ ending (stringOf plain s n) → y ≡ ending (target s at)
   unfolding target
   target-read n e y is′ = goes _ _ e is λ ns d. is′ ∙ last _ _
+
+-- A target by itself.
+module _ (s : List ℕ) (x : Read) (is : x ≡ ending (target s 0)) where
+  pub alone-unread : (r : ℕ) → x ≡ Refused r → x ≡ ending (aloneTarget s 0)
+  unfolding aloneTarget
+  alone-unread r e = stops _ _ e is
+
+  pub alone-read : (end : ℕ) → x ≡ Next end → (y : Read) → y ≡ ending (finished end s end) → y ≡ ending (aloneTarget s 0)
+  unfolding aloneTarget
+  alone-read end e y i = goes _ _ e is λ _ _. at-end _ s end y i
 
 -- The target record.
 module _ (s : List ℕ) (x : Read) (is-x : x ≡ ending (whole (heading (68 ∷ 87 ∷ 84 ∷ []) 1) s)) where
@@ -129,6 +140,8 @@ module _ (s : List ℕ) (x : Read) (is-x : x ≡ ending (whole (heading (68 ∷ 
 pub ruleset narrowing-read = (needs, narrowing-end, narrowing-undefined, narrowing-bare, narrowing-typed)
 
 pub ruleset target-rows = (needs, target-unplaced, target-read, counted-end, counted-start, each-done, each-stops, each-turn)
+
+pub ruleset target-alone = (needs, alone-unread, alone-read)
 
 pub ruleset targets-whole = (needs, targets-unmarked, targets-principal, targets-resource, targets-unlisted, targets-read)
 

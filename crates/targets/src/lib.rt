@@ -1,13 +1,11 @@
 // The target record and the path record: which bytes are one, and what stands in them.
-mod append;
 mod list;
 mod query;
 mod read;
 mod scope;
 
-pub use append::count_at;
-pub use append::read_alone;
 pub use list::count;
+pub use list::count_at;
 pub use list::first_target;
 pub use list::id_of;
 pub use list::namespace_of;
@@ -17,6 +15,7 @@ pub use query::path_at;
 pub use query::path_len;
 pub use query::path_position;
 pub use query::path_side;
+pub use read::read_alone;
 pub use read::read_path;
 pub use read::read_targets;
 pub use scope::narrowing_at;

@@ -9,12 +9,14 @@ ghost use Rattle.names.specs.Read.{ending, Listed};
 ghost use Rattle.names.specs.declared.Read.the-variants.{Next};
 ghost use Rattle.targets.specs.Targets.{target};
 ghost use Rattle.targets.specs.PathRecord.{targetAt};
+ghost use Rattle.targets.specs.Appending.{countAt};
 ghost use Rattle.targets.specs.Places.{areTargets, targetsIn, isTarget, targetIn, CountedAt, FindsTarget};
 
 // Where the count of targets stands.
-fn list_at(s: &[u8]) -> usize
+pub fn count_at(s: &[u8]) -> usize
     requires { ⌜ areTargets (now s) ≡ true ⌝ }
     ensures { λ r. ⌜ CountedAt (now (s .entry)) (targetsIn (now (s .entry)) .list) r ⌝ }
+    ensures { λ r. ⌜ r ≡ countAt (now (s .entry)) ⌝ }
 {
     let resource = past_narrowing(s, 5);
     past_narrowing(s, resource)
@@ -26,7 +28,7 @@ pub fn count(s: &[u8]) -> usize
     ensures { λ r. ⌜ r ≡ length (targetsIn (now (s .entry)) .list) ⌝ }
     ensures { λ r. ⌜ r < 256 ⌝ }
 {
-    let at = list_at(s);
+    let at = count_at(s);
     names::wide(s[at])
 }
 
@@ -35,7 +37,7 @@ pub fn first_target(s: &[u8]) -> usize
     requires { ⌜ areTargets (now s) ≡ true ⌝ }
     ensures { λ r. ⌜ Listed target (now (s .entry)) (targetsIn (now (s .entry)) .list) (length (targetsIn (now (s .entry)) .list)) r ⌝ }
 {
-    let at = list_at(s);
+    let at = count_at(s);
     at + 1
 }
 

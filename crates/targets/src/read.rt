@@ -1,4 +1,4 @@
-// The two records are read in full, or refused by a number.
+// The two records, and a target by itself, are read in full, or refused by a number.
 use names::Class;
 use names::Read;
 ghost use mathlib.Core.Path.{_≡_};
@@ -6,6 +6,7 @@ ghost use Rattle.names.specs.Fields.{each, counted, whole};
 ghost use Rattle.names.specs.Read.{ending};
 ghost use Rattle.targets.specs.Targets.{narrowing, target, targetRecord};
 ghost use Rattle.targets.specs.PathRecord.{scopeSide, pathRecord};
+ghost use Rattle.targets.specs.Appending.{aloneTarget};
 
 fn read_narrowing(s: &[u8], at: usize) -> Read
     ensures { λ r. ⌜ r ≡ ending (narrowing (now (s .entry)) at) ⌝ }
@@ -23,7 +24,7 @@ fn read_narrowing(s: &[u8], at: usize) -> Read
     names::read_string(s, at + 1, Class::PathName)
 }
 
-pub fn read_target(s: &[u8], at: usize) -> Read
+fn read_target(s: &[u8], at: usize) -> Read
     ensures { λ r. ⌜ r ≡ ending (target (now (s .entry)) at) ⌝ }
 {
     let namespace = names::read_string(s, at, Class::PathOrNone);
@@ -31,6 +32,17 @@ pub fn read_target(s: &[u8], at: usize) -> Read
         return namespace;
     };
     names::read_string(s, n, Class::Plain)
+}
+
+// A target by itself: its namespace and its id, and no byte more.
+pub fn read_alone(s: &[u8]) -> Read
+    ensures { λ r. ⌜ r ≡ ending (aloneTarget (now (s .entry)) 0) ⌝ }
+{
+    let target = read_target(s, 0);
+    let Read::Next(end) = target else {
+        return target;
+    };
+    names::read_end(s, end)
 }
 
 // A count of targets and the targets.
