@@ -1,18 +1,19 @@
 -- The stepping check: a list of targets of which each position is pending, done or withdrawn. A step does the first pending one; between steps targets are
 -- appended, or a pending one is withdrawn, and no position ever moves.
 -- The caller holds all of it: the list is record 3, the reports stand in the buffer, and the state says what those two do not. Nothing is assumed of any of them.
-use Prim.Native.Nat.{ℕ, zero, suc, _+_, _-_}
-use mathlib.Core.Bool.{Bool, true, false, cond, _&&_, _||_}
+use Prim.Native.Nat.{ℕ, _+_, _-_}
+use mathlib.Core.Bool.{Bool, cond, _&&_, _||_}
 use mathlib.Core.List.{List, [], _∷_, _++_}
 use mathlib.Core.Option.{Option, none, some}
-use lib.ListN.{length, getD, set, take, drop}
-use lib.Dec.{leb, ltb, eqb}
+use lib.ListN.{length, getD, set, take, drop, replicate}
+use lib.Dec.{ltb, eqb}
 use Rattle.names.specs.Lists.{maybe}
 use Rattle.names.specs.Fields.{either, whole}
 use Rattle.schema.specs.Schema.{Schema}
 use Rattle.condition.specs.Condition.{Condition}
 use Rattle.targets.specs.Targets.{Target, Targets, Scope, targetRecord}
 use Rattle.targets.specs.Appending.{aloneTarget, withOneMore}
+use Rattle.reports.specs.declared.State.{State}
 use Rattle.reports.specs.Reports.{Outcome, refusal}
 use Rattle.reports.specs.Placed.{placed}
 use Rattle.reports.specs.Sink.{answer, pushAll}
@@ -25,9 +26,13 @@ use Rattle.steps.specs.declared.Steps.{Steps}
 
 -- What a mark says of its position: 0 pending, 1 done, 2 withdrawn. (A state that was not left by these calls may have others: they are those of positions that
 -- are not pending.)
-abbrev pub pending done withdrawn : ℕ
+abbrev pub pending : ℕ
 pending = 0
+
+abbrev pub done : ℕ
 done = 1
+
+abbrev pub withdrawn : ℕ
 withdrawn = 2
 
 unfoldable pub isPending : List ℕ → ℕ → Bool
@@ -38,9 +43,9 @@ unfoldable pub firstPending : List ℕ → ℕ → List Target → Option (ℕ �
 firstPending marks i [] = none
 firstPending marks i (t ∷ rest) = cond (isPending marks i) (some (i, t)) (firstPending marks (i + 1) rest)
 
-unfoldable pub zeros : ℕ → List ℕ
-zeros zero = []
-zeros (suc n) = 0 ∷ zeros n
+-- the state with another mark at a position
+abbrev pub marked : Steps → ℕ → ℕ → Steps
+marked st i mark = record { rules = st .rules; stopped = st .stopped; marks = set (st .marks) i mark; used = st .used; visits = st .visits }
 
 -- ---- what a call gives: the answer, the buffer and the visits as a check has them, and the state to hand in next
 pub record SteppedOutcome : Type 0 where
@@ -53,7 +58,7 @@ unchanged st buffer number rec = record { check = unvisited number rec buffer; s
 
 -- ---- the start: the records are read as Check reads them, and no target is done. (No buffer is lent.)
 unfoldable pub begins : ℕ → Steps
-begins rules = record { rules = rules; stopped = 0; marks = zeros 256; used = 0; visits = 0 }
+begins rules = record { rules = rules; stopped = 0; marks = replicate 256 pending; used = 0; visits = 0 }
 
 unfoldable pub start : ℕ → List ℕ → List ℕ → List ℕ → SteppedOutcome
 start rules schemaBytes conditionBytes targetBytes =
@@ -81,23 +86,28 @@ soFar st buffer =
 unfoldable pub capped : ℕ → ℕ
 capped n = cond (ltb n 4294967296) n 4294967295
 
+-- the target at a position is done: the reports before it and after it, the visits begun for it, and the bytes that it leaves
+unfoldable pub doneWith : Steps → ℕ → State → State → ℕ → List ℕ → SteppedOutcome
+doneWith st i before after begun bytes =
+    let visits = capped (st .visits + begun) in
+    record {
+      check = record { outcome = record { answer = answer after; buffer = bytes }; visits = visits };
+      state =
+          record {
+            rules = st .rules;
+            stopped = cond (after .full) 1 0;
+            marks = set (st .marks) i done;
+            used = st .used + (after .used - before .used);
+            visits = visits;
+          };
+    }
+
 -- a target done: what it breaks goes behind the earlier reports, as far as it is new and fits; it is done whether all fits or not
 unfoldable pub doing : Choices → Schema → Condition → Scope → Steps → List ℕ → ℕ × Target → SteppedOutcome
 doing k s c scope st buffer (i, t) =
     let before = resumed (st .used) buffer in
     let after = pushAll before (breachesUnder k s c scope t) in
-    let visits = capped (st .visits + begunFrom before (visitsUnder k s c scope t)) in
-    record {
-      check = record { outcome = record { answer = answer (after .state); buffer = after .bytes ++ drop (length (after .bytes)) buffer }; visits = visits };
-      state =
-          record {
-            rules = st .rules;
-            stopped = cond (after .state .full) 1 0;
-            marks = set (st .marks) i done;
-            used = st .used + (after .state .used - before .state .used);
-            visits = visits;
-          };
-    }
+    doneWith st i (before .state) (after .state) (begunFrom before (visitsUnder k s c scope t)) (after .bytes ++ drop (length (after .bytes)) buffer)
 
 -- the first pending target is done, nothing where none is pending, and nothing after one that did not fit
 unfoldable pub stepOver : Choices → Schema → Condition → Targets → Steps → List ℕ → SteppedOutcome
@@ -112,22 +122,25 @@ step st schemaBytes conditionBytes targetBytes buffer =
 
 -- ---- between steps
 
--- A target appended to the list, which is the first `used` bytes of a buffer (all of it where it is shorter): the list is read, then the target, both as
--- record 3; 18 where the list would have more than 255 targets or 32,768 bytes; 11 where the buffer has no room for it. The count is the list's new length
+-- A target appended to a list that was read, which stands at the front of a buffer: the target is read as record 3; 18 where the list would have more than
+-- 255 targets or 32,768 bytes; 11 where the buffer has no room for it. The count is the list's new length
+unfoldable pub appendTo : List ℕ → List ℕ → Targets → List ℕ → Outcome
+appendTo buffer list ts new =
+    either (λ r. refusal r 3 buffer)
+    (λ t. cond (ltb 254 (length (ts .list)) || ltb 32768 (length list + length new)) (refusal 18 0 buffer) (placed (withOneMore list new) buffer))
+    (aloneTarget new 0)
+
+-- the list is the first `used` bytes of the buffer, all of it where it is shorter, and is read before the target
 unfoldable pub append : List ℕ → ℕ → List ℕ → Outcome
 append buffer used new =
     let list = take used buffer in
-    either (λ r. refusal r 3 buffer)
-    (λ ts. either (λ r. refusal r 3 buffer)
-    (λ t. cond (ltb 254 (length (ts .list)) || ltb 32768 (length list + length new)) (refusal 18 0 buffer) (placed (withOneMore list new) buffer))
-    (aloneTarget new 0))
-    (whole targetRecord list)
+    either (λ r. refusal r 3 buffer) (λ ts. appendTo buffer list ts new) (whole targetRecord list)
 
 -- a pending target withdrawn by its position; 19 where it is done, withdrawn or absent. (No buffer is lent.)
 unfoldable pub withdraw : Steps → List ℕ → ℕ → SteppedOutcome
 withdraw st targetBytes position =
     either (λ r. unchanged st [] r 3)
     (λ ts. cond (ltb position (length (ts .list)) && isPending (st .marks) position)
-    (unchanged (record { rules = st .rules; stopped = st .stopped; marks = set (st .marks) position withdrawn; used = st .used; visits = st .visits }) [] 0 0)
+    (unchanged (marked st position withdrawn) [] 0 0)
     (unchanged st [] 19 0))
     (whole targetRecord targetBytes)

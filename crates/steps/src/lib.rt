@@ -1,12 +1,14 @@
 // The stepping check: one target at each step, others appended or withdrawn between steps. Nothing is kept here: the caller hands the records, the state and the
 // buffer in each time, and every value of every field means something.
 mod list;
-mod step;
+mod positions;
+mod run;
+mod state;
 
 pub use list::append;
 pub use list::withdraw;
-pub use step::start;
-pub use step::step;
+pub use run::start;
+pub use run::step;
 use typecheck::CheckAnswer;
 
 // What the records and the buffer do not say: the caller's rules; 0, or that a report did not fit; a mark for each of 256 positions, 0 pending, 1 done, 2

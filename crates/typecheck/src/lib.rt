@@ -6,6 +6,7 @@ pub use run::check;
 pub use run::check_target;
 pub use run::check_with;
 pub use run::read_records;
+pub use run::with_visits;
 use terms::Facts;
 
 // What a check answers: the number of a refusal, 0 for none; the record that it is about, 0 for none; how many reports the buffer holds; how many visits were

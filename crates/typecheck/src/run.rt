@@ -182,7 +182,7 @@ fn all_targets<'a>(
 }
 
 // The answer of a run, with so many visits.
-fn with_visits(answer: Answer, visits: usize) -> CheckAnswer
+pub fn with_visits(answer: Answer, visits: usize) -> CheckAnswer
     ensures { λ r. ⌜ WithVisits answer visits r ⌝ }
 {
     CheckAnswer {
