@@ -19,3 +19,4 @@ pub mod OwnBodies
 pub mod OwnBodyExamples
 pub mod Times
 pub mod TimeExamples
+pub mod Steps
