@@ -21,3 +21,5 @@ pub mod OwnBodies
 pub mod OwnBodyExamples
 pub mod Times
 pub mod TimeExamples
+pub mod StepsList
+pub mod StepsRecord

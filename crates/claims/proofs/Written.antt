@@ -26,7 +26,7 @@ use Rattle.claims.specs.Written.{ofString, ofNarrowing, ofTarget, writte
 -- ---- bytes at a place
 
 -- the bytes w stand at a place, and end at n
-record Stands (w s : List ℕ) (at n : ℕ) : Type 0 where
+pub record Stands (w s : List ℕ) (at n : ℕ) : Type 0 where
   pub here : drop at s ≡ w ++ drop n s
   pub ends : n ≡ at + length w
   pub inside : n ≤ length s
@@ -37,7 +37,7 @@ module _ {s : List ℕ} {at : ℕ} (u v : List ℕ) where
       record { here = a .here ∙ ap (λ (l : List ℕ). u ++ l) (b .here) ∙ sym (append-assoc u v (drop n s)); ends = rw length-append (omega arith); inside = b .inside }
 
   module _ {n : ℕ} (h : Stands (u ++ v) s at n) where
-    second : Stands v s (at + length u) n
+    pub second : Stands v s (at + length u) n
     second =
         record {
           here = sym (drop-drop (length u) at s) ∙ ap (drop (length u)) (h .here ∙ append-assoc u v (drop n s)) ∙ drop-append-seam u (v ++ drop n s);
@@ -45,15 +45,15 @@ module _ {s : List ℕ} {at : ℕ} (u v : List ℕ) where
           inside = h .inside;
         }
 
-    first : Stands u s at (at + length u)
+    pub first : Stands u s at (at + length u)
     first = let e = second in let l = second .ends in record { here = h .here ∙ append-assoc u v (drop n s) ∙ ap (λ (l : List ℕ). u ++ l) (sym (second .here)); ends = refl; inside = omega (arith, h .inside) }
 
 -- a reader reads a off the bytes w, wherever they stand
-abbrev Reads : {A : Type 0} → Reader A → List ℕ → A → Type 0
+abbrev pub Reads : {A : Type 0} → Reader A → List ℕ → A → Type 0
 Reads f w a = (s : List ℕ) (at n : ℕ) → Stands w s at n → f s at ≡ got a n
 
 -- what a reader gave is written where it was read, and is read off these bytes anywhere
-record Gave {A : Type 0} (f : Reader A) (w : List ℕ) (a : A) (s : List ℕ) (at n : ℕ) : Type 0 where
+pub record Gave {A : Type 0} (f : Reader A) (w : List ℕ) (a : A) (s : List ℕ) (at n : ℕ) : Type 0 where
   pub stands : Stands w s at n
   pub reads : Reads f w a
 
@@ -197,7 +197,7 @@ module _ (ns id : List ℕ) where
   unfolding target
   target-reads f g s at n h = rw (f s at _ (first (ofString ns) (ofString id) h), g s _ n (second (ofString ns) (ofString id) h))
 
-target-gave : (s : List ℕ) (at : ℕ) {t : Target} {n : ℕ} → target s at ≡ got t n → Gave target (ofTarget t) t s at n
+pub target-gave : (s : List ℕ) (at : ℕ) {t : Target} {n : ℕ} → target s at ≡ got t n → Gave target (ofTarget t) t s at n
 unfolding target
 target-gave s at {t} {n} e =
     let a = split (stringOf pathOrNone s at) _ e in
@@ -211,7 +211,7 @@ target-gave s at {t} {n} e =
     (record { stands = joins (ofString (a .value)) (ofString (b .value)) (f .stands) (g .stands); reads = target-reads (a .value) (b .value) (f .reads) (g .reads) }))
 
 -- each target of a list is read off its bytes
-abbrev AllRead : List Target → Type 0
+abbrev pub AllRead : List Target → Type 0
 AllRead list = (t : Target) → t ∈ list → Reads target (ofTarget t) t
 
 record Row (list : List Target) (s : List ℕ) (at n k : ℕ) : Type 0 where
@@ -266,7 +266,7 @@ one-only v h =
     omega arith
 
 module _ (mark : List ℕ) where
-  heading-reads : Reads (heading mark 1) (mark ++ (0 ∷ 1 ∷ [])) 1
+  pub heading-reads : Reads (heading mark 1) (mark ++ (0 ∷ 1 ∷ [])) 1
   unfolding heading u16 number
   heading-reads s at n h =
       rw (bytes-read mark s at _ (first mark (0 ∷ 1 ∷ []) h), same-refl mark, bytes-read (0 ∷ 1 ∷ []) s _ n (second mark (0 ∷ 1 ∷ []) h))
@@ -292,16 +292,16 @@ module _ (mark : List ℕ) where
 -- ---- the record
 
 -- what makes a record: its narrowings and its targets are read off their bytes
-record Readable (ts : Targets) : Type 0 where
+pub record Readable (ts : Targets) : Type 0 where
   pub principal : Reads narrowing (ofNarrowing (ts .scope .principal)) (ts .scope .principal)
   pub resource : Reads narrowing (ofNarrowing (ts .scope .resource)) (ts .scope .resource)
   pub targets : AllRead (ts .list)
 
-record Gone (s : List ℕ) (ts : Targets) : Type 0 where
+pub record Gone (s : List ℕ) (ts : Targets) : Type 0 where
   pub is : s ≡ written ts
   pub readable : Readable ts
 
-abbrev mark : List ℕ
+abbrev pub mark : List ℕ
 mark = 68 ∷ 87 ∷ 84 ∷ []
 
 module _ (s : List ℕ) (p r : Option Narrowing) (list : List Target) where
@@ -317,7 +317,7 @@ module _ (s : List ℕ) (p r : Option Narrowing) (list : List Target) where
         readable = record { principal = f .reads; resource = g .reads; targets = j .reads };
       }
 
-record-gave : (s : List ℕ) {ts : Targets} {n : ℕ} → targetRecord s 0 ≡ got ts n → Gone s ts
+pub record-gave : (s : List ℕ) {ts : Targets} {n : ℕ} → targetRecord s 0 ≡ got ts n → Gone s ts
 unfolding targetRecord counted finished
 record-gave s {ts} {n} e =
     let a = split (heading mark 1 s 0) _ e in
@@ -358,7 +358,7 @@ module _ (ts : Targets) (r : Readable ts) where
         eq-eqb n (length s) l,
       )
 
-  accepted : length (written ts) ≤ 32768 → whole targetRecord (written ts) ≡ got ts (length (written ts))
+  pub accepted : length (written ts) ≤ 32768 → whole targetRecord (written ts) ≡ got ts (length (written ts))
   unfolding whole
   accepted l =
       let h : Stands (written ts) (written ts) 0 (length (written ts)) =
@@ -369,7 +369,7 @@ module _ (ts : Targets) (r : Readable ts) where
 pub no-other : (s : List ℕ) {ts : Targets} {n : ℕ} → whole targetRecord s ≡ got ts n → s ≡ written ts
 no-other s e = record-gave s (whole-read targetRecord s e) .is
 
-not-long : {A : Type 0} (f : Reader A) (s : List ℕ) {a : A} {n : ℕ} → whole f s ≡ got a n → length s ≤ 32768
+pub not-long : {A : Type 0} (f : Reader A) (s : List ℕ) {a : A} {n : ℕ} → whole f s ≡ got a n → length s ≤ 32768
 unfolding whole
 not-long f s {a} {n} e = go (leb (length s) 32768) refl e
   where
