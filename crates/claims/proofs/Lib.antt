@@ -23,3 +23,4 @@ pub mod Times
 pub mod TimeExamples
 pub mod StepsList
 pub mod StepsRecord
+pub mod StepsLog

@@ -137,7 +137,7 @@ module _ (buffer : List ℕ) where
 -- ---- how many visits there are
 
 module _ (k : Choices) (s : Schema) (c : Condition) (scope : Scope) where
-  by-target : (t : Target) → length (visitsUnder k s c scope t) ≡ cond (isChecked s scope t) (length (reached c)) 0
+  pub by-target : (t : Target) → length (visitsUnder k s c scope t) ≡ cond (isChecked s scope t) (length (reached c)) 0
   unfolding visitsUnderBy
   by-target t = go (isChecked s scope t) (breachesAt _ _ _ _ _)
     where
@@ -170,7 +170,7 @@ module _ (k : Choices) (s : Schema) (c : Condition) (scope : Scope) where
 -- ---- the claims
 
 -- a record that is accepted has nine bytes for each reached condition behind its mark and version
-nine-each : (s : List ℕ) {c : Condition} {n : ℕ} → whole conditionRecord s ≡ got c n → length (reached c) * 9 ≤ length s - 5
+pub nine-each : (s : List ℕ) {c : Condition} {n : ℕ} → whole conditionRecord s ≡ got c n → length (reached c) * 9 ≤ length s - 5
 unfolding recordIn
 nine-each s e = let few = subst (λ (x : Condition). 9 * length (reached x) + 5 ≤ length s) (has-value _ e) (record-nodes s (is-accepted e)) in omega (arith, few)
 
