@@ -24,3 +24,5 @@ pub mod TimeExamples
 pub mod StepsList
 pub mod StepsRecord
 pub mod StepsLog
+pub mod StepsCalls
+pub mod StepsBetween
