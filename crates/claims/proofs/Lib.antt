@@ -26,3 +26,6 @@ pub mod StepsRecord
 pub mod StepsLog
 pub mod StepsCalls
 pub mod StepsBetween
+pub mod StepsHistory
+pub mod StepsDone
+pub mod Steps
