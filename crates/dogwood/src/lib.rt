@@ -1,7 +1,10 @@
 // The exported functions of the static library.
 pub use reports::Answer;
+pub use steps::Stepped;
+pub use steps::Steps;
 pub use typecheck::CheckAnswer;
 ghost use mathlib.Core.Path.{_≡_};
+ghost use mathlib.Core.List.{[]};
 ghost use Rattle.names.specs.Fields.{whole};
 ghost use Rattle.names.specs.Read.{refusalNumber};
 ghost use Rattle.schema.specs.Schema.{schemaRecord};
@@ -16,6 +19,8 @@ ghost use Rattle.sweeps.specs.Windows.{windows};
 ghost use Rattle.lookup.specs.Lookup.{lookup};
 ghost use Rattle.typecheck.specs.Check.{checkWith, check};
 ghost use Rattle.typecheck.specs.Answers.{checkOutcomeOf, Spared};
+ghost use Rattle.steps.specs.Steps.{start, step, append, withdraw};
+ghost use Rattle.steps.specs.Answers.{steppedOf};
 
 // The number with which a schema record is refused, 0 for none.
 #[no_mangle]
@@ -92,6 +97,69 @@ pub extern "C" fn dogwood_check_with<'a>(
     ensures { λ r. ⌜ Spared r (now (workspace .entry)) (now (workspace .exit)) ⌝ }
 {
     typecheck::check_with(rules, schema, condition, targets, reports, workspace)
+}
+
+// A stepping check begins: the records are read as the check reads them, no target is done, and nothing is written. The answer comes with the state that the
+// caller hands in next. The bits of `rules` are those of dogwood_check_with.
+#[no_mangle]
+pub extern "C" fn dogwood_steps_start(
+    rules: u8,
+    schema: &[u8],
+    condition: &[u8],
+    targets: &[u8],
+) -> Stepped
+    ensures { λ r. ⌜ steppedOf r [] ≡ start rules (now (schema .entry)) (now (condition .entry)) (now (targets .entry)) ⌝ }
+{
+    steps::start(rules, schema, condition, targets)
+}
+
+// A step: the first pending target of the record is done. The same schema and condition, and the state and the buffer as last left, are handed in each time. The
+// answer is that of a check over the targets done by then.
+#[no_mangle]
+pub extern "C" fn dogwood_steps_step<'a>(
+    schema: &'a [u8],
+    condition: &'a [u8],
+    targets: &[u8],
+    state: Steps,
+    reports: &mut [u8],
+) -> Stepped
+    ensures { λ r. ⌜ steppedOf r (now (reports .exit)) ≡ step state (now (schema .entry)) (now (condition .entry)) (now (targets .entry)) (now (reports .entry)) ⌝ }
+{
+    let mut workspace = [0u32; 2048];
+    steps::step(schema, condition, targets, state, reports, &mut workspace)
+}
+
+// The same step with workspace that the caller lends, as dogwood_check_with is lent it.
+#[no_mangle]
+pub extern "C" fn dogwood_steps_step_with<'a>(
+    schema: &'a [u8],
+    condition: &'a [u8],
+    targets: &[u8],
+    state: Steps,
+    reports: &mut [u8],
+    workspace: &mut [u32],
+) -> Stepped
+    ensures { λ r. ⌜ steppedOf r (now (reports .exit)) ≡ step state (now (schema .entry)) (now (condition .entry)) (now (targets .entry)) (now (reports .entry)) ⌝ }
+    ensures { λ r. ⌜ Spared (r .answer) (now (workspace .entry)) (now (workspace .exit)) ⌝ }
+{
+    steps::step(schema, condition, targets, state, reports, workspace)
+}
+
+// A target appended between steps: the target record is the first `length` bytes of the lent buffer, and the count of the answer is its new length. A target is
+// given by its namespace and id as in the record.
+#[no_mangle]
+pub extern "C" fn dogwood_steps_append(list: &mut [u8], length: usize, target: &[u8]) -> Answer
+    ensures { λ r. ⌜ outcomeOf r (now (list .exit)) ≡ append (now (list .entry)) length (now (target .entry)) ⌝ }
+{
+    steps::append(list, length, target)
+}
+
+// A pending target withdrawn between steps, by its position in the record, counted from 0.
+#[no_mangle]
+pub extern "C" fn dogwood_steps_withdraw(targets: &[u8], state: Steps, position: u8) -> Stepped
+    ensures { λ r. ⌜ steppedOf r [] ≡ withdraw state (now (targets .entry)) position ⌝ }
+{
+    steps::withdraw(targets, state, position)
 }
 
 // The sums of a condition: the answer, and a report for each whose summand is not declared Long.
