@@ -57,7 +57,7 @@ extern "C" {
 
 /*
  * Why there is no answer. The numbers 1 to 10, 13, 15 and 16 are met while a record is read, the first one from the left
- * counts, and at one field the lowest.
+ * counts, and at one field the lowest. No function answers 17.
  */
 enum dogwood_cause {
     DOGWOOD_ACCEPTED = 0,              /* no refusal */
@@ -76,12 +76,14 @@ enum dogwood_cause {
     DOGWOOD_WINDOW_OUT_OF_RANGE = 13,  /* a window that is negative or above 2^63 - 1 seconds */
     DOGWOOD_NO_PERIOD = 14,            /* the period of a listing is 0 */
     DOGWOOD_MALFORMED_DECIMAL = 15,    /* a decimal whose text is not of a decimal's shape */
-    DOGWOOD_DECIMAL_OUT_OF_RANGE = 16  /* a decimal whose text is, and whose value is beyond 64 bits */
+    DOGWOOD_DECIMAL_OUT_OF_RANGE = 16, /* a decimal whose text is, and whose value is beyond 64 bits */
+    DOGWOOD_LIST_FULL = 18,            /* one target more would be the 256th, or make the list longer than 32,768 bytes */
+    DOGWOOD_NOT_PENDING = 19           /* the target to be withdrawn is done, withdrawn or not in the list */
 };
 
 /* The record that a refusal is about. */
 enum dogwood_record {
-    DOGWOOD_NO_RECORD = 0, /* success, DOGWOOD_NO_SPACE or DOGWOOD_NO_PERIOD */
+    DOGWOOD_NO_RECORD = 0, /* success, and DOGWOOD_NO_SPACE, _NO_PERIOD, _LIST_FULL and _NOT_PENDING */
     DOGWOOD_SCHEMA = 1,
     DOGWOOD_CONDITION = 2,
     DOGWOOD_TARGETS = 3,
@@ -90,8 +92,9 @@ enum dogwood_record {
 
 /*
  * What a call answers: a number of enum dogwood_cause and one of enum dogwood_record, both 0 on success, and a count. The
- * count is of the reports (check, sums), of the windows, or of the output's bytes (lookup, write_decimal); a refusal's is
- * 0, but for DOGWOOD_NO_SPACE of check, sums and windows, which counts the reports or windows that were kept.
+ * count is of the reports (check, steps, sums), of the windows, of the output's bytes (lookup, write_decimal), or of the
+ * list's (steps_append); a refusal's is 0, but for DOGWOOD_NO_SPACE of check, steps, sums and windows, which counts the
+ * reports or windows that were kept.
  */
 struct dogwood_answer {
     uint8_t number;
@@ -175,6 +178,112 @@ struct dogwood_check_answer dogwood_check_with(uint8_t rules,
                                                const uint8_t *targets, size_t targets_length,
                                                uint8_t *reports, size_t reports_length,
                                                uint32_t *workspace, size_t workspace_length);
+
+/*
+ * The stepping check does one target at a time, so that the list of targets can change between two of them. Each position
+ * of the list is pending, done or withdrawn, and no target ever changes its position. A step does the first pending one.
+ * Between steps, before the first and behind the last too, targets are appended, or a pending one is withdrawn.
+ *
+ * The library keeps nothing. The caller has the list, which is the targets record in a buffer with room behind it; the
+ * buffer of the reports; and the state, which says what these two do not. Every call gives a state back, which is handed to
+ * the next one. With the same schema and condition each time, and list, state and buffer as the calls left them, the answer
+ * of each step and the buffer behind it are those of one dogwood_check_with, by the state's rules and with this buffer,
+ * over the targets that are done, in their order.
+ *
+ * Anything else may be handed in too, and has an answer: each value of each field of the state means something.
+ */
+
+/* What a mark says of its position. Any other value is that of a position that is not pending. */
+enum dogwood_mark {
+    DOGWOOD_PENDING = 0,
+    DOGWOOD_DONE = 1,
+    DOGWOOD_WITHDRAWN = 2
+};
+
+/* The state of a stepping check. */
+struct dogwood_steps {
+    uint8_t rules;      /* what was chosen at the start, as for dogwood_check_with */
+    uint8_t stopped;    /* not 0: a report did not fit, and no step does anything any more */
+    uint8_t marks[256]; /* of enum dogwood_mark, one for each position; those behind the list have no effect */
+    size_t used;        /* how many bytes of the buffer the reports take */
+    uint32_t visits;    /* how many visits were begun, or 4,294,967,295 where they were more */
+};
+
+/* What a call answers, and the state to hand in next. */
+struct dogwood_stepped {
+    struct dogwood_check_answer answer;
+    struct dogwood_steps state;
+};
+
+/*
+ * Starts a stepping check with these rules: the records are read as dogwood_check reads them, and no target is done. Number
+ * 0, or the refusal that dogwood_check would give; count and visits are 0. The state is that of a start in both cases:
+ * every position is pending.
+ */
+struct dogwood_stepped dogwood_steps_start(uint8_t rules,
+                                           const uint8_t *schema, size_t schema_length,
+                                           const uint8_t *condition, size_t condition_length,
+                                           const uint8_t *targets, size_t targets_length);
+
+/*
+ * Does the first pending target. Its new reports are written behind the earlier ones, which are those that stand whole at
+ * the front of the first `used` bytes of the buffer; a message and start that stands there already is not repeated. A
+ * target that a check skips is done too, without a visit. Count and visits are those of the check so far.
+ *
+ * Number 0: the buffer begins with `count` reports, and bytes behind them are as they were. Where no target is pending,
+ * that is the last answer again, and neither state nor buffer change.
+ * DOGWOOD_NO_SPACE: the buffer begins with the `count` reports that came before the first that did not fit. The target
+ * whose report that was is done. Every further step answers the same and changes nothing, though targets be appended.
+ * Any other number: `record` says which record was refused (they are read in the order given here, each to its end); count
+ * and visits are 0, and state and buffer are as they were.
+ *
+ * Where the first `used` bytes are not reports alone, or the buffer is shorter than that, no new report fits, and nothing
+ * is written.
+ */
+struct dogwood_stepped dogwood_steps_step(const uint8_t *schema, size_t schema_length,
+                                          const uint8_t *condition, size_t condition_length,
+                                          const uint8_t *targets, size_t targets_length,
+                                          struct dogwood_steps state,
+                                          uint8_t *reports, size_t reports_length);
+
+/*
+ * The same step with lent workspace. All that is said of the workspace of dogwood_check_with holds here: the answer is the
+ * same for each, whatever it holds, DOGWOOD_WORKSPACE(reports_length) slots make time linear in the reports, those of
+ * earlier steps included, and the first slot is the key. Nothing in it is needed for the next step. dogwood_steps_step has
+ * 2,048 slots of its own, with key 0.
+ */
+struct dogwood_stepped dogwood_steps_step_with(const uint8_t *schema, size_t schema_length,
+                                               const uint8_t *condition, size_t condition_length,
+                                               const uint8_t *targets, size_t targets_length,
+                                               struct dogwood_steps state,
+                                               uint8_t *reports, size_t reports_length,
+                                               uint32_t *workspace, size_t workspace_length);
+
+/*
+ * Appends a target to a list. `list` is a buffer of `list_space` bytes, best of DOGWOOD_MOST_BYTES, whose first `length`
+ * bytes are the targets record (all of them where there are no more). The target is its namespace and its id as they stand
+ * in a targets record, and no byte more. No state is needed: a position without a target is pending already.
+ *
+ * Number 0: `count` is the list's new length. The target stands behind the others, its position is the count of targets
+ * before the call, and the record's count of targets is one more. No other byte of the buffer changes.
+ * Any other number: count is 0, and the buffer is as it was. The list is read first and then the target, a refusal of
+ * either having the record DOGWOOD_TARGETS (of a target it is DOGWOOD_CUT, DOGWOOD_OUTSIDE_CLASS or DOGWOOD_BYTES_AFTER);
+ * then comes DOGWOOD_LIST_FULL, for which withdrawn targets count like all others; then DOGWOOD_NO_SPACE where the buffer
+ * has no room for the target, which a buffer of DOGWOOD_MOST_BYTES always has. Neither of these two has a record.
+ */
+struct dogwood_answer dogwood_steps_append(uint8_t *list, size_t list_space, size_t length,
+                                           const uint8_t *target, size_t target_length);
+
+/*
+ * Withdraws the pending target at a position, the first being 0. It stays in the list, is marked DOGWOOD_WITHDRAWN, and
+ * will not be done. The same action may be appended again.
+ *
+ * Number 0: nothing but that mark changes. DOGWOOD_NOT_PENDING: the target is done or withdrawn, or there is none at that
+ * position. Any other number: the targets record was refused, the only one that is read. In both cases the state is as it
+ * was. Count and visits are 0.
+ */
+struct dogwood_stepped dogwood_steps_withdraw(const uint8_t *targets, size_t targets_length,
+                                              struct dogwood_steps state, uint8_t position);
 
 /*
  * Reports each sum of a condition whose summand is declared as something else than Long. It needs no schema and no targets;

@@ -135,6 +135,25 @@ static void test(int holds, const char *claim, int line) {
 /* No narrowing, the target "view". */
 #define TARGETS "DWT\0\1" "\0\0" "\1" "\0\4view"
 
+/*
+ * Targets by themselves, and lists of them without narrowing: none, one, two. An action "v" without principals, and a list of
+ * two with any principal, of which the first is then skipped.
+ */
+#define V "\0\1v"
+#define W "\0\1w"
+#define X "\0\1x"
+#define NO_TARGET "DWT\0\1" "\0\0" "\0"
+#define ONE_TARGET "DWT\0\1" "\0\0" "\1" V
+#define TWO_TARGETS "DWT\0\1" "\0\0" "\2" V W
+#define SKIPPING_SCHEMA "DWS\0\1" "\0\0" "\0\1" "\6Action" "\1v" "\0" "\0" "\6\0"
+#define ANY_TWO_TARGETS "DWT\0\1" "\1\0" "\2" V W
+
+/* What a schema says under V and under W of `input.n < 1`: at V the field is a text, at W a number, elsewhere nothing. */
+#define TEXT_AT_V "\6Action" "\1v" "\0" "\0" "\6\1\5input" "\6\1\1n\1"
+#define NUMBER_AT_W "\6Action" "\1w" "\0" "\0" "\6\1\5input" "\6\1\1n\0"
+#define BY_TARGET_SCHEMA "DWS\0\1" "\0\0" "\0\2" TEXT_AT_V NUMBER_AT_W
+#define BY_TARGET "DWC\0\1" "\10" "\0\0\0\2\0\0\0\3" "\1" "\6\2\5input\1n" "\2"
+
 /* principal.name, and principal.none, of the target at position 0. */
 #define PATH "DWP\0\1" "\0" "\1\4name" "\0"
 #define MISSING_PATH "DWP\0\1" "\0" "\1\4none" "\0"
@@ -439,6 +458,486 @@ static void test_check_with_refusals(void) {
     TEST(checks(answer, DOGWOOD_CUT, DOGWOOD_SCHEMA, 0, 0));
 }
 
+/* ─── Steps ─── */
+
+#define ONE_REPORT (DOGWOOD_REPORT_HEAD + sizeof(MESSAGE) - 1)
+
+/* A stepping check: its records, the list with room behind it, the state, and how much of the buffer is lent. */
+static struct {
+    const uint8_t *schema;
+    size_t schema_length;
+    const uint8_t *condition;
+    size_t condition_length;
+    uint8_t list[DOGWOOD_MOST_BYTES + 64];
+    size_t length;
+    struct dogwood_steps state;
+    size_t space;
+} stepping;
+
+/* The list and what is behind it, as it is before the next call. */
+static uint8_t list_before[sizeof stepping.list];
+
+/* Another list, with nothing behind it. */
+static void listed(const uint8_t *targets, size_t length) {
+    memset(stepping.list, UNTOUCHED, sizeof stepping.list);
+    memcpy(stepping.list, targets, length);
+    stepping.length = length;
+}
+
+/* A start with these records and a fresh buffer. */
+static struct dogwood_check_answer started(int rules, const uint8_t *schema, size_t schema_length, const uint8_t *condition,
+                                           size_t condition_length, const uint8_t *targets, size_t length, size_t space) {
+    struct dogwood_stepped given;
+
+    fresh();
+    listed(targets, length);
+    stepping.schema = schema;
+    stepping.schema_length = schema_length;
+    stepping.condition = condition;
+    stepping.condition_length = condition_length;
+    stepping.space = space;
+    given = dogwood_steps_start((uint8_t)rules, schema, schema_length, condition, condition_length, stepping.list, length);
+    stepping.state = given.state;
+    return given.answer;
+}
+
+/* A start with an empty schema and `true < 1`. */
+static struct dogwood_check_answer begun(const uint8_t *targets, size_t length, size_t space) {
+    return started(0, BYTES(EMPTY_SCHEMA), BYTES(CONDITION), targets, length, space);
+}
+
+static int same_state(struct dogwood_steps left, struct dogwood_steps right) {
+    return left.rules == right.rules && left.stopped == right.stopped && left.used == right.used &&
+           left.visits == right.visits && memcmp(left.marks, right.marks, sizeof left.marks) == 0;
+}
+
+static int same_stepped(struct dogwood_stepped left, struct dogwood_stepped right) {
+    return checks(left.answer, right.answer.number, right.answer.record, right.answer.count, right.answer.visits) &&
+           same_state(left.state, right.state);
+}
+
+/* A step with as many slots of workspace, each of which holds this. */
+static struct dogwood_stepped with_slots(uint32_t slot, size_t slots) {
+    return dogwood_steps_step_with(stepping.schema, stepping.schema_length, stepping.condition, stepping.condition_length,
+                                   stepping.list, stepping.length, stepping.state, buffer, stepping.space, filled(slot), slots);
+}
+
+/* A step. Every workspace gives the same, to the byte, and writes nothing but reports behind the bytes that are used. */
+static struct dogwood_check_answer stepped(void) {
+    static const size_t counts[] = {0, 1, 3, SLOTS};
+    static uint8_t before[SPACE], after[SPACE];
+    struct dogwood_stepped given;
+    size_t i, front;
+
+    memcpy(before, buffer, SPACE);
+    memcpy(list_before, stepping.list, sizeof list_before);
+    given = dogwood_steps_step(stepping.schema, stepping.schema_length, stepping.condition, stepping.condition_length,
+                               stepping.list, stepping.length, stepping.state, buffer, stepping.space);
+    memcpy(after, buffer, SPACE);
+    front = stepping.state.used < SPACE ? stepping.state.used : SPACE;
+    TEST(memcmp(before, after, front) == 0);
+    TEST(memcmp(before + stepping.space, after + stepping.space, SPACE - stepping.space) == 0);
+    for (i = 0; i < sizeof counts / sizeof *counts; i++) {
+        memcpy(buffer, before, SPACE);
+        TEST(same_stepped(with_slots(0xA5A5A5A5, counts[i]), given) && memcmp(buffer, after, SPACE) == 0);
+    }
+    TEST(memcmp(list_before, stepping.list, sizeof list_before) == 0);
+    stepping.state = given.state;
+    return given.answer;
+}
+
+/* Whether a step answers this, a check of the records over these targets too, and both leave the same bytes. */
+static int steps_as_check(int number, size_t count, size_t visits, const uint8_t *targets, size_t length) {
+    static uint8_t after[SPACE];
+    struct dogwood_check_answer answer = stepped();
+
+    if (!checks(answer, number, 0, count, visits) || stepping.state.visits != visits) {
+        return 0;
+    }
+    memcpy(after, buffer, SPACE);
+    answer = dogwood_check_with(stepping.state.rules, stepping.schema, stepping.schema_length, stepping.condition,
+                                stepping.condition_length, targets, length, fresh(), stepping.space, filled(0), SLOTS);
+    return checks(answer, number, 0, count, visits) && memcmp(buffer, after, SPACE) == 0;
+}
+
+/* A step that changes nothing. */
+static int rests(int number, int record, size_t count, size_t visits) {
+    static uint8_t before[SPACE];
+    struct dogwood_steps state = stepping.state;
+
+    memcpy(before, buffer, SPACE);
+    return checks(stepped(), number, record, count, visits) && same_state(stepping.state, state) &&
+           memcmp(buffer, before, SPACE) == 0;
+}
+
+/* A target appended in a list of so much space. */
+static struct dogwood_answer appended_in(size_t space, const uint8_t *target, size_t length) {
+    struct dogwood_answer answer;
+
+    memcpy(list_before, stepping.list, sizeof list_before);
+    answer = dogwood_steps_append(stepping.list, space, stepping.length, target, length);
+    if (answer.number == 0) {
+        stepping.length = answer.count;
+    }
+    return answer;
+}
+
+static struct dogwood_answer appended(const uint8_t *target, size_t length) {
+    return appended_in(DOGWOOD_MOST_BYTES, target, length);
+}
+
+/* Whether the list differs from what it was before the last call by a target at this place and a count that is one more. */
+static int has_appended(size_t at, const uint8_t *target, size_t length, size_t count_at) {
+    list_before[count_at]++;
+    memcpy(list_before + at, target, length);
+    return memcmp(list_before, stepping.list, sizeof list_before) == 0;
+}
+
+static int appends_nothing(struct dogwood_answer answer, int number, int record) {
+    return answers(answer, number, record, 0) && memcmp(list_before, stepping.list, sizeof list_before) == 0;
+}
+
+static struct dogwood_check_answer withdrawn(int position) {
+    struct dogwood_stepped given = dogwood_steps_withdraw(stepping.list, stepping.length, stepping.state, (uint8_t)position);
+
+    stepping.state = given.state;
+    return given.answer;
+}
+
+/* A withdrawal that is refused, and changes nothing. */
+static int stays(int position, int number, int record) {
+    struct dogwood_steps state = stepping.state;
+
+    return checks(withdrawn(position), number, record, 0, 0) && same_state(stepping.state, state);
+}
+
+/* A withdrawal that changes the mark, and nothing else. */
+static int withdraws(int position) {
+    struct dogwood_steps state = stepping.state;
+
+    state.marks[position] = DOGWOOD_WITHDRAWN;
+    return checks(withdrawn(position), 0, 0, 0, 0) && same_state(stepping.state, state);
+}
+
+/* The start reads the records, keeps the rules, and has every position pending. */
+static void test_start(void) {
+    struct dogwood_steps state;
+    int rules;
+
+    memset(&state, 0, sizeof state);
+    for (rules = 0; rules < 256; rules++) {
+        state.rules = (uint8_t)rules;
+        TEST(checks(started(rules, BYTES(SCHEMA), BYTES(CONDITION), BYTES(TARGETS), 0), 0, 0, 0, 0));
+        TEST(same_state(stepping.state, state));
+    }
+    TEST(checks(started(1, BYTES("XXX"), BYTES(""), BYTES(""), 0), DOGWOOD_OTHER_MARK, DOGWOOD_SCHEMA, 0, 0));
+    TEST(stepping.state.rules == 1 && stepping.state.marks[0] == DOGWOOD_PENDING);
+    TEST(rests(DOGWOOD_OTHER_MARK, DOGWOOD_SCHEMA, 0, 0));
+    TEST(checks(started(0, BYTES(SCHEMA), BYTES("XXX"), BYTES(TARGETS), 0), DOGWOOD_OTHER_MARK, DOGWOOD_CONDITION, 0, 0));
+    TEST(rests(DOGWOOD_OTHER_MARK, DOGWOOD_CONDITION, 0, 0));
+    TEST(checks(begun(BYTES("DWT\0\1\2\0"), 0), DOGWOOD_OUTSIDE_CLASS, DOGWOOD_TARGETS, 0, 0));
+    TEST(rests(DOGWOOD_OUTSIDE_CLASS, DOGWOOD_TARGETS, 0, 0));
+    TEST(checks(dogwood_steps_start(0, NULL, 0, NULL, 0, NULL, 0).answer, DOGWOOD_CUT, DOGWOOD_SCHEMA, 0, 0));
+
+    /* a step that is handed another record answers its refusal, and leaves the workspace as it was too */
+    TEST(checks(begun(BYTES(ONE_TARGET), SPACE), 0, 0, 0, 0));
+    stepping.condition_length--;
+    TEST(rests(DOGWOOD_CUT, DOGWOOD_CONDITION, 0, 0));
+    TEST(checks(with_slots(7, SLOTS).answer, DOGWOOD_CUT, DOGWOOD_CONDITION, 0, 0) && filled_with(7));
+    stepping.condition_length++;
+    TEST(steps_as_check(0, 1, 1, BYTES(ONE_TARGET)));
+}
+
+/* Each step answers as one check over the targets that are done; a repeat is no report, and where none is pending it rests. */
+static void test_steps(void) {
+    TEST(checks(begun(BYTES(TWO_TARGETS), SPACE), 0, 0, 0, 0));
+    TEST(steps_as_check(0, 1, 1, BYTES(ONE_TARGET)));
+    TEST(stepping.state.marks[0] == DOGWOOD_DONE && stepping.state.marks[1] == DOGWOOD_PENDING);
+    TEST(stepping.state.used == ONE_REPORT && stepping.state.stopped == 0);
+    TEST(steps_as_check(0, 1, 2, BYTES(TWO_TARGETS)));
+    TEST(rests(0, 0, 1, 2));
+
+    begun(BYTES(NO_TARGET), SPACE);
+    TEST(rests(0, 0, 0, 0) && untouched_from(0));
+    TEST(answers(appended(BYTES(V)), 0, 0, sizeof NO_TARGET - 1 + 3));
+    TEST(steps_as_check(0, 1, 1, BYTES(ONE_TARGET)));
+
+    /* a skipped target takes a step too */
+    started(0, BYTES(SKIPPING_SCHEMA), BYTES(CONDITION), BYTES(ANY_TWO_TARGETS), SPACE);
+    TEST(checks(stepped(), 0, 0, 0, 0) && untouched_from(0) && stepping.state.marks[0] == DOGWOOD_DONE);
+    TEST(stays(0, DOGWOOD_NOT_PENDING, DOGWOOD_NO_RECORD));
+    TEST(steps_as_check(0, 1, 1, BYTES(ANY_TWO_TARGETS)));
+
+    /* what is reported depends on the target: nothing under W, a report under V */
+    started(0, BYTES(BY_TARGET_SCHEMA), BYTES(BY_TARGET), BYTES(TWO_TARGETS), SPACE);
+    TEST(withdraws(0));
+    TEST(steps_as_check(0, 0, 1, BYTES("DWT\0\1" "\0\0" "\1" W)));
+    TEST(answers(appended(BYTES(V)), 0, 0, sizeof TWO_TARGETS - 1 + 3));
+    TEST(steps_as_check(0, 1, 2, BYTES("DWT\0\1" "\0\0" "\2" W V)));
+    TEST(checks(dogwood_steps_step(NULL, 0, NULL, 0, NULL, 0, stepping.state, NULL, 0).answer, DOGWOOD_CUT, DOGWOOD_SCHEMA, 0,
+                0));
+}
+
+/* By each of the rules. */
+static void test_steps_with_rules(void) {
+    int rules;
+
+    for (rules = 0; rules < 256; rules++) {
+        size_t strict = (rules & DOGWOOD_STRICT) != 0;
+        size_t flat = (rules & DOGWOOD_OWN_BODIES) == 0;
+
+        started(rules, BYTES(SCHEMA), BYTES(TAGS_AND_V), BYTES(TWO_TARGETS), SPACE);
+        TEST(steps_as_check(0, strict + flat, 6, BYTES(ONE_TARGET)));
+        TEST(steps_as_check(0, strict + flat, 12, BYTES(TWO_TARGETS)));
+    }
+}
+
+/* After 11 each step answers 11 and changes nothing; the target whose report did not fit is done. */
+static void test_steps_space(void) {
+    begun(BYTES(TWO_TARGETS), ONE_REPORT - 1);
+    TEST(steps_as_check(DOGWOOD_NO_SPACE, 0, 1, BYTES(ONE_TARGET)) && untouched_from(0));
+    TEST(stepping.state.stopped == 1 && stepping.state.used == 0 && stepping.state.marks[0] == DOGWOOD_DONE);
+    TEST(rests(DOGWOOD_NO_SPACE, 0, 0, 1));
+    TEST(withdraws(1) && stays(0, DOGWOOD_NOT_PENDING, DOGWOOD_NO_RECORD));
+    TEST(answers(appended(BYTES(X)), 0, 0, sizeof TWO_TARGETS - 1 + 3));
+    TEST(rests(DOGWOOD_NO_SPACE, 0, 0, 1));
+
+    begun(BYTES(ONE_TARGET), ONE_REPORT);
+    TEST(steps_as_check(0, 1, 1, BYTES(ONE_TARGET)) && rests(0, 0, 1, 1));
+
+    started(0, BYTES(EMPTY_SCHEMA), BYTES(TWO_COMPARISONS), BYTES(TWO_TARGETS), 2 * ONE_REPORT - 1);
+    TEST(steps_as_check(DOGWOOD_NO_SPACE, 1, 3, BYTES(ONE_TARGET)) && untouched_from(ONE_REPORT));
+    TEST(stepping.state.used == ONE_REPORT && rests(DOGWOOD_NO_SPACE, 0, 1, 3));
+
+    /* the second target's report is the first that does not fit */
+    started(0, BYTES(BY_TARGET_SCHEMA), BYTES(BY_TARGET), BYTES("DWT\0\1" "\0\0" "\3" W V W), 40);
+    TEST(steps_as_check(0, 0, 1, BYTES("DWT\0\1" "\0\0" "\1" W)));
+    TEST(steps_as_check(DOGWOOD_NO_SPACE, 0, 2, BYTES("DWT\0\1" "\0\0" "\2" W V)));
+    TEST(rests(DOGWOOD_NO_SPACE, 0, 0, 2) && stepping.state.marks[2] == DOGWOOD_PENDING);
+}
+
+/* A target is two strings and no byte more; it is read behind the list and before 18. */
+static void test_append(void) {
+    static uint8_t large[2 + 32767];
+    const size_t one = sizeof ONE_TARGET - 1;
+
+    begun(BYTES(ONE_TARGET), 0);
+    TEST(appends_nothing(appended(BYTES("")), DOGWOOD_CUT, DOGWOOD_TARGETS));
+    TEST(appends_nothing(appended(NULL, 0), DOGWOOD_CUT, DOGWOOD_TARGETS));
+    TEST(appends_nothing(appended(BYTES("\0")), DOGWOOD_CUT, DOGWOOD_TARGETS));
+    TEST(appends_nothing(appended(BYTES("\1 ")), DOGWOOD_OUTSIDE_CLASS, DOGWOOD_TARGETS));
+    TEST(appends_nothing(appended(BYTES("\0\1\"")), DOGWOOD_OUTSIDE_CLASS, DOGWOOD_TARGETS));
+    TEST(appends_nothing(appended(BYTES("\0\2\"")), DOGWOOD_CUT, DOGWOOD_TARGETS));
+    TEST(appends_nothing(appended(BYTES("\0\0\0")), DOGWOOD_BYTES_AFTER, DOGWOOD_TARGETS));
+    TEST(appends_nothing(appended(large, sizeof large), DOGWOOD_BYTES_AFTER, DOGWOOD_TARGETS));
+
+    TEST(answers(appended(BYTES("\0\0")), 0, 0, one + 2) && has_appended(one, BYTES("\0\0"), 7));
+    TEST(answers(appended(BYTES("\3App\4view")), 0, 0, one + 11) && has_appended(one + 2, BYTES("\3App\4view"), 7));
+    TEST(dogwood_read_targets(stepping.list, stepping.length) == DOGWOOD_ACCEPTED && stepping.list[7] == 3);
+
+    /* the count stands behind the narrowings, of which one may have a name */
+    listed(BYTES("DWT\0\1" "\2\4User" "\1" "\0"));
+    TEST(answers(appended(BYTES(V)), 0, 0, 16) && has_appended(13, BYTES(V), 12));
+
+    /* a list that is refused, also for what the target is; a length beyond the buffer is all of it */
+    listed(BYTES("DWT\0\1\2\0"));
+    TEST(appends_nothing(appended(BYTES("")), DOGWOOD_OUTSIDE_CLASS, DOGWOOD_TARGETS));
+    listed(BYTES(ONE_TARGET));
+    stepping.length = one + 1;
+    TEST(appends_nothing(appended(BYTES(V)), DOGWOOD_BYTES_AFTER, DOGWOOD_TARGETS));
+    stepping.length = DOGWOOD_MOST_BYTES + 1;
+    TEST(appends_nothing(appended_in(DOGWOOD_MOST_BYTES + 1, BYTES(V)), DOGWOOD_TOO_LONG, DOGWOOD_TARGETS));
+    stepping.length = (size_t)-1;
+    TEST(appends_nothing(appended_in(one, BYTES(V)), DOGWOOD_NO_SPACE, DOGWOOD_NO_RECORD));
+    TEST(answers(dogwood_steps_append(NULL, 0, 0, NULL, 0), DOGWOOD_CUT, DOGWOOD_TARGETS, 0));
+
+    /* no room: one byte more is enough */
+    listed(BYTES(ONE_TARGET));
+    TEST(appends_nothing(appended_in(one + 2, BYTES(V)), DOGWOOD_NO_SPACE, DOGWOOD_NO_RECORD));
+    TEST(answers(appended_in(one + 3, BYTES(V)), 0, 0, one + 3) && has_appended(one, BYTES(V), 7));
+}
+
+/* As many targets of no name. */
+static void listed_nameless(int count) {
+    static const uint8_t heading[] = "DWT\0\1\0\0";
+
+    memset(stepping.list, UNTOUCHED, sizeof stepping.list);
+    memcpy(stepping.list, heading, 7);
+    stepping.list[7] = (uint8_t)count;
+    memset(stepping.list + 8, 0, 2 * (size_t)count);
+    stepping.length = 8 + 2 * (size_t)count;
+}
+
+/* 64 targets whose list has so many bytes, above 32,704. */
+static void listed_long(size_t bytes) {
+    size_t at = 8, i;
+
+    listed_nameless(64);
+    for (i = 0; i < 64; i++) {
+        size_t id = i < 63 ? 255 : bytes - at - 2 - 252;
+        size_t name = i < 63 ? 255 : 252;
+
+        stepping.list[at] = (uint8_t)name;
+        memset(stepping.list + at + 1, 'A', name);
+        stepping.list[at + 1 + name] = (uint8_t)id;
+        memset(stepping.list + at + 2 + name, 'A', id);
+        at += 2 + name + id;
+    }
+    stepping.length = at;
+}
+
+/* 18 counts every target that was ever appended, and every byte of the list. */
+static void test_full_list(void) {
+    begun(BYTES(NO_TARGET), SPACE);
+    listed_nameless(255);
+    TEST(appends_nothing(appended(BYTES("\1 \0")), DOGWOOD_OUTSIDE_CLASS, DOGWOOD_TARGETS));
+    TEST(withdraws(254));
+    TEST(appends_nothing(appended(BYTES("\0\0")), DOGWOOD_LIST_FULL, DOGWOOD_NO_RECORD));
+    TEST(appends_nothing(appended_in(stepping.length, BYTES("\0\0")), DOGWOOD_LIST_FULL, DOGWOOD_NO_RECORD));
+    listed_nameless(254);
+    TEST(answers(appended(BYTES("\0\0")), 0, 0, 518) && stepping.list[7] == 255);
+    TEST(appends_nothing(appended(BYTES("\0\0")), DOGWOOD_LIST_FULL, DOGWOOD_NO_RECORD));
+
+    listed_long(DOGWOOD_MOST_BYTES - 2);
+    TEST(stepping.length == DOGWOOD_MOST_BYTES - 2);
+    TEST(answers(appended(BYTES("\0\0")), 0, 0, DOGWOOD_MOST_BYTES));
+    TEST(appends_nothing(appended(BYTES("\0\0")), DOGWOOD_LIST_FULL, DOGWOOD_NO_RECORD));
+    listed_long(DOGWOOD_MOST_BYTES - 1);
+    TEST(appends_nothing(appended_in(DOGWOOD_MOST_BYTES + 64, BYTES("\0\0")), DOGWOOD_LIST_FULL, DOGWOOD_NO_RECORD));
+}
+
+/* 19 for what is done, withdrawn or absent; the list alone is read. */
+static void test_withdraw(void) {
+    int at;
+
+    begun(BYTES(TWO_TARGETS), SPACE);
+    TEST(withdraws(0) && stays(0, DOGWOOD_NOT_PENDING, DOGWOOD_NO_RECORD));
+    TEST(stays(2, DOGWOOD_NOT_PENDING, DOGWOOD_NO_RECORD) && stays(255, DOGWOOD_NOT_PENDING, DOGWOOD_NO_RECORD));
+    TEST(checks(stepped(), 0, 0, 1, 1) && stays(1, DOGWOOD_NOT_PENDING, DOGWOOD_NO_RECORD));
+
+    /* the same action appended again is another position */
+    begun(BYTES(ONE_TARGET), SPACE);
+    TEST(withdraws(0) && rests(0, 0, 0, 0));
+    TEST(answers(appended(BYTES(V)), 0, 0, sizeof ONE_TARGET - 1 + 3));
+    TEST(stays(0, DOGWOOD_NOT_PENDING, DOGWOOD_NO_RECORD) && steps_as_check(0, 1, 1, BYTES(ONE_TARGET)));
+
+    started(0, BYTES("XXX"), BYTES("XXX"), BYTES(ONE_TARGET), 0);
+    TEST(withdraws(0));
+    listed(BYTES("DWT"));
+    TEST(stays(0, DOGWOOD_CUT, DOGWOOD_TARGETS));
+    TEST(checks(dogwood_steps_withdraw(NULL, 0, stepping.state, 0).answer, DOGWOOD_CUT, DOGWOOD_TARGETS, 0, 0));
+
+    begun(BYTES(NO_TARGET), 0);
+    listed_nameless(255);
+    for (at = 0; at < 255; at++) {
+        TEST(withdraws(at));
+    }
+    TEST(stays(255, DOGWOOD_NOT_PENDING, DOGWOOD_NO_RECORD) && rests(0, 0, 0, 0));
+}
+
+/* Each value of each field of a state means something. */
+static void test_other_states(void) {
+    /* used beyond the buffer, among no reports, and in the middle of one: no new report fits, and those that stand count */
+    begun(BYTES(TWO_TARGETS), SPACE);
+    stepping.state.used = SPACE + 1;
+    TEST(checks(stepped(), DOGWOOD_NO_SPACE, 0, 0, 1) && untouched_from(0));
+    TEST(stepping.state.used == SPACE + 1 && stepping.state.stopped == 1 && stepping.state.marks[0] == DOGWOOD_DONE);
+    begun(BYTES(TWO_TARGETS), SPACE);
+    stepping.state.used = (size_t)-1;
+    TEST(checks(stepped(), DOGWOOD_NO_SPACE, 0, 0, 1) && untouched_from(0) && stepping.state.used == (size_t)-1);
+    begun(BYTES(TWO_TARGETS), SPACE);
+    stepping.state.used = 1;
+    TEST(checks(stepped(), DOGWOOD_NO_SPACE, 0, 0, 1) && untouched_from(0));
+    started(0, BYTES(EMPTY_SCHEMA), BYTES(TWO_COMPARISONS), BYTES(TWO_TARGETS), SPACE);
+    stepped();
+    stepping.state.used = 2 * ONE_REPORT - 1;
+    TEST(checks(stepped(), DOGWOOD_NO_SPACE, 0, 1, 6) && untouched_from(2 * ONE_REPORT));
+    TEST(rests(DOGWOOD_NO_SPACE, 0, 1, 6));
+
+    /* a step that has nothing to report has a number of its own */
+    started(0, BYTES(EMPTY_SCHEMA), BYTES(CLEAN_CONDITION), BYTES(TWO_TARGETS), SPACE);
+    stepping.state.used = (size_t)-1;
+    TEST(checks(stepped(), 0, 0, 0, 1) && untouched_from(0) && stepping.state.used == (size_t)-1);
+
+    /* fewer bytes used than were: the report is found anew, in its place */
+    begun(BYTES(TWO_TARGETS), SPACE);
+    stepped();
+    stepping.state.used = 0;
+    TEST(checks(stepped(), 0, 0, 1, 2) && untouched_from(ONE_REPORT) && stepping.state.used == ONE_REPORT);
+
+    /* marks of other values are of positions that are not pending; those behind the list matter once it is longer */
+    begun(BYTES(TWO_TARGETS), SPACE);
+    stepping.state.marks[0] = 7;
+    stepping.state.marks[2] = 255;
+    TEST(stays(0, DOGWOOD_NOT_PENDING, DOGWOOD_NO_RECORD) && steps_as_check(0, 1, 1, BYTES("DWT\0\1" "\0\0" "\1" W)));
+    TEST(answers(appended(BYTES(X)), 0, 0, sizeof TWO_TARGETS - 1 + 3) && rests(0, 0, 1, 1));
+    TEST(stays(2, DOGWOOD_NOT_PENDING, DOGWOOD_NO_RECORD) && stepping.state.marks[0] == 7);
+
+    /* stopped is 0 or not; the count is of the reports that stand there */
+    begun(BYTES(TWO_TARGETS), SPACE);
+    stepped();
+    stepping.state.stopped = 200;
+    TEST(rests(DOGWOOD_NO_SPACE, 0, 1, 1));
+    stepping.state.stopped = 0;
+    TEST(checks(stepped(), 0, 0, 1, 2));
+
+    /* visits go no further than 32 bits, and the rules have two bits */
+    begun(BYTES(TWO_TARGETS), SPACE);
+    stepping.state.visits = 0xFFFFFFFF;
+    stepping.state.rules = 0xFC;
+    TEST(checks(stepped(), 0, 0, 1, 0xFFFFFFFF) && stepping.state.visits == 0xFFFFFFFF && stepping.state.rules == 0xFC);
+}
+
+/* A number that looks random, the same in every run. */
+static uint32_t drawn(void) {
+    static uint32_t last = 108;
+
+    last = last * 1664525u + 1013904223u;
+    return last >> 8;
+}
+
+static void draw(uint8_t *bytes, size_t length) {
+    size_t at;
+
+    for (at = 0; at < length; at++) {
+        bytes[at] = (uint8_t)drawn();
+    }
+}
+
+/* States and buffers of random bytes: `stepped` looks that no byte is written where none may be. */
+static void test_random_states(void) {
+    int turn;
+
+    for (turn = 0; turn < 2000; turn++) {
+        struct dogwood_steps state;
+        struct dogwood_check_answer answer;
+
+        started(0, BYTES(EMPTY_SCHEMA), BYTES(TWO_COMPARISONS), BYTES(TWO_TARGETS), drawn() % (SPACE + 1));
+        if (turn % 2 == 0) {
+            draw(buffer, SPACE);
+            buffer[8] = 0;
+        }
+        draw(&stepping.state.rules, 1);
+        stepping.state.stopped = (uint8_t)(turn % 3 == 0 ? drawn() : 0);
+        draw(stepping.state.marks, 256);
+        stepping.state.marks[drawn() % 2] = DOGWOOD_PENDING;
+        stepping.state.used = turn % 5 == 0 ? drawn() : drawn() % 300;
+        stepping.state.visits = drawn() << 8 | 0xFE;
+        state = stepping.state;
+        answer = stepped();
+        TEST((answer.number == 0 || answer.number == DOGWOOD_NO_SPACE) && answer.record == 0);
+        TEST(answer.visits == stepping.state.visits && stepping.state.rules == state.rules);
+        if (state.stopped != 0) {
+            TEST(answer.number == DOGWOOD_NO_SPACE && same_state(stepping.state, state));
+            continue;
+        }
+        state.marks[state.marks[0] == DOGWOOD_PENDING ? 0 : 1] = DOGWOOD_DONE;
+        TEST(memcmp(stepping.state.marks, state.marks, sizeof state.marks) == 0);
+        TEST(stepping.state.used >= state.used && (stepping.state.stopped != 0) == (answer.number == DOGWOOD_NO_SPACE));
+        TEST(stepping.state.used <= stepping.space || stepping.state.used == state.used);
+    }
+}
+
 /* ─── Sums ─── */
 
 static void test_sums(void) {
@@ -675,6 +1174,15 @@ int main(void) {
     test_strict();
     test_own_bodies();
     test_check_with_refusals();
+    test_start();
+    test_steps();
+    test_steps_with_rules();
+    test_steps_space();
+    test_append();
+    test_full_list();
+    test_withdraw();
+    test_other_states();
+    test_random_states();
     test_sums();
     test_sums_with();
     test_windows();
