@@ -20,6 +20,24 @@ pub(crate) struct ReturnedCheck {
     pub visits: usize,
 }
 
+/// The state of a stepping check, as `struct dogwood_steps`. Every value of every field has a meaning to the library.
+#[repr(C)]
+#[derive(Clone)]
+pub(crate) struct Steps {
+    pub rules: u8,
+    pub stopped: u8,
+    pub marks: [u8; 256],
+    pub used: usize,
+    pub visits: u32,
+}
+
+/// What a call of a stepping check returns, as `struct dogwood_stepped`.
+#[repr(C)]
+pub(crate) struct Stepped {
+    pub answer: ReturnedCheck,
+    pub state: Steps,
+}
+
 extern "C" {
     fn dogwood_read_schema(bytes: *const u8, length: usize) -> u8;
     fn dogwood_read_condition(bytes: *const u8, length: usize) -> u8;
@@ -48,6 +66,36 @@ extern "C" {
         workspace: *mut u32,
         workspace_length: usize,
     ) -> ReturnedCheck;
+    fn dogwood_steps_start(
+        rules: u8,
+        schema: *const u8,
+        schema_length: usize,
+        condition: *const u8,
+        condition_length: usize,
+        targets: *const u8,
+        targets_length: usize,
+    ) -> Stepped;
+    fn dogwood_steps_step_with(
+        schema: *const u8,
+        schema_length: usize,
+        condition: *const u8,
+        condition_length: usize,
+        targets: *const u8,
+        targets_length: usize,
+        state: Steps,
+        reports: *mut u8,
+        reports_length: usize,
+        workspace: *mut u32,
+        workspace_length: usize,
+    ) -> Stepped;
+    fn dogwood_steps_append(
+        list: *mut u8,
+        list_space: usize,
+        length: usize,
+        target: *const u8,
+        target_length: usize,
+    ) -> Returned;
+    fn dogwood_steps_withdraw(targets: *const u8, targets_length: usize, state: Steps, position: u8) -> Stepped;
     fn dogwood_sums(condition: *const u8, condition_length: usize, reports: *mut u8, reports_length: usize)
         -> Returned;
     fn dogwood_sums_with(
@@ -136,6 +184,55 @@ pub(crate) fn check_with(
             workspace.len(),
         )
     }
+}
+
+pub(crate) fn steps_start(rules: u8, [schema, condition, targets]: [&[u8]; 3]) -> Stepped {
+    // SAFETY: as for `read_schema`.
+    unsafe {
+        dogwood_steps_start(
+            rules,
+            schema.as_ptr(),
+            schema.len(),
+            condition.as_ptr(),
+            condition.len(),
+            targets.as_ptr(),
+            targets.len(),
+        )
+    }
+}
+
+pub(crate) fn steps_step_with(
+    [schema, condition, targets]: [&[u8]; 3],
+    state: Steps,
+    reports: &mut [u8],
+    workspace: &mut [u32],
+) -> Stepped {
+    // SAFETY: as for `check_with`; the state crosses by value.
+    unsafe {
+        dogwood_steps_step_with(
+            schema.as_ptr(),
+            schema.len(),
+            condition.as_ptr(),
+            condition.len(),
+            targets.as_ptr(),
+            targets.len(),
+            state,
+            reports.as_mut_ptr(),
+            reports.len(),
+            workspace.as_mut_ptr(),
+            workspace.len(),
+        )
+    }
+}
+
+pub(crate) fn steps_append(list: &mut [u8], length: usize, target: &[u8]) -> Returned {
+    // SAFETY: as for `check`.
+    unsafe { dogwood_steps_append(list.as_mut_ptr(), list.len(), length, target.as_ptr(), target.len()) }
+}
+
+pub(crate) fn steps_withdraw(targets: &[u8], state: Steps, position: u8) -> Stepped {
+    // SAFETY: as for `read_schema`.
+    unsafe { dogwood_steps_withdraw(targets.as_ptr(), targets.len(), state, position) }
 }
 
 pub(crate) fn sums(condition: &[u8], reports: &mut [u8]) -> Returned {

@@ -35,6 +35,8 @@
 //! and [`sums_with`] also take the caller's [`Rules`]. [`Reports`] and [`ScopePath::decode`] read what they write. [`check`], [`sums`] and [`lookup`] take the space they need, up to [`MOST_SPACE`], and give owned
 //! values; [`Findings`] say whether there were more reports than that holds.
 //!
+//! A [`Stepping`] check does one target at a time, so that targets can be appended or withdrawn while it runs.
+//!
 //! Any bytes may be given as records: what is no record is refused, with a [`Cause`] and the record that it is about. A
 //! record in another one's place is refused too, by its mark. [`read_schema`] and its like say beforehand whether bytes
 //! are a record.
@@ -68,6 +70,7 @@ mod rules;
 mod schema;
 mod scope_path;
 mod span;
+mod stepping;
 mod targets;
 mod term;
 mod value;
@@ -91,6 +94,7 @@ pub use rules::Rules;
 pub use schema::{Action, Attribute, EntityType, Schema, Type};
 pub use scope_path::ScopePath;
 pub use span::Span;
+pub use stepping::{Progress, Stepping};
 pub use targets::{Narrowing, Target, Targets};
 pub use term::{Aggregate, AggregateKind, Term};
 pub use value::{ArithOp, Value};

@@ -8,17 +8,17 @@ use crate::{
 };
 
 /// The space that [`check`], [`sums`] and [`lookup`] begin with: 64 KiB, which hold hundreds of reports.
-const FIRST_SPACE: usize = 64 << 10;
+pub(crate) const FIRST_SPACE: usize = 64 << 10;
 
 /// How much more space there is at the next try. So a call is made three times at most.
-const GROWTH: usize = 16;
+pub(crate) const GROWTH: usize = 16;
 
 /// The most space that [`check`], [`sums`] and [`lookup`] take for an answer: 16 MiB. Whoever wants another bound
 /// lends a buffer to [`check_into`], [`sums_into`] or [`lookup_into`].
 pub const MOST_SPACE: usize = FIRST_SPACE * GROWTH * GROWTH;
 
 /// The bytes of the shortest report of a check.
-const LEAST_REPORT: usize = 51;
+pub(crate) const LEAST_REPORT: usize = 51;
 
 /// So many reports are found again without workspace: the library has a table for them on its stack.
 const OWN_REPORTS: usize = 1_536;
@@ -135,12 +135,12 @@ pub fn workspace_for(space: usize) -> usize {
 
 /// Slots for so many reports: the key, and behind it a table that takes three for every four slots, and has to have one
 /// place left.
-fn slots_for(reports: usize) -> usize {
+pub(crate) fn slots_for(reports: usize) -> usize {
     1 + reports + reports / 3 + 1
 }
 
 /// A number that nobody who made a request knows: the standard library's hashers have random keys.
-fn random_key() -> u32 {
+pub(crate) fn random_key() -> u32 {
     let number = RandomState::new().build_hasher().finish();
     (number >> 32) as u32
 }

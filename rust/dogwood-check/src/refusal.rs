@@ -42,11 +42,15 @@ pub enum Cause {
     MalformedDecimal = 15,
     /// A decimal is well formed, but beyond 64 bits.
     DecimalOutOfRange = 16,
+    /// One target more would be the 256th, or make the list longer than 32,768 bytes.
+    ListFull = 18,
+    /// The target to be withdrawn is done, withdrawn or not in the list.
+    NotPending = 19,
 }
 
 impl Cause {
     /// Every cause, in the order of the numbers.
-    pub const ALL: [Cause; 16] = [
+    pub const ALL: [Cause; 18] = [
         Cause::TooLong,
         Cause::Cut,
         Cause::OtherMark,
@@ -63,9 +67,11 @@ impl Cause {
         Cause::NoPeriod,
         Cause::MalformedDecimal,
         Cause::DecimalOutOfRange,
+        Cause::ListFull,
+        Cause::NotPending,
     ];
 
-    /// The library's number of this cause, 1 to 16.
+    /// The library's number of this cause, 1 to 19; none has 17.
     pub fn number(self) -> u8 {
         self as u8
     }
@@ -130,6 +136,13 @@ impl Cause {
                 "{subject} has a decimal beyond 64 bits: it is below -922337203685477.5808 or above \
                  922337203685477.5807"
             ),
+            Cause::ListFull => write!(
+                f,
+                "the list of targets is full: it has at most 255 targets, withdrawn ones included, in 32,768 bytes"
+            ),
+            Cause::NotPending => {
+                write!(f, "the target cannot be withdrawn: it is done or withdrawn already, or not in the list")
+            }
         }
     }
 }
@@ -212,7 +225,7 @@ fn known<T>(number: u8, meaning: fn(u8) -> Option<T>) -> Option<T> {
 pub struct Refusal {
     /// Why.
     pub cause: Cause,
-    /// Which record; none for [`Cause::NoSpace`] and [`Cause::NoPeriod`].
+    /// Which record; none for [`Cause::NoSpace`], [`Cause::NoPeriod`], [`Cause::ListFull`] and [`Cause::NotPending`].
     pub record: Option<RecordKind>,
 }
 

@@ -6,7 +6,8 @@ const STRICT: u8 = 1;
 /// The bit of binders in their own bodies.
 const OWN_BODIES: u8 = 2;
 
-/// What a caller chooses, for [`check_with`](crate::check_with) and [`sums_with`](crate::sums_with).
+/// What a caller chooses, for [`check_with`](crate::check_with), [`Stepping`](crate::Stepping) and
+/// [`sums_with`](crate::sums_with).
 ///
 /// ```
 /// use dogwood_check::{check_with, Condition, Operator, Rules, Schema, Target, Targets, Term};

@@ -89,6 +89,15 @@ impl Target {
         Target { namespace: Some(namespace.into()), id: id.into() }
     }
 
+    /// The bytes of the target by itself, as [`Stepping::append`](crate::Stepping::append) takes them.
+    pub fn encode(&self) -> Result<Vec<u8>, EncodeError> {
+        Writer::part(|out| self.write_named(out))
+    }
+
+    fn write_named(&self, out: &mut Writer) -> Encoded {
+        self.write(out).within(|| format!("target {}", quoted(&self.id)))
+    }
+
     fn write(&self, out: &mut Writer) -> Encoded {
         match &self.namespace {
             Some(namespace) => out.text(Class::PathName, namespace)?,
@@ -127,9 +136,7 @@ impl Targets {
         Writer::record(b"DWT", |out| {
             self.principal.write(out).within(|| "the principal's narrowing".to_string())?;
             self.resource.write(out).within(|| "the resource's narrowing".to_string())?;
-            out.list("targets", &self.list, |out, target| {
-                target.write(out).within(|| format!("target {}", quoted(&target.id)))
-            })
+            out.list("targets", &self.list, |out, target| target.write_named(out))
         })
     }
 }

@@ -28,6 +28,13 @@ impl Writer {
         Ok(out.bytes)
     }
 
+    /// What `fields` writes, without a mark and a version.
+    pub(crate) fn part(fields: impl FnOnce(&mut Writer) -> Encoded) -> Result<Vec<u8>, EncodeError> {
+        let mut out = Writer { bytes: Vec::new(), version: 1, needed: 1 };
+        fields(&mut out)?;
+        Ok(out.bytes)
+    }
+
     fn begin(mark: &[u8; 3], version: u8) -> Writer {
         Writer { bytes: [mark.as_slice(), &[0, version]].concat(), version, needed: 1 }
     }
