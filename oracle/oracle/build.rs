@@ -6,13 +6,18 @@
 use std::path::PathBuf;
 use std::{env, fs};
 
-const FUNCTIONS: [&str; 11] = [
+const FUNCTIONS: [&str; 16] = [
     "dogwood_read_schema",
     "dogwood_read_condition",
     "dogwood_read_targets",
     "dogwood_read_path",
     "dogwood_check",
     "dogwood_check_with",
+    "dogwood_steps_start",
+    "dogwood_steps_step",
+    "dogwood_steps_step_with",
+    "dogwood_steps_append",
+    "dogwood_steps_withdraw",
     "dogwood_sums",
     "dogwood_sums_with",
     "dogwood_windows",

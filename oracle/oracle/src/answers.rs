@@ -17,23 +17,23 @@ pub struct Answer {
 }
 
 impl Answer {
-    fn done(count: usize) -> Answer {
+    pub fn done(count: usize) -> Answer {
         Answer { number: 0, record: 0, count, visits: 0 }
     }
 
     /// The output is longer than the buffer; `kept` reports are in it.
-    fn full(kept: usize) -> Answer {
+    pub fn full(kept: usize) -> Answer {
         Answer { number: 11, record: 0, count: kept, visits: 0 }
     }
 
-    fn refused(record: u8, refusal: Refusal) -> Answer {
+    pub fn refused(record: u8, refusal: Refusal) -> Answer {
         Answer { number: refusal.0, record, count: 0, visits: 0 }
     }
 }
 
-const SCHEMA: u8 = 1;
-const CONDITION: u8 = 2;
-const TARGETS: u8 = 3;
+pub const SCHEMA: u8 = 1;
+pub const CONDITION: u8 = 2;
+pub const TARGETS: u8 = 3;
 const PATH: u8 = 4;
 
 /// The number with which a record is refused by itself, 0 for none.
@@ -225,6 +225,17 @@ pub fn report_bytes(error: &LeafError) -> Vec<u8> {
     bytes.extend(number16(error.message.len()));
     bytes.extend(error.message.as_bytes());
     bytes
+}
+
+/// The reports that a buffer begins with.
+pub fn reports(count: usize, buffer: &[u8]) -> Vec<Vec<u8>> {
+    let mut rest = buffer;
+    let mut next = || {
+        let (report, behind) = rest.split_at(10 + usize::from(u16::from_be_bytes([rest[8], rest[9]])));
+        rest = behind;
+        report.to_vec()
+    };
+    (0..count).map(|_| next()).collect()
 }
 
 fn number16(n: usize) -> [u8; 2] {

@@ -8,6 +8,7 @@ use crate::own::Binding;
 use crate::pieces::Piece;
 use crate::records;
 use crate::rng::Rng;
+use crate::steps::{self, Stored};
 use crate::times;
 use crate::visits;
 
@@ -32,6 +33,8 @@ pub enum Operation {
     Own,
     /// The sums with binders in their own bodies.
     OwnSums,
+    /// A history of a stepping check; its third record has the list and the calls (`Stored`).
+    Steps,
 }
 
 impl Operation {
@@ -63,6 +66,7 @@ impl Operation {
             Operation::Strict => 'x',
             Operation::Own => 'o',
             Operation::OwnSums => 'n',
+            Operation::Steps => 'h',
         }
     }
 
@@ -142,8 +146,8 @@ impl Case {
         self.rust_outcome()
     }
 
-    /// What the published Rust says, of marked cases too; with own bodies, of the condition whose binders are named apart; a
-    /// strict check, which it has not, is an example's.
+    /// What the published Rust says, of marked cases too; with own bodies, of the condition whose binders are named apart; of
+    /// a history, by a check over the targets that are done; a strict check, which it has not, is an example's.
     pub fn rust_outcome(&self) -> Option<Outcome> {
         let (r, binding) = (&self.records, self.operation.binding());
         Some(match self.operation {
@@ -162,6 +166,10 @@ impl Case {
             Operation::Strict => {
                 let mut buffer = vec![FILL; self.size];
                 Outcome::Answered(strict::check(r, &mut buffer)?, buffer)
+            }
+            Operation::Steps => {
+                let stored = Stored::read(self)?;
+                stored.outcome(&stored.history.courses(&steps::known)?)?
             }
         })
     }
@@ -208,6 +216,9 @@ impl Case {
 
     /// The case and its outcome on one line, for people.
     pub fn line(&self, outcome: &Outcome) -> String {
+        if let (Operation::Steps, Some(stored)) = (self.operation, Stored::read(self)) {
+            return stored.line();
+        }
         let mut words = vec![self.operation.letter().to_string()];
         words.extend(self.records.iter().map(|r| hex::encode(r)));
         match outcome {

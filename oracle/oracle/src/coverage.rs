@@ -1,6 +1,8 @@
 //! What a run of cases covered: reports by message, lookups by case, refusals by number and record.
 
+use crate::answers::Answer;
 use crate::cases::{Case, Operation, Outcome};
+use crate::steps::{Call, Course, History, Stored};
 use crate::times;
 use std::collections::BTreeMap;
 
@@ -40,10 +42,39 @@ impl Coverage {
                     answer.record
                 );
                 self.add(name, 1);
+                if let (Operation::Steps, Some(stored)) = (case.operation, Stored::read(case)) {
+                    self.note_calls(&stored.history, &stored.answers);
+                    self.note_reports(stored.reports(), buffer);
+                }
                 self.note_output(case.operation, answer.number, answer.count, buffer);
             }
             Outcome::Types(types) => types.iter().for_each(|t| self.note_type(t)),
         }
+    }
+
+    /// A fresh history of a stepping check.
+    pub fn note_history(&mut self, history: &History, courses: &[Course]) {
+        self.add("histories".to_string(), 1);
+        self.add(format!("histories  by rules {}", history.rules & 3), 1);
+        let answers: Vec<Answer> = courses.iter().map(|course| course.answer).collect();
+        self.note_calls(history, &answers);
+    }
+
+    /// What the calls of a history answered, the start in front.
+    fn note_calls(&mut self, history: &History, answers: &[Answer]) {
+        let called = history.calls.iter().map(|call| match call {
+            Call::Step => "step",
+            Call::Append(_) => "append",
+            Call::Withdraw(_) => "withdraw",
+        });
+        for (name, answer) in std::iter::once("start").chain(called).zip(answers) {
+            self.add(format!("call       {name} number {:2} record {}", answer.number, answer.record), 1);
+        }
+    }
+
+    /// A step from a state that no call left.
+    pub fn note_state(&mut self, number: u8) {
+        self.add(format!("any state  number {number:2}"), 1);
     }
 
     /// A case with binders in their own bodies, beside the one without.

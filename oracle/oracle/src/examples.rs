@@ -3,6 +3,7 @@
 pub mod bytes;
 pub mod own;
 pub mod rules;
+pub mod steps;
 pub mod strict;
 pub mod times;
 pub mod values;

@@ -4,6 +4,7 @@ pub mod boundaries;
 pub mod compared;
 pub mod conditions;
 pub mod damage;
+pub mod histories;
 pub mod large;
 pub mod mutations;
 pub mod times;
@@ -163,7 +164,9 @@ fn draft_of(rng: &mut Rng, operation: Operation, scene: Scene) -> Draft {
         Operation::Windows => vec![condition, Piece::Field(windows::period(rng))],
         Operation::ReadTargets => vec![targets],
         Operation::ReadPath => vec![path],
-        Operation::Check | Operation::Own | Operation::Terms | Operation::Strict => vec![schema, condition, targets],
+        Operation::Check | Operation::Own | Operation::Terms | Operation::Strict | Operation::Steps => {
+            vec![schema, condition, targets]
+        }
         Operation::Lookup => vec![schema, targets, path],
     };
     let size = match operation {

@@ -1,5 +1,5 @@
-//! Bytes as text: hexadecimal digits, `[..]*n;` for a part repeated n times (not nested), `-` for nothing at all. The
-//! semicolon ends the decimal number, since digits may follow it.
+//! Bytes as text: hexadecimal digits, `[..]*n;` for a part repeated n times, `-` for nothing at all. The semicolon ends the
+//! decimal number, since digits may follow it. What is written here is not nested; what is read may be.
 
 /// A part is written as a repetition where that spares at least this many bytes.
 const WORTH: usize = 12;
@@ -66,12 +66,22 @@ fn decode_byte<'a>(text: &'a str, bytes: &mut Vec<u8>) -> Result<&'a str, String
 }
 
 fn decode_repetition<'a>(text: &'a str, bytes: &mut Vec<u8>) -> Result<&'a str, String> {
-    let (part, rest) = text.split_once("]*").ok_or("a `[` without `]*`")?;
+    let (part, rest) = split_at_closing(text).ok_or("a `[` without `]*`")?;
     let end = rest.find(|c: char| !c.is_ascii_digit()).unwrap_or(rest.len());
     let times: usize = rest[..end].parse().map_err(|_| "a repetition without a number")?;
     bytes.extend(decode(part)?.repeat(times));
     let rest = &rest[end..];
     Ok(rest.strip_prefix(';').unwrap_or(rest))
+}
+
+/// What stands before the bracket that closes, and behind its star.
+fn split_at_closing(text: &str) -> Option<(&str, &str)> {
+    let mut open = 1;
+    let closing = text.find(|c: char| {
+        open += i32::from(c == '[') - i32::from(c == ']');
+        open == 0
+    })?;
+    Some((&text[..closing], text[closing..].strip_prefix("]*")?))
 }
 
 #[cfg(test)]
@@ -97,5 +107,7 @@ mod tests {
         assert_eq!(encode(&vec![0; 32_769]), "[00]*32769;");
         assert_eq!(encode(&[1, 2]), "0102");
         assert_eq!(decode("44 [03 00]*2 0B").unwrap(), [0x44, 3, 0, 3, 0, 0x0B]);
+        assert_eq!(decode("[01 [02]*2]*2 03").unwrap(), [1, 2, 2, 1, 2, 2, 3]);
+        assert!(decode("[01 [02]*2").is_err());
     }
 }

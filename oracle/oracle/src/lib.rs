@@ -20,6 +20,7 @@ pub mod rng;
 pub mod search;
 pub mod shrink;
 pub mod stack;
+pub mod steps;
 pub mod times;
 pub mod timing;
 pub mod visits;

@@ -4,6 +4,7 @@
 use oracle::answers::Answer;
 use oracle::cases::{Case, Operation, Outcome};
 use oracle::examples::windows::period_of;
+use oracle::steps::{Call, Course, History, Steps, Stored};
 
 /// The struct as the library returns it.
 #[repr(C)]
@@ -40,6 +41,21 @@ impl ReturnedCheck {
     }
 }
 
+/// The struct of a call of a stepping check.
+#[repr(C)]
+#[allow(dead_code)]
+struct ReturnedStepped {
+    answer: ReturnedCheck,
+    state: Steps,
+}
+
+#[allow(dead_code)]
+impl ReturnedStepped {
+    fn taken_apart(self) -> (Answer, Steps) {
+        (self.answer.answer(), self.state)
+    }
+}
+
 #[allow(dead_code)]
 extern "C" {
     fn dogwood_read_schema(bytes: *const u8, length: usize) -> u8;
@@ -69,6 +85,48 @@ extern "C" {
         workspace: *mut u32,
         workspace_length: usize,
     ) -> ReturnedCheck;
+    fn dogwood_steps_start(
+        rules: u8,
+        schema: *const u8,
+        schema_length: usize,
+        condition: *const u8,
+        condition_length: usize,
+        targets: *const u8,
+        targets_length: usize,
+    ) -> ReturnedStepped;
+    fn dogwood_steps_step(
+        schema: *const u8,
+        schema_length: usize,
+        condition: *const u8,
+        condition_length: usize,
+        targets: *const u8,
+        targets_length: usize,
+        state: Steps,
+        reports: *mut u8,
+        reports_length: usize,
+    ) -> ReturnedStepped;
+    fn dogwood_steps_step_with(
+        schema: *const u8,
+        schema_length: usize,
+        condition: *const u8,
+        condition_length: usize,
+        targets: *const u8,
+        targets_length: usize,
+        state: Steps,
+        reports: *mut u8,
+        reports_length: usize,
+        workspace: *mut u32,
+        workspace_length: usize,
+    ) -> ReturnedStepped;
+    fn dogwood_steps_append(
+        list: *mut u8,
+        list_space: usize,
+        length: usize,
+        target: *const u8,
+        target_length: usize,
+    ) -> Returned;
+    fn dogwood_steps_withdraw(targets: *const u8, targets_length: usize, state: Steps, position: u8)
+        -> ReturnedStepped;
     fn dogwood_sums(condition: *const u8, condition_length: usize, reports: *mut u8, reports_length: usize)
         -> Returned;
     fn dogwood_sums_with(
@@ -98,21 +156,32 @@ extern "C" {
     fn dogwood_write_decimal(value: i64, output: *mut u8, output_length: usize) -> Returned;
 }
 
-/// Calls a function of the library with plain values first and then slices, where the library has it.
+/// Calls a function of the library with plain values, slices that it reads, plain values, and slices that are lent to it, in
+/// this order, where the library has it.
 macro_rules! called {
     ($present:meta, $function:ident, [$($read:expr),*], [$($lent:expr),*]) => {
-        called!($present, $function, [], [$($read),*], [$($lent),*])
+        called!($present, $function, [], [$($read),*], [], [$($lent),*])
     };
-    ($present:meta, $function:ident, [$($plain:expr),*], [$($read:expr),*], [$($lent:expr),*]) => {{
+    ($present:meta, $function:ident, [$($plain:expr),*], [$($read:expr),*], [$($lent:expr),*]) => {
+        called!($present, $function, [$($plain),*], [$($read),*], [], [$($lent),*])
+    };
+    (
+        $present:meta, $function:ident, [$($first:expr),*], [$($read:expr),*], [$($plain:expr),*], [$($lent:expr),*]
+    ) => {{
         #[cfg($present)]
         {
             // SAFETY: each address and length is that of a slice that lives through the call, and the lent ones are ours alone.
-            Some(unsafe { $function($($plain,)* $($read.as_ptr(), $read.len(),)* $($lent.as_mut_ptr(), $lent.len(),)*) })
+            Some(unsafe {
+                $function(
+                    $($first,)* $($read.as_ptr(), $read.len(),)* $($plain,)* $($lent.as_mut_ptr(), $lent.len(),)*
+                )
+            })
         }
         #[cfg(not($present))]
         {
-            $(let _ = $plain;)*
+            $(let _ = $first;)*
             $(let _ = &$read;)*
+            $(let _ = $plain;)*
             $(let _ = &$lent;)*
             None
         }
@@ -135,13 +204,9 @@ pub fn check(schema: &[u8], condition: &[u8], targets: &[u8], reports: &mut [u8]
     returned.map(ReturnedCheck::answer)
 }
 
-/// The bit of `rules` that makes the check strict.
-#[allow(dead_code)]
-pub const STRICT: u8 = 1;
-
-/// The bit of `rules` that gives each binder its own body.
-#[allow(dead_code)]
-pub const OWN_BODIES: u8 = 2;
+/// The bits of `rules` that make the check strict and give each binder its own body.
+#[allow(unused_imports)]
+pub use oracle::steps::{OWN_BODIES, STRICT};
 
 /// The check with lent workspace: slots of any number that hold anything.
 #[allow(dead_code)]
@@ -159,6 +224,89 @@ pub fn check_with(
         [reports, workspace]
     );
     returned.map(ReturnedCheck::answer)
+}
+
+#[allow(dead_code)]
+pub fn steps_start(rules: u8, [schema, condition, targets]: [&[u8]; 3]) -> Option<(Answer, Steps)> {
+    let returned: Option<ReturnedStepped> =
+        called!(has_dogwood_steps_start, dogwood_steps_start, [rules], [schema, condition, targets], []);
+    returned.map(ReturnedStepped::taken_apart)
+}
+
+#[allow(dead_code)]
+pub fn steps_step(records: [&[u8]; 3], state: Steps, reports: &mut [u8]) -> Option<(Answer, Steps)> {
+    let [schema, condition, targets] = records;
+    let returned: Option<ReturnedStepped> =
+        called!(has_dogwood_steps_step, dogwood_steps_step, [], [schema, condition, targets], [state], [reports]);
+    returned.map(ReturnedStepped::taken_apart)
+}
+
+/// The step with lent workspace.
+#[allow(dead_code)]
+pub fn steps_step_with(
+    [schema, condition, targets]: [&[u8]; 3],
+    state: Steps,
+    reports: &mut [u8],
+    workspace: &mut [u32],
+) -> Option<(Answer, Steps)> {
+    let returned: Option<ReturnedStepped> = called!(
+        has_dogwood_steps_step_with,
+        dogwood_steps_step_with,
+        [],
+        [schema, condition, targets],
+        [state],
+        [reports, workspace]
+    );
+    returned.map(ReturnedStepped::taken_apart)
+}
+
+#[allow(dead_code)]
+pub fn steps_append(list: &mut [u8], length: usize, target: &[u8]) -> Option<Answer> {
+    #[cfg(has_dogwood_steps_append)]
+    {
+        let (at, space) = (list.as_mut_ptr(), list.len());
+        // SAFETY: each address and length is that of a slice that lives through the call, and the lent one is ours alone.
+        Some(unsafe { dogwood_steps_append(at, space, length, target.as_ptr(), target.len()) }.answer())
+    }
+    #[cfg(not(has_dogwood_steps_append))]
+    {
+        let _ = (list, length, target);
+        None
+    }
+}
+
+#[allow(dead_code)]
+pub fn steps_withdraw(targets: &[u8], state: Steps, position: u8) -> Option<(Answer, Steps)> {
+    let returned: Option<ReturnedStepped> =
+        called!(has_dogwood_steps_withdraw, dogwood_steps_withdraw, [], [targets], [state, position], []);
+    returned.map(ReturnedStepped::taken_apart)
+}
+
+/// What there is after the start and after each call of a history, by the library, each step being made by `step`; none where
+/// it lacks a function.
+#[allow(dead_code)]
+pub fn courses(
+    history: &History,
+    mut step: impl FnMut([&[u8]; 3], Steps, &mut [u8]) -> Option<(Answer, Steps)>,
+) -> Option<Vec<Course>> {
+    let mut course = history.before();
+    (course.answer, course.state) = steps_start(history.rules, history.records_with(course.targets()))?;
+    let mut all = vec![course.clone()];
+    for call in &history.calls {
+        let (targets, state) = (course.targets().to_vec(), course.state.clone());
+        match call {
+            Call::Step => {
+                (course.answer, course.state) = step(history.records_with(&targets), state, &mut course.buffer)?;
+            }
+            Call::Append(target) => {
+                let answer = steps_append(&mut course.list, course.length, target)?;
+                course.appended(answer);
+            }
+            Call::Withdraw(position) => (course.answer, course.state) = steps_withdraw(&targets, state, *position)?,
+        }
+        all.push(course.clone());
+    }
+    Some(all)
 }
 
 pub fn sums(condition: &[u8], reports: &mut [u8]) -> Option<Answer> {
@@ -210,6 +358,10 @@ pub fn outcome(case: &Case) -> Option<Outcome> {
         Operation::Windows => case.in_buffer(|buffer| noted(&mut answer, windows(&r[0], period_of(&r[1]), buffer))),
         Operation::Strict => return ruled(STRICT, case),
         Operation::Own | Operation::OwnSums => return ruled(OWN_BODIES, case),
+        Operation::Steps => {
+            let stored = Stored::read(case)?;
+            return stored.outcome(&courses(&stored.history, steps_step)?);
+        }
         Operation::Terms => return None,
         reading => return read(reading, &r[0]).map(Outcome::Number),
     };

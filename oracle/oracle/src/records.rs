@@ -10,7 +10,7 @@ mod words;
 pub use condition::{read_condition, read_numbered, words_of_condition, ConditionRecord};
 pub use path::{read_path, PathRecord, Scope};
 pub use schema::{read_schema, words_of_schema};
-pub use targets::{read_targets, TargetsRecord};
+pub use targets::{read_one_target, read_targets, Listed, TargetsRecord};
 pub use words::{Named, Saying, Time, Words};
 
 /// The number of document 01's table that a record is refused with.

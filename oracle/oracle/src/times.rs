@@ -202,20 +202,9 @@ pub fn common(operation: Operation, outcome: &Outcome) -> Option<Common> {
             Vec::from_iter((!typed).then(|| buffer[..answer.count].to_vec()))
         }
         Operation::Lookup => Vec::new(),
-        _ => reports(answer.count, buffer).into_iter().filter(|report| !mentions(report)).collect(),
+        _ => answers::reports(answer.count, buffer).into_iter().filter(|report| !mentions(report)).collect(),
     };
     Some(Common { number: answer.number, record: answer.record, visits: answer.visits, output })
-}
-
-/// The reports that a buffer begins with.
-fn reports(count: usize, buffer: &[u8]) -> Vec<Vec<u8>> {
-    let mut rest = buffer;
-    let mut next = || {
-        let (report, behind) = rest.split_at(10 + usize::from(u16::from_be_bytes([rest[8], rest[9]])));
-        rest = behind;
-        report.to_vec()
-    };
-    (0..count).map(|_| next()).collect()
 }
 
 fn mentions(report: &[u8]) -> bool {

@@ -10,14 +10,22 @@
 //! condition whose binders are named apart (`oracle::own`); and where the two ways of binding cannot differ, against the
 //! one without, to the byte, strictly too.
 //!
+//! For every tenth case a history of a stepping check is made, and each of its answers, with state, list and buffer, is held
+//! to one check over the targets that are done (`oracle::steps`): to the Rust's, and by strict rules, which it has not, to the
+//! library's own. Then its state, buffer and list are changed into such as no call leaves, and the next step, append and
+//! withdrawal are held to a model of the definition; they are made twice, and may write only where they should.
+//!
 //! A case with the types `datetime` and `duration` is marked, and not held to what the Rust says of it: `oracle::times` has
 //! what is known of its outcome, the whole of it where other types can stand for the two, and else a part.
 
 #[path = "../library.rs"]
 mod library;
 
+use oracle::answers::Answer;
 use oracle::cases::{Case, Draft, Operation, Outcome, FILL};
 use oracle::coverage::Coverage;
+use oracle::generate::histories;
+use oracle::steps::{self, Course, History, Steps};
 use oracle::{decimals, generate, hex, lists, own, rng::Rng, shrink, times, workloads};
 use std::collections::BTreeSet;
 use std::time::{SystemTime, UNIX_EPOCH};
@@ -35,6 +43,7 @@ fn main() {
     let letters: String = operations.iter().map(|o| o.letter()).collect();
     let lends = library::check_with(0, [&[]; 3], &mut [], &mut []).is_some()
         && library::sums_with(0, &[], &mut []).is_some()
+        && has_steps()
         && library::write_decimal(0, &mut []).is_some();
     if operations.is_empty() || wanted.is_none() && (operations.len() < COMPARED || !lends) {
         println!("oracle: NOTHING COMPARED, the static library is not there or lacks functions: it has '{letters}'");
@@ -42,8 +51,9 @@ fn main() {
     }
     println!("oracle: operations {letters}, seed {seed}");
     let stored = compare_stored(&operations);
-    let coverage = compare_fresh(&operations, count, seed);
+    let mut coverage = compare_fresh(&operations, count, seed);
     if wanted.is_none() {
+        compare_histories(count.div_ceil(10), seed, &mut coverage);
         compare_decimals(count, seed);
     }
     println!("oracle: {stored} stored and {count} fresh cases agree\n\nThe fresh cases covered:");
@@ -63,7 +73,7 @@ fn compare_stored(operations: &[Operation]) -> usize {
     let all = lists::all().into_iter().flat_map(|list| list.cases).chain(large);
     let has = |operation: Operation| {
         let plain = match operation {
-            Operation::Strict | Operation::Own => Operation::Check,
+            Operation::Strict | Operation::Own | Operation::Steps => Operation::Check,
             Operation::OwnSums => Operation::Sums,
             other => other,
         };
@@ -252,6 +262,158 @@ fn with_workspace(case: &Case, rules: u8, workspace: &[u32]) -> (Option<Outcome>
     let mut buffer = vec![FILL; case.size];
     let answer = library::check_with(rules, [&r[0], &r[1], &r[2]], &mut buffer, &mut left);
     (answer.map(|answer| Outcome::Answered(answer, buffer)), left)
+}
+
+// ─── Steps ───
+
+fn has_steps() -> bool {
+    let begun = || Steps::begun(0);
+    library::steps_start(0, [&[]; 3]).is_some()
+        && library::steps_step([&[]; 3], begun(), &mut []).is_some()
+        && library::steps_step_with([&[]; 3], begun(), &mut [], &mut []).is_some()
+        && library::steps_append(&mut [], 0, &[]).is_some()
+        && library::steps_withdraw(&[], begun(), 0).is_some()
+}
+
+/// What a check answers by rules: what the oracle knows, and where it knows nothing what the library says.
+fn checked(rules: u8, case: Case) -> Option<Outcome> {
+    steps::known(rules, case.clone()).or_else(|| library::ruled(rules, &case))
+}
+
+fn compare_histories(count: usize, seed: u64, coverage: &mut Coverage) {
+    let mut rng = Rng::new(seed ^ 108);
+    for i in 0..count {
+        let history = histories::history(&mut rng, &checked);
+        if history_differs(&history) {
+            println!("history {i} differs; with as few calls as do:");
+            show_history(&shorter(history));
+            std::process::exit(1);
+        }
+        let Some(courses) = history.courses(&checked) else { continue };
+        coverage.note_history(&history, &courses);
+        let left = rng.pick(&courses).clone();
+        let course = histories::changed(&mut rng, left);
+        match state_differs(&mut rng, &history, &course) {
+            Ok(number) => coverage.note_state(number),
+            Err(what) => {
+                println!("history {i}, a state that no call left differs: {what}\n{}\n{course:?}", history.line());
+                std::process::exit(1);
+            }
+        }
+    }
+    println!("oracle: {count} histories of a stepping check agree, and as many states that no call left");
+}
+
+/// Whether the library answers otherwise at some call, or leaves another state, list or buffer, with workspace and without.
+fn history_differs(history: &History) -> bool {
+    let Some(wanted) = history.courses(&checked) else { return false };
+    let mut rng = Rng::new(wanted.len() as u64);
+    let lent = |records: [&[u8]; 3], state: Steps, buffer: &mut [u8]| {
+        let (mut workspace, before) = slots(&mut rng, buffer.len());
+        let given = library::steps_step_with(records, state, buffer, &mut workspace);
+        let refused = given.as_ref().is_some_and(|(answer, _)| ![0, 11].contains(&answer.number));
+        given.filter(|_| !refused || workspace == before)
+    };
+    let ours = [library::courses(history, library::steps_step), library::courses(history, lent)];
+    ours.iter().any(|courses| courses.as_ref() != Some(&wanted))
+}
+
+/// Workspace of any number of slots that hold anything, and a copy of it.
+fn slots(rng: &mut Rng, size: usize) -> (Vec<u32>, Vec<u32>) {
+    let count = rng.one(&[0, 1, 2, 9, 300, workloads::workspace_for(size)]);
+    let bound = rng.one(&[1, size + 2, 1 << 32]);
+    let slots: Vec<u32> = (0..count).map(|_| rng.below(bound) as u32).collect();
+    (slots.clone(), slots)
+}
+
+/// The same history without calls that it does not need to differ.
+fn shorter(mut history: History) -> History {
+    let mut at = 0;
+    while at < history.calls.len() {
+        let mut other = history.clone();
+        other.calls.remove(at);
+        if history_differs(&other) {
+            history = other;
+        } else {
+            at += 1;
+        }
+    }
+    history
+}
+
+fn show_history(history: &History) {
+    println!("{}", history.line());
+    let ours = library::courses(history, library::steps_step).unwrap_or_default();
+    let wanted = history.courses(&checked).unwrap_or_default();
+    for (at, (ours, wanted)) in ours.iter().zip(&wanted).enumerate() {
+        println!("  {at}: wanted {:?}\n      ours {:?}", wanted.answer, ours.answer);
+        println!("      state {}, list {}, buffer {}", ours.state == wanted.state, ours.list == wanted.list, {
+            ours.buffer == wanted.buffer
+        });
+    }
+}
+
+/// Bytes before and behind what is lent.
+const AROUND: usize = 64;
+
+/// A call with a copy of these bytes lent, and what is then there; an error where bytes around them were written to.
+fn lent<T>(bytes: &[u8], call: impl FnOnce(&mut [u8]) -> Option<T>) -> Result<(T, Vec<u8>), &'static str> {
+    let around = [FILL; AROUND];
+    let mut all = [&around, bytes, &around].concat();
+    let given = call(&mut all[AROUND..AROUND + bytes.len()]).ok_or("a function is missing")?;
+    let (before, rest) = all.split_at(AROUND);
+    let (inside, behind) = rest.split_at(bytes.len());
+    if [before, behind].iter().any(|part| **part != around) {
+        return Err("bytes around what is lent were written to");
+    }
+    Ok((given, inside.to_vec()))
+}
+
+/// Looks whether a step, an append and a withdrawal from any state are as the model has them, each time that they are made;
+/// the number of the step.
+fn state_differs(rng: &mut Rng, history: &History, course: &Course) -> Result<u8, &'static str> {
+    let targets = course.targets().to_vec();
+    let records = history.records_with(&targets);
+    let mut wanted = course.clone();
+    let answer = steps::step(records, &mut wanted.state, &mut wanted.buffer, &checked);
+    let Some(answer) = answer else { return Ok(255) };
+    let wanted = ((answer, wanted.state), wanted.buffer);
+    for _ in 0..2 {
+        let (mut workspace, _) = slots(rng, course.buffer.len());
+        let own = lent(&course.buffer, |buffer| library::steps_step(records, course.state.clone(), buffer))?;
+        let with = |buffer: &mut [u8]| library::steps_step_with(records, course.state.clone(), buffer, &mut workspace);
+        if own != wanted || lent(&course.buffer, with)? != wanted {
+            return Err("a step");
+        }
+    }
+    append_differs(rng, course)?;
+    for position in [0, 1, rng.below(256) as u8] {
+        let mut state = course.state.clone();
+        let wanted = steps::withdraw(&targets, &mut state, position);
+        if library::steps_withdraw(&targets, course.state.clone(), position) != Some((wanted, state)) {
+            return Err("a withdrawal");
+        }
+    }
+    Ok(answer.number)
+}
+
+/// A list of any length and with a byte changed, and a target of a few bytes.
+fn append_differs(rng: &mut Rng, course: &Course) -> Result<(), &'static str> {
+    let mut list = course.list.clone();
+    if let (Some(at), true) = (list.len().checked_sub(1), rng.chance(1, 3)) {
+        let at = rng.below(at + 1);
+        list[at] = rng.one(&[0, 1, 2, 5, 0x22, 0x41, 0xFF]);
+    }
+    let length = rng.one(&[course.length, course.length, course.length + 1, 0, usize::MAX, list.len()]);
+    let target: Vec<u8> = (0..rng.below(6)).map(|_| rng.one(&[0, 0, 1, 2, 0x22, 0x41])).collect();
+    let mut wanted = list.clone();
+    let answer: Answer = steps::append(&mut wanted, length, &target);
+    for _ in 0..2 {
+        if lent(&list, |list| library::steps_append(list, length, &target))? != (answer, wanted.clone()) {
+            return Err("an append");
+        }
+    }
+    Ok(())
 }
 
 fn show(case: &Case) {

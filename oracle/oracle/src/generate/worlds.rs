@@ -230,7 +230,7 @@ impl World {
         (targets(self.narrowing(rng), self.narrowing(rng), all), count)
     }
 
-    fn target(&self, rng: &mut Rng) -> Piece {
+    pub fn target(&self, rng: &mut Rng) -> Piece {
         match self.some_action(rng) {
             Some(action) if rng.chance(9, 10) => target(action.namespace(), action.id),
             _ => target(rng.one(&["", "App", "App::Action", "Gone"]), rng.one(&ACTION_IDS)),

@@ -73,6 +73,11 @@ impl<'a> Fields<'a> {
         Ok(fields)
     }
 
+    /// Fields without a record around them.
+    pub fn bare(bytes: &'a [u8]) -> Fields<'a> {
+        Fields { bytes, at: 0, version: 1, words: Words::default() }
+    }
+
     /// The record's end; what was noted of its words.
     pub fn close(self) -> Result<Words, Refusal> {
         if self.at < self.bytes.len() {
