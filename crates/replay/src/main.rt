@@ -4,6 +4,8 @@
 //
 // The lists stand in data/; their headings say how they were made and how a case is to be read. A case is never copied: its
 // records are parts of the list. Nothing is asked of a list: what no list has makes a case differ.
+mod history;
+
 use dogwood::Answer;
 use dogwood::CheckAnswer;
 use operands::Operand;
@@ -142,6 +144,9 @@ fn exported<'a>(
     }
     if letter == b'w' {
         return unvisited(dogwood::dogwood_windows(a, program::u64_at(b, 0), buffer));
+    }
+    if letter == b'h' {
+        return history::run(a, b, c, buffer);
     }
     numbered(number(letter, a))
 }
@@ -337,5 +342,6 @@ fn main() {
     replay(b"values.cases");
     replay(b"times.cases");
     replay(b"own.cases");
+    replay(b"steps.cases");
     replay(b"terms.cases");
 }

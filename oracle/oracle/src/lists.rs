@@ -2,10 +2,14 @@
 
 use crate::cases::{self, Case, Draft, Operation, Outcome};
 use crate::coverage::Coverage;
-use crate::examples::{bytes, own as bound_examples, rules, strict, times as timed_examples, values, visits, windows};
-use crate::generate::{self, boundaries, compared};
+use crate::examples::{
+    bytes, own as bound_examples, rules, steps as stepped_examples, strict, times as timed_examples, values, visits,
+    windows,
+};
+use crate::generate::{self, boundaries, compared, histories};
 use crate::pieces::{self, Piece};
 use crate::rng::Rng;
+use crate::steps::{self, History, Stored};
 use crate::times;
 
 /// The seed of the stored lists.
@@ -71,6 +75,17 @@ pub fn all() -> Vec<List> {
                    n are the same operations with binders in their own bodies, which the Rust has not: it was asked with \
                    the binders named apart, and the names were put back in what it says.",
             cases: bound(),
+        },
+        List {
+            file: "steps.cases",
+            form: "h (schema, condition, history): a stepping check, by rules without the strict one. The history is: the \
+                   rules (a byte), the space of the list (two bytes), the list at the start and at the end, then the calls. A \
+                   call begins as a case does: a letter (b start, s step, a append, w withdraw), NUMBER, RECORD, COUNT, a SIZE \
+                   of 0 and VISITS; behind them stands an argument (a target, or a position). Lists and arguments have their \
+                   lengths before them, in two bytes. SIZE and OUTPUT of the case are of the reports' buffer, and its numbers \
+                   those of the last call; the list's buffer is filled with A5 behind the list. The Rust has no such check: \
+                   after each step it was asked for one check over the targets that are done.",
+            cases: stepped(),
         },
         List {
             file: "terms.cases",
@@ -320,6 +335,36 @@ fn bound() -> Vec<Case> {
             |case| !times::is_marked(case),
             says_the_same,
         ));
+    }
+    once(cases)
+}
+
+/// The examples of the stepping check, but for those of lists so long that a case does not hold them, and random histories.
+/// Of those in which no step has a report every fourth is kept.
+fn stepped() -> Vec<Case> {
+    const FRESH: usize = 300;
+    const LONGEST_STORED: usize = 8_192;
+    let stored = |history: History| {
+        let courses = history.courses(&steps::known)?;
+        Some(Stored::of(history, &courses).case())
+    };
+    let is_short = |history: &History| history.space <= LONGEST_STORED && history.size <= LONGEST_STORED;
+    let mut cases = Vec::new();
+    for e in stepped_examples::all() {
+        let space = e.history.space.min(LONGEST_STORED);
+        if e.history.records[2].len() < LONGEST_STORED {
+            cases.extend(stored(History { space, ..e.history }));
+        }
+    }
+    let mut rng = Rng::new(SEED ^ u64::from(b'h'));
+    while cases.len() < FRESH {
+        let mut history = histories::history(&mut rng, &steps::known);
+        history.rules &= !steps::STRICT;
+        let Some(case) = is_short(&history).then(|| stored(history)).flatten() else { continue };
+        let shows_little = Stored::read(&case).is_none_or(|stored| stored.reports() == 0);
+        if !shows_little || rng.chance(1, 4) {
+            cases.push(case);
+        }
     }
     once(cases)
 }
