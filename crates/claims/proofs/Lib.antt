@@ -7,6 +7,7 @@ pub mod Strict
 pub mod StrictExamples
 pub mod Visits
 pub mod VisitsExamples
+pub mod StepsExamples
 pub mod Versions
 pub mod Changes
 pub mod Unsaid
