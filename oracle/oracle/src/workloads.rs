@@ -140,6 +140,17 @@ pub fn scoped() -> Vec<Workload> {
     ]
 }
 
+/// Checks that are made in steps, one target after the other, beside the same at once: the everyday one, a condition of 32 KB
+/// under 255 targets, and very many reports, over which every further step has to go.
+pub fn stepped() -> Vec<Workload> {
+    let age = || path(0, &["profile", "age"], 0);
+    vec![
+        workload("2 steps, everyday", false, shop(2, 4), condition_record(everyday()), view_targets(2), age()),
+        workload("255 steps, 32 KB condition", false, shop(2, 255), condition_of(LONGEST), view_targets(255), age()),
+        differing("100 steps, 136,000 reports", 1_360, 100, 16 << 20),
+    ]
+}
+
 /// Conditions of growing size under one target.
 pub fn sizes() -> Vec<Workload> {
     let sized = |power: u32| {

@@ -14,8 +14,9 @@ use dogwood_rust::extension::temporal::validate;
 use oracle::answers;
 use oracle::cases::Operation;
 use oracle::plot::{self, Line, Panel};
-use oracle::records;
+use oracle::records::{self, Listed};
 use oracle::stack;
+use oracle::steps::Steps;
 use oracle::timing::{shown, time};
 use oracle::workloads::{self, workspace_for, Workload};
 use std::collections::hash_map::RandomState;
@@ -78,6 +79,12 @@ fn table(text: &str) -> String {
         out += &row(&w.name, "check, own bodies", &check_in_own_bodies(w));
         out += &row(&w.name, "sums", &sums(w));
         out += &row(&w.name, "sums, own bodies", &sums_in_own_bodies(w));
+    }
+    for w in workloads::stepped().iter().filter(|w| w.name.contains(text)) {
+        out += &row(&w.name, "check", &check(w));
+        out += &row(&w.name, "steps", &in_steps(w, 0));
+        out += &row(&w.name, "check, own bodies", &check_in_own_bodies(w));
+        out += &row(&w.name, "steps, own bodies", &in_steps(w, library::OWN_BODIES));
     }
     let all = workloads::all().into_iter().chain(workloads::crowded()).chain(workloads::searching());
     for w in all.filter(|w| w.name.contains(text)) {
@@ -163,6 +170,28 @@ fn strictly(w: &Workload) -> Times {
 /// Our check with binders in their own bodies beside the Rust's flat one: it has no other.
 fn check_in_own_bodies(w: &Workload) -> Times {
     Times { ours: lent(w, library::OWN_BODIES, &mut vec![0; w.space]), ..check(w) }
+}
+
+/// Our check with these rules from its start to its last step, beside the Rust's, which does all targets at once.
+fn in_steps(w: &Workload, rules: u8) -> Times {
+    let records = [&w.schema[..], &w.condition[..], &w.targets[..]];
+    let mut buffer = vec![0; w.space];
+    let mut workspace = vec![0; if w.lends { workspace_for(w.space) } else { 0 }];
+    let mut call = || {
+        let (mut last, mut state) = library::steps_start(rules, black_box(records))?;
+        for _ in 0..Listed::of(&w.targets).ok()?.targets.len() {
+            (last, state) = match w.lends {
+                true => library::steps_step_with(records, state, &mut buffer, &mut workspace)?,
+                false => library::steps_step(records, state, &mut buffer)?,
+            };
+        }
+        Some(last)
+    };
+    let answer = call();
+    let at_once = library::check_with(rules, records, &mut vec![0; w.space], &mut vec![0; workspace_for(w.space)]);
+    assert!(answer.is_none() || answer == at_once, "{}: steps answer otherwise than a check", w.name);
+    let ours = answer.map(|_| time(|| used(call())));
+    Times { ours, ..check(w) }
 }
 
 /// Our sums in the same way.
@@ -251,17 +280,24 @@ fn stacks() -> String {
     out
 }
 
-fn stacks_of(w: &Workload) -> [(&'static str, usize); 7] {
+fn stacks_of(w: &Workload) -> [(&'static str, usize); 9] {
     const OWN: u8 = library::OWN_BODIES;
     let (mut buffer, mut workspace) = (vec![0; 65_536], vec![0; workspace_for(65_536)]);
     let (s, c, t, p) = (&w.schema[..], &w.condition[..], &w.targets[..], &w.path[..]);
     let mut lent =
         |rules: u8| stack::taken(|| used(library::check_with(rules, [s, c, t], &mut buffer, &mut workspace)));
     let (flat, own) = (lent(0), lent(OWN));
+    let stepped = stack::taken(|| used(library::steps_step([s, c, t], Steps::begun(0), &mut buffer)));
+    let with = |buffer: &mut [u8], workspace: &mut [u32]| {
+        used(library::steps_step_with([s, c, t], Steps::begun(OWN), buffer, workspace))
+    };
+    let stepped_with = stack::taken(|| with(&mut buffer, &mut workspace));
     [
         ("check", stack::taken(|| used(library::check(s, c, t, &mut buffer)))),
         ("check, workspace lent", flat),
         ("check, workspace lent, own bodies", own),
+        ("step", stepped),
+        ("step, workspace lent, own bodies", stepped_with),
         ("sums", stack::taken(|| used(library::sums(c, &mut buffer)))),
         ("sums, own bodies", stack::taken(|| used(library::sums_with(OWN, c, &mut buffer)))),
         ("windows", stack::taken(|| used(library::windows(c, 60, &mut buffer)))),
