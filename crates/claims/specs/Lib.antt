@@ -21,3 +21,4 @@ pub mod OwnBodyExamples
 pub mod Times
 pub mod TimeExamples
 pub mod Steps
+pub mod Moves

@@ -1,7 +1,7 @@
 -- The stepping check: a list of targets of which each position is pending, done or withdrawn. A step does the first pending one; between steps targets are
 -- appended, or a pending one is withdrawn, and no position ever moves.
 -- The caller holds all of it: the list is record 3, the reports stand in the buffer, and the state says what those two do not. Nothing is assumed of any of them.
-use Prim.Native.Nat.{ℕ, _+_, _-_}
+use Prim.Native.Nat.{ℕ, _+_, _-_, _/_, _%_}
 use mathlib.Core.Bool.{Bool, cond, _&&_, _||_}
 use mathlib.Core.List.{List, [], _∷_, _++_}
 use mathlib.Core.Option.{Option, none, some}
@@ -144,3 +144,13 @@ withdraw st targetBytes position =
     (unchanged (marked st position withdrawn) [] 0 0)
     (unchanged st [] 19 0))
     (whole targetRecord targetBytes)
+
+-- ---- the rule is changed
+
+-- rules with bit 1 (value 2) set, so that each binder has its own body; nothing changes where it is set already
+unfoldable pub ownBodies : ℕ → ℕ
+ownBodies rules = cond (eqb (rules / 2 % 2) 1) rules (rules + 2)
+
+-- From flat to own bodies, one way: the targets done later follow the new rule, and nothing else of the state changes. No record is read, and nothing is refused
+unfoldable pub move : Steps → Steps
+move st = record { rules = ownBodies (st .rules); stopped = st .stopped; marks = st .marks; used = st .used; visits = st .visits }
