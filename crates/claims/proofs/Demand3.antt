@@ -109,7 +109,7 @@ module _ (rules : ℕ) (s : Schema) (c : Condition) (ts : Targets) where
       gathered (breachesUnder (choicesOf rules) s c (ts .scope)) (ts .list) b t (r .listed)
       (by-rules (choicesOf rules) s c (ts .scope) t b (findAction s (t .namespace) (t .id)) (r .checked) (record { own = r .breach .node; listed = r .breach .isReached; gives = r .breach .breaks }))
 
-  pair-of : (k : Pair) → (k ∈ pairs (breaches rules s c ts)) ↔ PairOf rules s c ts k
+  pub pair-of : (k : Pair) → (k ∈ pairs (breaches rules s c ts)) ↔ PairOf rules s c ts k
   pair-of k = (
     (λ h. let r = of-list (breaches rules s c ts) k h in record { breach = r .breach; pair = r .pair; isBreach = is-breach (r .breach) (r .listed) }),
     (λ r. subst (λ (j : Pair). j ∈ pairs (breaches rules s c ts)) (sym (r .pair)) (in-pairs (breaches rules s c ts) (r .breach) (breach-in (r .breach) (r .isBreach)))),

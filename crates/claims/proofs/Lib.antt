@@ -30,3 +30,4 @@ pub mod StepsBetween
 pub mod StepsHistory
 pub mod StepsDone
 pub mod Steps
+pub mod Moves

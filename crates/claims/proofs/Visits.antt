@@ -76,7 +76,7 @@ module _ (buffer : List ℕ) where
   no-more before (v ∷ vs) h = ap (λ (n : ℕ). cond (eqb n 0) (suc (begun buffer (before ++ v) vs)) 0) h
 
   -- all, where all reports fit
-  all-begun : (before : List Breach) (vs : List (List Breach)) → numberOf buffer (before ++ foundBy vs) ≡ 0 → begun buffer before vs ≡ length vs
+  pub all-begun : (before : List Breach) (vs : List (List Breach)) → numberOf buffer (before ++ foundBy vs) ≡ 0 → begun buffer before vs ≡ length vs
   unfolding begun gather
   all-begun before [] h = refl
   all-begun before (v ∷ vs) h =
@@ -145,7 +145,7 @@ module _ (k : Choices) (s : Schema) (c : Condition) (scope : Scope) where
       go true f = length-map (nodesBy (k .binding) c) f ∙ length-by c (k .binding)
       go false f = refl
 
-  in-all : (list : List Target) → length (gather (visitsUnder k s c scope) list) ≡ length (select (isChecked s scope) list) * length (reached c)
+  pub in-all : (list : List Target) → length (gather (visitsUnder k s c scope) list) ≡ length (select (isChecked s scope) list) * length (reached c)
   unfolding gather select
   in-all [] = sym (zero-mul (length (reached c)))
   in-all (t ∷ list) = length-append (visitsUnder k s c scope t) (gather (visitsUnder k s c scope) list) ∙ go (isChecked s scope t) _ (by-target t) _ (in-all list)

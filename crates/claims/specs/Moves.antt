@@ -12,7 +12,7 @@ use Rattle.condition.specs.Condition.{Condition}
 use Rattle.condition.specs.Places.{recordIn}
 use Rattle.walk.specs.Scopes.{own, bindingOf}
 use Rattle.targets.specs.Targets.{Target, Targets}
-use Rattle.reports.specs.Reports.{Breach, once, reported}
+use Rattle.reports.specs.Reports.{once, reported}
 use Rattle.reports.specs.Decode.{reports}
 use Rattle.reports.specs.Pairs.{_∈_, NoDup, Pair, pairs, space}
 use Rattle.typecheck.specs.Check.{profileOf, choicesOf, breachesUnder, visitsUnder, begun, CheckOutcome}
