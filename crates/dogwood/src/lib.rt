@@ -19,7 +19,7 @@ ghost use Rattle.sweeps.specs.Windows.{windows};
 ghost use Rattle.lookup.specs.Lookup.{lookup};
 ghost use Rattle.typecheck.specs.Check.{checkWith, check};
 ghost use Rattle.typecheck.specs.Answers.{checkOutcomeOf, Spared};
-ghost use Rattle.steps.specs.Steps.{start, step, append, withdraw};
+ghost use Rattle.steps.specs.Steps.{start, step, append, withdraw, move};
 ghost use Rattle.steps.specs.Answers.{steppedOf};
 
 // The number with which a schema record is refused, 0 for none.
@@ -160,6 +160,14 @@ pub extern "C" fn dogwood_steps_withdraw(targets: &[u8], state: Steps, position:
     ensures { λ r. ⌜ steppedOf r [] ≡ withdraw state (now (targets .entry)) position ⌝ }
 {
     steps::withdraw(targets, state, position)
+}
+
+// The rule changed between steps, from flat to own bodies: the targets done from now on follow it, and nothing else of the state changes. There is no way back.
+#[no_mangle]
+pub extern "C" fn dogwood_steps_move(state: Steps) -> Steps
+    ensures { λ r. ⌜ r ≡ move state ⌝ }
+{
+    steps::to_own_bodies(state)
 }
 
 // The sums of a condition: the answer, and a report for each whose summand is not declared Long.

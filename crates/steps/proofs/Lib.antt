@@ -4,3 +4,4 @@ pub mod States
 pub mod Search
 pub mod Calls
 pub mod Doing
+pub mod Moving

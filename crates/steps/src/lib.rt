@@ -1,12 +1,14 @@
 // The stepping check: one target at each step, others appended or withdrawn between steps. Nothing is kept here: the caller hands the records, the state and the
 // buffer in each time, and every value of every field means something.
 mod list;
+mod moved;
 mod positions;
 mod run;
 mod state;
 
 pub use list::append;
 pub use list::withdraw;
+pub use moved::to_own_bodies;
 pub use run::start;
 pub use run::step;
 use typecheck::CheckAnswer;
