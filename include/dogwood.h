@@ -188,7 +188,8 @@ struct dogwood_check_answer dogwood_check_with(uint8_t rules,
  * buffer of the reports; and the state, which says what these two do not. Every call gives a state back, which is handed to
  * the next one. With the same schema and condition each time, and list, state and buffer as the calls left them, the answer
  * of each step and the buffer behind it are those of one dogwood_check_with, by the state's rules and with this buffer,
- * over the targets that are done, in their order.
+ * over the targets that are done, in their order. That is so until the rules are changed on the way: dogwood_steps_move
+ * says what holds then.
  *
  * Anything else may be handed in too, and has an answer: each value of each field of the state means something.
  */
@@ -202,7 +203,7 @@ enum dogwood_mark {
 
 /* The state of a stepping check. */
 struct dogwood_steps {
-    uint8_t rules;      /* what was chosen at the start, as for dogwood_check_with */
+    uint8_t rules;      /* what was chosen at the start, as for dogwood_check_with, and DOGWOOD_OWN_BODIES after a move */
     uint8_t stopped;    /* not 0: a report did not fit, and no step does anything any more */
     uint8_t marks[256]; /* of enum dogwood_mark, one for each position; those behind the list have no effect */
     size_t used;        /* how many bytes of the buffer the reports take */
@@ -284,6 +285,20 @@ struct dogwood_answer dogwood_steps_append(uint8_t *list, size_t list_space, siz
  */
 struct dogwood_stepped dogwood_steps_withdraw(const uint8_t *targets, size_t targets_length,
                                               struct dogwood_steps state, uint8_t position);
+
+/*
+ * Moves a stepping check to own bodies, between steps, before the first and behind the last too. The state comes back with
+ * DOGWOOD_OWN_BODIES among its rules, and nothing else of it changes: DOGWOOD_STRICT stays as it was chosen, and so do bits
+ * without a meaning. Nothing is read, nothing can be refused, and there is no way back: a second move changes nothing, nor
+ * does one in a check that was started with own bodies.
+ *
+ * Targets that are done keep their reports; those that are done later are checked with own bodies, and a message and start
+ * that stands in the buffer already is not repeated, whichever rule it was reported by. So with space for all, the different
+ * pairs of message and start are those of a check by the rules of the start over the targets done before the first move, and
+ * those of a check with own bodies over the targets done since, each reported once. The visits are as many as without a
+ * move. After DOGWOOD_NO_SPACE a move starts nothing anew: every further step answers the same.
+ */
+struct dogwood_steps dogwood_steps_move(struct dogwood_steps state);
 
 /*
  * Reports each sum of a condition whose summand is declared as something else than Long. It needs no schema and no targets;

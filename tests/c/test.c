@@ -75,6 +75,10 @@ static void test(int holds, const char *claim, int line) {
 #define TAGS_AND_V "DWC\0\1" AND "\10" "\0\0\0\5\0\0\0\6" "\4" ENTITY_U ENTITY_G \
                    AND "\11" ZERO_SPAN LONG_V "\13" ZERO_SPAN V_IS "\4"
 
+/* V_OUTSIDE, `&&`, and `v == 1` at 5 to 6. In one scope the first equality is wrong; in own bodies v is the input's. */
+#define V_IS_BOTH "DWC\0\1" AND AND "\11" ZERO_SPAN LONG_V "\13" ZERO_SPAN V_IS "\4" \
+                  "\10" "\0\0\0\5\0\0\0\6" "\4\10\1v" "\2"
+
 /* An action with the input field v: String. */
 #define V_INPUT_SCHEMA "DWS\0\1" "\0\0" "\0\1" "\6Action" "\4view" "\0" "\0" "\6\1\5input" "\6\1\1v\1"
 
@@ -153,6 +157,11 @@ static void test(int holds, const char *claim, int line) {
 #define NUMBER_AT_W "\6Action" "\1w" "\0" "\0" "\6\1\5input" "\6\1\1n\0"
 #define BY_TARGET_SCHEMA "DWS\0\1" "\0\0" "\0\2" TEXT_AT_V NUMBER_AT_W
 #define BY_TARGET "DWC\0\1" "\10" "\0\0\0\2\0\0\0\3" "\1" "\6\2\5input\1n" "\2"
+
+/* The input field v of the actions v and w: a text at the one, a number at the other. */
+#define V_TEXT_AT_V "\6Action" "\1v" "\0" "\0" "\6\1\5input" "\6\1\1v\1"
+#define V_NUMBER_AT_W "\6Action" "\1w" "\0" "\0" "\6\1\5input" "\6\1\1v\0"
+#define V_BY_TARGET_SCHEMA "DWS\0\1" "\0\0" "\0\2" V_TEXT_AT_V V_NUMBER_AT_W
 
 /* principal.name, and principal.none, of the target at position 0. */
 #define PATH "DWP\0\1" "\0" "\1\4name" "\0"
@@ -938,6 +947,183 @@ static void test_random_states(void) {
     }
 }
 
+/* ─── Changing the rule ─── */
+
+/* A move that sets the bit of own bodies, and changes nothing else. */
+static int moves(void) {
+    struct dogwood_steps state = stepping.state;
+
+    state.rules = (uint8_t)(state.rules | DOGWOOD_OWN_BODIES);
+    stepping.state = dogwood_steps_move(stepping.state);
+    return same_state(stepping.state, state);
+}
+
+/* A move that changes nothing at all. */
+static int stays_moved(void) {
+    struct dogwood_steps state = stepping.state;
+
+    stepping.state = dogwood_steps_move(stepping.state);
+    return same_state(stepping.state, state);
+}
+
+/* A move by each of the rules, of states of random bytes, and a second one. */
+static void test_move(void) {
+    int rules, turn;
+
+    for (rules = 0; rules < 256; rules++) {
+        size_t strict = (rules & DOGWOOD_STRICT) != 0;
+        size_t flat = (rules & DOGWOOD_OWN_BODIES) == 0;
+
+        /* before the first step it is the check with own bodies */
+        started(rules, BYTES(SCHEMA), BYTES(TAGS_AND_V), BYTES(TWO_TARGETS), SPACE);
+        TEST(moves() && stepping.state.rules == (rules | DOGWOOD_OWN_BODIES) && stays_moved());
+        TEST(steps_as_check(0, strict, 6, BYTES(ONE_TARGET)) && stays_moved());
+        TEST(steps_as_check(0, strict, 12, BYTES(TWO_TARGETS)) && stays_moved());
+
+        /* between two steps; the reports of the first stay */
+        started(rules, BYTES(SCHEMA), BYTES(TAGS_AND_V), BYTES(TWO_TARGETS), SPACE);
+        TEST(steps_as_check(0, strict + flat, 6, BYTES(ONE_TARGET)) && moves());
+        TEST(checks(stepped(), 0, 0, strict + flat, 12) && stays_moved() && rests(0, 0, strict + flat, 12));
+    }
+    for (turn = 0; turn < 1000; turn++) {
+        draw(&stepping.state.rules, 1);
+        draw(&stepping.state.stopped, 1);
+        draw(stepping.state.marks, sizeof stepping.state.marks);
+        stepping.state.used = (size_t)drawn() << 8 | drawn();
+        stepping.state.visits = drawn() << 8 | drawn();
+        TEST(moves() && stays_moved());
+    }
+}
+
+/* What a move does to the steps behind it: before the first step, behind the last, twice, and after 11. */
+static void test_steps_moved(void) {
+    started(0, BYTES(EMPTY_SCHEMA), BYTES(V_OUTSIDE), BYTES(ONE_TARGET), SPACE);
+    TEST(moves() && steps_as_check(0, 0, 4, BYTES(ONE_TARGET)) && untouched_from(0));
+
+    started(0, BYTES(EMPTY_SCHEMA), BYTES(V_OUTSIDE), BYTES(ONE_TARGET), SPACE);
+    TEST(steps_as_check(0, 1, 4, BYTES(ONE_TARGET)) && moves() && rests(0, 0, 1, 4));
+
+    started(0, BYTES(EMPTY_SCHEMA), BYTES(V_OUTSIDE), BYTES(TWO_TARGETS), SPACE);
+    TEST(moves() && checks(stepped(), 0, 0, 0, 4) && moves() && checks(stepped(), 0, 0, 0, 8) && untouched_from(0));
+
+    started(DOGWOOD_OWN_BODIES, BYTES(EMPTY_SCHEMA), BYTES(V_OUTSIDE), BYTES(ONE_TARGET), SPACE);
+    TEST(stays_moved() && steps_as_check(0, 0, 4, BYTES(ONE_TARGET)));
+
+    /* the second target has the report of the first, which was found by the other rule */
+    begun(BYTES(TWO_TARGETS), SPACE);
+    TEST(checks(stepped(), 0, 0, 1, 1) && moves());
+    TEST(checks(stepped(), 0, 0, 1, 2) && stepping.state.used == ONE_REPORT && untouched_from(ONE_REPORT));
+
+    /* after 11 nothing comes of it, and appending and withdrawing go on */
+    begun(BYTES(TWO_TARGETS), ONE_REPORT - 1);
+    TEST(checks(stepped(), DOGWOOD_NO_SPACE, 0, 0, 1) && moves() && stays_moved());
+    TEST(rests(DOGWOOD_NO_SPACE, 0, 0, 1) && stepping.state.marks[1] == DOGWOOD_PENDING);
+    TEST(answers(appended(BYTES(X)), 0, 0, sizeof TWO_TARGETS - 1 + 3) && withdraws(1));
+    TEST(moves() && rests(DOGWOOD_NO_SPACE, 0, 0, 1));
+
+    /* a report that does not fit after a move stops the check too */
+    started(0, BYTES(V_BY_TARGET_SCHEMA), BYTES(V_IS_BOTH), BYTES("DWT\0\1" "\0\0" "\3" W V W), ONE_REPORT + 10);
+    TEST(checks(stepped(), 0, 0, 1, 6) && moves() && checks(stepped(), DOGWOOD_NO_SPACE, 0, 1, 12));
+    TEST(rests(DOGWOOD_NO_SPACE, 0, 1, 12) && stepping.state.marks[2] == DOGWOOD_PENDING);
+}
+
+/* The list of as many of these targets, of three bytes each, from one of them on. */
+static size_t part_of(const uint8_t *targets, size_t first, size_t count, uint8_t *list) {
+    static const uint8_t heading[] = "DWT\0\1\0\0";
+
+    memcpy(list, heading, 7);
+    list[7] = (uint8_t)count;
+    memcpy(list + 8, targets + 3 * first, 3 * count);
+    return 8 + 3 * count;
+}
+
+/* How many of some reports are of this message and start. */
+static int pairs_of(const uint8_t *found, size_t count, const struct dogwood_report *wanted) {
+    struct dogwood_report report;
+    int of = 0;
+
+    for (; count > 0; count--) {
+        found = dogwood_next_report(found, &report);
+        of += report.start == wanted->start && report.length == wanted->length &&
+              memcmp(report.message, wanted->message, report.length) == 0;
+    }
+    return of;
+}
+
+/* Whether each of some reports is once among others. */
+static int each_once_in(const uint8_t *some, size_t count, const uint8_t *others, size_t among) {
+    struct dogwood_report report;
+
+    for (; count > 0; count--) {
+        some = dogwood_next_report(some, &report);
+        if (pairs_of(others, among, &report) != 1) {
+            return 0;
+        }
+    }
+    return 1;
+}
+
+/* A check by rules of a part of these targets. */
+static struct dogwood_check_answer part_checked(int rules, const uint8_t *targets, size_t first, size_t count, uint8_t *found) {
+    uint8_t list[64];
+    size_t length = part_of(targets, first, count, list);
+
+    return dogwood_check_with((uint8_t)rules, BYTES(V_BY_TARGET_SCHEMA), BYTES(V_IS_BOTH), list, length, found, SPACE,
+                              filled(0), SLOTS);
+}
+
+/*
+ * At a split the different pairs are those of the first part by the rules of the start and those of the second with own
+ * bodies, each once; the visits are those of one check.
+ */
+static void test_split(int rules, const uint8_t *targets, size_t count, size_t at) {
+    static uint8_t first[SPACE], second[SPACE];
+    struct dogwood_check_answer answer, front, behind;
+    struct dogwood_report report;
+    const uint8_t *next = buffer;
+    uint8_t list[64];
+    size_t step, length = part_of(targets, 0, count, list);
+
+    started(rules, BYTES(V_BY_TARGET_SCHEMA), BYTES(V_IS_BOTH), list, length, SPACE);
+    for (step = 0; step < at; step++) {
+        stepped();
+    }
+    TEST(moves());
+    for (; step < count; step++) {
+        stepped();
+    }
+    answer = stepped();
+    front = part_checked(rules, targets, 0, at, first);
+    behind = part_checked(rules | DOGWOOD_OWN_BODIES, targets, at, count - at, second);
+    TEST(checks(answer, 0, 0, answer.count, front.visits + behind.visits));
+    TEST(each_once_in(buffer, answer.count, buffer, answer.count));
+    TEST(each_once_in(first, front.count, buffer, answer.count) && each_once_in(second, behind.count, buffer, answer.count));
+    for (step = 0; step < answer.count; step++) {
+        next = dogwood_next_report(next, &report);
+        TEST(pairs_of(first, front.count, &report) + pairs_of(second, behind.count, &report) > 0);
+    }
+    TEST(answer.visits == part_checked(rules, targets, 0, count, first).visits);
+}
+
+/* Each split of each list of up to four targets, which differ in what is reported with own bodies. */
+static void test_splits(void) {
+    static const char of_each[3][4] = {V, W, X};
+    int count, number, numbers, at, place, rest;
+
+    for (count = 0, numbers = 1; count <= 4; count++, numbers *= 3) {
+        for (number = 0; number < numbers; number++) {
+            uint8_t targets[12];
+
+            for (place = 0, rest = number; place < count; place++, rest /= 3) {
+                memcpy(targets + 3 * place, of_each[rest % 3], 3);
+            }
+            for (at = 0; at <= count; at++) {
+                test_split(number % 4, targets, (size_t)count, (size_t)at);
+            }
+        }
+    }
+}
+
 /* ─── Sums ─── */
 
 static void test_sums(void) {
@@ -1183,6 +1369,9 @@ int main(void) {
     test_withdraw();
     test_other_states();
     test_random_states();
+    test_move();
+    test_steps_moved();
+    test_splits();
     test_sums();
     test_sums_with();
     test_windows();
