@@ -96,6 +96,7 @@ extern "C" {
         target_length: usize,
     ) -> Returned;
     fn dogwood_steps_withdraw(targets: *const u8, targets_length: usize, state: Steps, position: u8) -> Stepped;
+    fn dogwood_steps_move(state: Steps) -> Steps;
     fn dogwood_sums(condition: *const u8, condition_length: usize, reports: *mut u8, reports_length: usize)
         -> Returned;
     fn dogwood_sums_with(
@@ -233,6 +234,11 @@ pub(crate) fn steps_append(list: &mut [u8], length: usize, target: &[u8]) -> Ret
 pub(crate) fn steps_withdraw(targets: &[u8], state: Steps, position: u8) -> Stepped {
     // SAFETY: as for `read_schema`.
     unsafe { dogwood_steps_withdraw(targets.as_ptr(), targets.len(), state, position) }
+}
+
+pub(crate) fn steps_move(state: Steps) -> Steps {
+    // SAFETY: the state crosses by value, both ways.
+    unsafe { dogwood_steps_move(state) }
 }
 
 pub(crate) fn sums(condition: &[u8], reports: &mut [u8]) -> Returned {

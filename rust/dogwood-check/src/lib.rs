@@ -35,7 +35,8 @@
 //! and [`sums_with`] also take the caller's [`Rules`]. [`Reports`] and [`ScopePath::decode`] read what they write. [`check`], [`sums`] and [`lookup`] take the space they need, up to [`MOST_SPACE`], and give owned
 //! values; [`Findings`] say whether there were more reports than that holds.
 //!
-//! A [`Stepping`] check does one target at a time, so that targets can be appended or withdrawn while it runs.
+//! A [`Stepping`] check does one target at a time, so that targets can be appended or withdrawn while it runs, and so that
+//! it can go over to the rules of own bodies.
 //!
 //! Any bytes may be given as records: what is no record is refused, with a [`Cause`] and the record that it is about. A
 //! record in another one's place is refused too, by its mark. [`read_schema`] and its like say beforehand whether bytes

@@ -10,7 +10,8 @@ use std::fmt;
 /// Each target of the list is pending, done or withdrawn ([`Progress`]), at a position that never changes.
 /// [`step`](Stepping::step) does the first pending one; between steps [`append`](Stepping::append) puts one more behind the
 /// others, and [`withdraw`](Stepping::withdraw) takes a pending one out. After each step the answer and the reports are
-/// those of one [`check_with`](crate::check_with) over the targets that are done, in their order.
+/// those of one [`check_with`](crate::check_with) over the targets that are done, in their order; or of two, one behind the
+/// other, where [`move_to_own_bodies`](Stepping::move_to_own_bodies) changed the rules on the way.
 ///
 /// ```
 /// use dogwood_check::{Cause, Condition, Operator, Progress, Rules, Schema, Stepping, Target, Targets, Term};
@@ -74,7 +75,8 @@ impl Progress {
 }
 
 impl<'a> Stepping<'a> {
-    /// Reads the records as [`check_with`](crate::check_with) does, and does no target. The rules hold for every step.
+    /// Reads the records as [`check_with`](crate::check_with) does, and does no target. The rules hold for every step, or
+    /// until [`move_to_own_bodies`](Stepping::move_to_own_bodies).
     ///
     /// Where a record is refused there is nothing to step through, and the refusal is that of a check. The reports take as
     /// much space as they need, up to [`MOST_SPACE`].
@@ -166,6 +168,43 @@ impl<'a> Stepping<'a> {
         Ok(())
     }
 
+    /// Has binders bind in their own bodies from now on, as [`Rules::own_bodies`] does from the start. Strict or not stays
+    /// as it was chosen.
+    ///
+    /// Targets that are done keep their reports, and those that are done later follow the new rule; a message at one start
+    /// that was reported by either is not repeated. So where the check has not [stopped](Stepping::has_stopped), the
+    /// different pairs of message and start are those of a check by the rules of the start over the targets that were done
+    /// before, and those of a check with own bodies over the targets done since. The visits are as many as without.
+    ///
+    /// It may be called between any two steps, before the first and behind the last. There is no way back, and a second
+    /// call changes nothing, nor does one in a check that was started with own bodies. A check that has stopped stays so.
+    ///
+    /// ```
+    /// use dogwood_check::{Binder, Condition, Operator, Rules, Schema, Stepping, Target, Targets, Term};
+    ///
+    /// // (exists (v: Long). ..) && v == "a"
+    /// let inside = Condition::exists(0..22, Binder::new("v", "Long"), Condition::call(18..22));
+    /// let outside = Condition::comparison(27..35, Operator::Eq, Term::var("v"), Term::String);
+    /// let condition = Condition::and(0..35, inside, outside).encode()?;
+    /// let schema = Schema::new().encode()?;
+    /// let targets = Targets::new().target(Target::new("view")).target(Target::new("edit")).encode()?;
+    ///
+    /// let mut check = Stepping::start(Rules::plain(), &schema, &condition, &targets)?;
+    /// let mut other = check.clone();
+    /// assert_eq!((check.step(), check.answer().count), (Some(0), 1));
+    /// check.move_to_own_bodies();
+    /// assert_eq!((check.step(), check.answer().count), (Some(1), 1));
+    ///
+    /// // before the first step it is a check with own bodies
+    /// other.move_to_own_bodies();
+    /// assert_eq!([other.step(), other.step(), other.step()], [Some(0), Some(1), None]);
+    /// assert_eq!((other.answer().count, other.visits()), (0, check.visits()));
+    /// # Ok::<(), Box<dyn std::error::Error>>(())
+    /// ```
+    pub fn move_to_own_bodies(&mut self) {
+        self.state = ffi::steps_move(self.state.clone());
+    }
+
     /// What has become of the target at a position; none where the list has no such position.
     pub fn progress(&self, position: u8) -> Option<Progress> {
         (position < self.count()).then(|| Progress::of(self.state.marks[usize::from(position)]))
@@ -206,7 +245,8 @@ impl<'a> Stepping<'a> {
         self.state.stopped != 0
     }
 
-    /// The answer so far: that of one check over the targets that are done.
+    /// The answer so far: that of one check over the targets that are done, or after a
+    /// [move](Stepping::move_to_own_bodies) of two, each by its rules.
     pub fn answer(&self) -> CheckAnswer {
         self.answer
     }

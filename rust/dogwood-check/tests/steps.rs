@@ -1,10 +1,11 @@
 //! A check in steps: after each step it answers as one check over the targets that are done, whatever was appended and
-//! withdrawn between them.
+//! withdrawn between them; and where it moved to own bodies, as a check of the targets done before it and one of those since.
 
 mod common;
 
 use common::{report, rng::Rng, wrong_comparison, CONDITION, MESSAGE, SCHEMA};
 use dogwood_check::*;
+use std::collections::BTreeSet;
 
 /// The bytes of a report with the example's message.
 const ONE: usize = 10 + MESSAGE.len();
@@ -228,6 +229,60 @@ fn more_space_is_taken_as_it_is_needed() {
     assert_eq!((check.answer().count, check.visits()), (1_200, 2 * 2_399));
 }
 
+// ─── A move to own bodies ───
+
+/// `(exists (v: Long). ..) && v == "a"`: one report in one scope, and none in own bodies.
+fn bound() -> Vec<u8> {
+    let inside = Condition::exists(0..0, Binder::new("v", "Long"), Condition::call(0..0));
+    let outside = Condition::comparison(3..9, Operator::Eq, Term::var("v"), Term::String);
+    Condition::and(0..9, inside, outside).encode().unwrap()
+}
+
+/// Before the first step it gives the check with own bodies; what was done before stays.
+#[test]
+fn what_is_done_keeps_its_reports() {
+    let condition = bound();
+    let start = |rules, ids: &[&str]| Stepping::start(rules, SCHEMA, &condition, &list(ids)).unwrap();
+    let mut check = start(Rules::plain(), &["view", "edit"]);
+    check.move_to_own_bodies();
+    assert_eq!((check.step(), check.answer().count), (Some(0), 0));
+    check.move_to_own_bodies();
+    assert_eq!((check.step(), check.answer().count, check.visits()), (Some(1), 0, 8));
+
+    let mut check = start(Rules::plain(), &["view"]);
+    check.step();
+    let before = (check.answer(), check.findings(), check.targets().to_vec(), check.progress(0));
+    assert_eq!(before.0.count, 1);
+    check.move_to_own_bodies();
+    assert_eq!((check.answer(), check.findings(), check.targets().to_vec(), check.progress(0)), before);
+    assert_eq!((check.step(), check.answer()), (None, before.0));
+    assert_eq!((check.append(&bytes("copy")), check.step(), check.answer().count), (Ok(1), Some(1), 1));
+
+    let mut check = start(Rules::own_bodies(), &["view"]);
+    check.move_to_own_bodies();
+    assert_eq!((check.step(), check.answer().count), (Some(0), 0));
+}
+
+/// A pair that was reported by the one rule is no report by the other.
+#[test]
+fn repeats_are_dropped_across_a_move() {
+    let mut check = started(&["view", "edit"]);
+    assert_eq!((check.step(), check.answer().count), (Some(0), 1));
+    check.move_to_own_bodies();
+    assert_eq!((check.step(), check.answer().count, check.visits()), (Some(1), 1, 2));
+}
+
+#[test]
+fn a_move_starts_nothing_anew() {
+    let mut check =
+        Stepping::start_within(ONE - 1, Rules::plain(), SCHEMA, CONDITION, &list(&["view", "edit"])).unwrap();
+    assert_eq!((check.step(), check.has_stopped()), (Some(0), true));
+    let stopped = check.answer();
+    check.move_to_own_bodies();
+    assert_eq!((check.step(), check.has_stopped(), check.answer()), (None, true, stopped));
+    assert_eq!((check.withdraw(0), check.withdraw(1)), (not_pending(), Ok(())));
+}
+
 // ─── Random histories ───
 
 const IDS: [&str; 6] = ["a", "b", "c", "d", "e", "undeclared"];
@@ -326,5 +381,105 @@ fn every_history_answers_as_one_check() {
     assert!(
         steps > 5_000 && reports > 5_000 && stops > 200 && withdrawals > 500,
         "{steps} {reports} {stops} {withdrawals}"
+    );
+}
+
+/// Comparisons of names that are bound by several binders, and else are fields of the input.
+fn bound_condition(rng: &mut Rng) -> Condition {
+    const NAMES: [&str; 2] = ["n", "m"];
+    let one = |rng: &mut Rng| {
+        let (start, operator) = (rng.below(4) as u32, *rng.pick(&[Operator::Eq, Operator::Lt]));
+        let (name, literal) =
+            (*rng.pick(&NAMES), rng.pick(&[Term::Integer, Term::String, Term::entity("Group")]).clone());
+        let compared = Condition::comparison(start..start + 9, operator, Term::var(name), literal);
+        match rng.below(3) {
+            0 => compared,
+            _ => Condition::exists(
+                0..9,
+                Binder::new(*rng.pick(&NAMES), *rng.pick(&["Long", "String", "User"])),
+                compared,
+            ),
+        }
+    };
+    let first = one(rng);
+    (0..1 + rng.below(5)).fold(first, |left, _| Condition::and(0..9, left, one(rng)))
+}
+
+fn pair(report: &Report) -> (String, u32) {
+    (report.message.clone(), report.start)
+}
+
+fn pairs(reports: &[Report]) -> BTreeSet<(String, u32)> {
+    reports.iter().map(pair).collect()
+}
+
+/// The reports of a first part and the other ones of a second behind them, up to the first that does not fit; whether all do.
+fn one_behind_the_other(first: &[Report], second: &[Report], space: usize) -> (Vec<Report>, bool) {
+    let before = pairs(first);
+    let new = second.iter().filter(|report| !before.contains(&pair(report)));
+    let all: Vec<&Report> = first.iter().chain(new).collect();
+    let end = |count: usize| all[..count].iter().map(|report| 10 + report.message.len()).sum::<usize>();
+    let kept = (0..=all.len()).rev().find(|count| end(*count) <= space).unwrap_or(0);
+    (all[..kept].iter().map(|report| (*report).clone()).collect(), kept == all.len())
+}
+
+/// At each split, with space for all, the pairs are those of the targets done before the move, by the rules of the start, and
+/// those of the targets done since, with own bodies, each once. The visits are those of one check by either rule.
+#[test]
+fn the_pairs_of_a_split_are_those_of_both_parts() {
+    let mut rng = Rng::new(113);
+    let (mut of_first, mut of_second, mut of_both, mut stops) = (0, 0, 0, 0);
+    for _ in 0..1_500 {
+        let (schema, condition) = (schema(&mut rng).encode().unwrap(), bound_condition(&mut rng).encode().unwrap());
+        let records = [schema.as_slice(), &condition];
+        let any = |rng: &mut Rng| Target::new(*rng.pick(&IDS));
+        let mut all = Targets::new();
+        all.principal = rng.pick(&[Narrowing::None, Narrowing::Any, Narrowing::is_type("User")]).clone();
+        all.list = (0..rng.below(4)).map(|_| any(&mut rng)).collect();
+        let (rules, most) = (rules(&mut rng), *rng.pick(&[MOST_SPACE, MOST_SPACE, 90, 200, 300]));
+        let (amply, moved_rules) = (1 << 14, rules.and(Rules::own_bodies()));
+        let mut check = Stepping::start_within(most, rules, &schema, &condition, &all.encode().unwrap()).unwrap();
+        let none = Targets { list: Vec::new(), ..all.clone() };
+        let (mut first, mut second, mut moved) = (none.clone(), none.clone(), false);
+        for _ in 0..12 {
+            match rng.below(7) {
+                0 => {
+                    let target = any(&mut rng);
+                    check.append(&target.encode().unwrap()).unwrap();
+                    all.list.push(target);
+                }
+                1 => drop(check.withdraw(rng.below(all.list.len() + 1) as u8)),
+                2 => {
+                    check.move_to_own_bodies();
+                    moved = true;
+                }
+                _ => {
+                    let done = check.step().map(|position| all.list[usize::from(position)].clone());
+                    if moved { &mut second } else { &mut first }.list.extend(done);
+                }
+            }
+            let (before, reported) = at_once(rules, records, &first, amply);
+            let (since, reported_since) = at_once(moved_rules, records, &second, amply);
+            let (wanted, fit) = one_behind_the_other(&reported, &reported_since, most);
+            assert_eq!((check.findings().reports, check.has_stopped()), (wanted, !fit));
+            if !fit {
+                continue;
+            }
+            let (found, in_first, in_second) =
+                (pairs(&check.findings().reports), pairs(&reported), pairs(&reported_since));
+            assert_eq!(found, in_first.union(&in_second).cloned().collect());
+            assert_eq!(found.len(), check.answer().count);
+            let done = Targets { list: [first.list.clone(), second.list.clone()].concat(), ..none.clone() };
+            assert_eq!(check.visits(), before.visits + since.visits);
+            assert_eq!(check.visits(), at_once(rules, records, &done, amply).0.visits);
+            of_first += in_first.difference(&in_second).count();
+            of_second += in_second.difference(&in_first).count();
+            of_both += in_first.intersection(&in_second).count();
+        }
+        stops += usize::from(check.has_stopped() && moved);
+    }
+    assert!(
+        of_first > 1_000 && of_second > 1_000 && of_both > 1_000 && stops > 50,
+        "{of_first} {of_second} {of_both} {stops}"
     );
 }
