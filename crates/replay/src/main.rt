@@ -293,7 +293,7 @@ fn held(agrees: bool, course: Course) -> Course {
     }
 }
 
-// The call of a letter: a step, a target appended, a position withdrawn. A start is what there is already.
+// The call of a letter: a step, a target appended, a position withdrawn, the rule changed. A start is what there is already.
 fn called<'a>(
     letter: u8,
     argument: &[u8],
@@ -321,7 +321,27 @@ fn called<'a>(
             course.length,
         );
     }
+    if letter == b'm' {
+        return moved(state, course.length);
+    }
     course
+}
+
+// The rule changed: nothing is answered, and a list has zeros in the place of an answer.
+fn moved(before: Steps, length: usize) -> Course {
+    let state = dogwood::dogwood_steps_move(before);
+    let answer = CheckAnswer {
+        number: 0,
+        record: 0,
+        count: 0,
+        visits: 0,
+    };
+    Course {
+        answer: answer,
+        state: state,
+        length: length,
+        agrees: true,
+    }
 }
 
 // A target appended: where it is refused the list is as long as it was.
