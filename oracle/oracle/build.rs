@@ -6,7 +6,7 @@
 use std::path::PathBuf;
 use std::{env, fs};
 
-const FUNCTIONS: [&str; 16] = [
+const FUNCTIONS: [&str; 17] = [
     "dogwood_read_schema",
     "dogwood_read_condition",
     "dogwood_read_targets",
@@ -18,6 +18,7 @@ const FUNCTIONS: [&str; 16] = [
     "dogwood_steps_step_with",
     "dogwood_steps_append",
     "dogwood_steps_withdraw",
+    "dogwood_steps_move",
     "dogwood_sums",
     "dogwood_sums_with",
     "dogwood_windows",

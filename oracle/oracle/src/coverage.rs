@@ -55,7 +55,8 @@ impl Coverage {
     /// A fresh history of a stepping check.
     pub fn note_history(&mut self, history: &History, courses: &[Course]) {
         self.add("histories".to_string(), 1);
-        self.add(format!("histories  by rules {}", history.rules & 3), 1);
+        let moved = if history.moves() { ", with a move" } else { "" };
+        self.add(format!("histories  by rules {}{moved}", history.rules & 3), 1);
         let answers: Vec<Answer> = courses.iter().map(|course| course.answer).collect();
         self.note_calls(history, &answers);
     }
@@ -66,6 +67,7 @@ impl Coverage {
             Call::Step => "step",
             Call::Append(_) => "append",
             Call::Withdraw(_) => "withdraw",
+            Call::Move => "move",
         });
         for (name, answer) in std::iter::once("start").chain(called).zip(answers) {
             self.add(format!("call       {name} number {:2} record {}", answer.number, answer.record), 1);

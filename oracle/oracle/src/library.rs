@@ -127,6 +127,7 @@ extern "C" {
     ) -> Returned;
     fn dogwood_steps_withdraw(targets: *const u8, targets_length: usize, state: Steps, position: u8)
         -> ReturnedStepped;
+    fn dogwood_steps_move(state: Steps) -> Steps;
     fn dogwood_sums(condition: *const u8, condition_length: usize, reports: *mut u8, reports_length: usize)
         -> Returned;
     fn dogwood_sums_with(
@@ -282,6 +283,11 @@ pub fn steps_withdraw(targets: &[u8], state: Steps, position: u8) -> Option<(Ans
     returned.map(ReturnedStepped::taken_apart)
 }
 
+#[allow(dead_code)]
+pub fn steps_move(state: Steps) -> Option<Steps> {
+    called!(has_dogwood_steps_move, dogwood_steps_move, [], [], [state], [])
+}
+
 /// What there is after the start and after each call of a history, by the library, each step being made by `step`; none where
 /// it lacks a function.
 #[allow(dead_code)]
@@ -303,6 +309,7 @@ pub fn courses(
                 course.appended(answer);
             }
             Call::Withdraw(position) => (course.answer, course.state) = steps_withdraw(&targets, state, *position)?,
+            Call::Move => (course.answer, course.state) = (Answer::done(0), steps_move(state)?),
         }
         all.push(course.clone());
     }

@@ -1,5 +1,5 @@
 //! The stepping check, which the published Rust has not: a list of targets of which each is pending, done or withdrawn, and
-//! calls that do the first pending one, append one, or withdraw one.
+//! calls that do the first pending one, append one, or withdraw one; and a call that moves from one scope to own bodies.
 //!
 //! The Rust judges it all the same. With records, state and buffer as they were last left, the answer after a step and the
 //! buffer are those of one check over the targets that are done, and that check the Rust has (`History::courses`). The state
@@ -7,7 +7,8 @@
 //!
 //! Of a state or a buffer that no call left there is no such check. What a step makes of them is said by `step`, a small
 //! model of the definition: it is asked about the check of one target alone, and what that reports goes behind the reports
-//! that stand in the buffer.
+//! that stand in the buffer. Behind a move there is no such check either, since some targets were done by the one rule and
+//! some by the other; so the model says the further steps, and the Rust judges the check of each one target.
 
 use crate::answers::{self, Answer, CONDITION, SCHEMA, TARGETS};
 use crate::cases::{Case, Operation, Outcome, FILL};
@@ -113,6 +114,11 @@ pub fn withdraw(targets: &[u8], state: &mut Steps, position: u8) -> Answer {
     }
 }
 
+/// The rule changed to own bodies, for the targets that are done from now on.
+pub fn move_to_own_bodies(state: &mut Steps) {
+    state.rules |= OWN_BODIES;
+}
+
 // ─── Histories ───
 
 #[derive(Debug, Clone, PartialEq, Eq)]
@@ -120,6 +126,8 @@ pub enum Call {
     Step,
     Append(Vec<u8>),
     Withdraw(u8),
+    /// To own bodies. It answers nothing, and has the answer of zeros.
+    Move,
 }
 
 /// A start and the calls behind it.
@@ -174,8 +182,13 @@ impl History {
         [&self.records[0], &self.records[1], targets]
     }
 
-    /// What there is after the start and after each call, by one check over the targets that are done; none where what that
-    /// check answers is not known.
+    /// Whether the rule is changed on the way.
+    pub fn moves(&self) -> bool {
+        self.calls.contains(&Call::Move)
+    }
+
+    /// What there is after the start and after each call, by one check over the targets that are done, or behind a change of
+    /// the rule by the model of a step; none where what a check answers is not known.
     pub fn courses(&self, checked: Checked) -> Option<Vec<Course>> {
         let mut course = self.before();
         course.answer = refused(self.records_with(course.targets())).unwrap_or(Answer::done(0));
@@ -191,6 +204,10 @@ impl History {
                     let targets = course.targets().to_vec();
                     course.answer = withdraw(&targets, &mut course.state, *position);
                 }
+                Call::Move => {
+                    move_to_own_bodies(&mut course.state);
+                    course.answer = Answer::done(0);
+                }
             }
             all.push(course.clone());
         }
@@ -199,6 +216,12 @@ impl History {
 
     fn step(&self, course: &mut Course, checked: Checked) -> Option<()> {
         let targets = course.targets().to_vec();
+        if course.state.rules != self.rules {
+            // no one check has both rules
+            let records = self.records_with(&targets);
+            course.answer = step(records, &mut course.state, &mut course.buffer, checked)?;
+            return Some(());
+        }
         if let Some(answer) = refused(self.records_with(&targets)) {
             course.answer = answer;
             return Some(());
@@ -227,6 +250,7 @@ impl History {
             Call::Step => " | step".to_string(),
             Call::Append(target) => format!(" | append {}", hex::encode(target)),
             Call::Withdraw(position) => format!(" | withdraw {position}"),
+            Call::Move => " | move".to_string(),
         });
         start + &calls.collect::<String>()
     }
@@ -304,6 +328,7 @@ const STARTED: u8 = b'b';
 const STEPPED: u8 = b's';
 const APPENDED: u8 = b'a';
 const WITHDREW: u8 = b'w';
+const MOVED: u8 = b'm';
 
 /// A stored history: what was asked, what was answered, and the list at the end.
 pub struct Stored {
@@ -334,6 +359,7 @@ impl Stored {
             Call::Step => (STEPPED, vec![]),
             Call::Append(target) => (APPENDED, target.clone()),
             Call::Withdraw(position) => (WITHDREW, vec![*position]),
+            Call::Move => (MOVED, vec![]),
         });
         for ((letter, argument), answer) in std::iter::once((STARTED, vec![])).chain(calls).zip(&self.answers) {
             bytes.extend([letter, answer.number, answer.record]);
@@ -359,6 +385,7 @@ impl Stored {
                 STEPPED => calls.push(Call::Step),
                 APPENDED => calls.push(Call::Append(argument)),
                 WITHDREW => calls.push(Call::Withdraw(*argument.first()?)),
+                MOVED => calls.push(Call::Move),
                 _ => {}
             }
         }

@@ -1,12 +1,15 @@
 //! The stepping check: the examples, the stored form of a history, and that the model of a step from any state says of
-//! states that were left by calls what one check over the targets that are done says.
+//! states that were left by calls what one check over the targets that are done says; where the rule is changed on the way,
+//! that the reports are those of both parts.
 
-use oracle::answers::Answer;
+use oracle::answers::{self, Answer};
 use oracle::cases::{Case, Operation, Outcome};
 use oracle::examples::steps as examples;
 use oracle::generate::histories;
+use oracle::records::Listed;
 use oracle::rng::Rng;
 use oracle::steps::{self, known, Call, Course, History, Steps, Stored};
+use std::collections::BTreeSet;
 
 fn numbers(answer: Answer) -> Vec<usize> {
     vec![answer.number.into(), answer.record.into(), answer.count, answer.visits]
@@ -84,6 +87,107 @@ fn the_model_of_a_step_agrees_with_one_check() {
         reports += courses.last().map_or(0, |course| course.answer.count);
     }
     assert!(stopped > 50 && reports > 200, "{stopped} {reports}");
+}
+
+/// A history with moves by rules that the Rust judges, and its courses.
+fn moved(rng: &mut Rng) -> (History, Vec<Course>) {
+    loop {
+        let mut history = histories::moved_history(rng, &known);
+        history.rules &= !steps::STRICT;
+        if let Some(courses) = history.courses(&known) {
+            return (history, courses);
+        }
+    }
+}
+
+/// A move before the first step is a start with own bodies, so that one check judges all that the model says behind it.
+#[test]
+fn a_move_at_the_start_is_a_start_with_own_bodies() {
+    let mut rng = Rng::new(113);
+    let (mut reports, mut stopped) = (0, 0);
+    for _ in 0..600 {
+        let mut history = moved(&mut rng).0;
+        history.calls.retain(|call| *call != Call::Move);
+        let own = History { rules: history.rules | steps::OWN_BODIES, ..history.clone() };
+        history.calls.insert(0, Call::Move);
+        let (moved, wanted) = (history.courses(&known), own.courses(&known));
+        let (Some(moved), Some(wanted)) = (moved, wanted) else { continue };
+        assert_eq!(moved[2..], wanted[1..], "{}", history.line());
+        reports += Stored::of(own, &wanted).reports();
+        stopped += usize::from(wanted.iter().any(|course| course.state.stopped == 1));
+    }
+    assert!(reports > 200 && stopped > 30, "{reports} {stopped}");
+}
+
+/// A move changes the rule and nothing else, and a second one nothing at all.
+#[test]
+fn a_move_changes_the_rule_alone() {
+    let mut rng = Rng::new(1);
+    for _ in 0..100 {
+        let (history, courses) = moved(&mut rng);
+        let mut has_moved = false;
+        for (at, call) in history.calls.iter().enumerate().filter(|(_, call)| **call == Call::Move) {
+            let (before, after) = (&courses[at], &courses[at + 1]);
+            let state = Steps { rules: history.rules | steps::OWN_BODIES, ..before.state.clone() };
+            assert_eq!(*after, Course { answer: Answer::done(0), state, ..before.clone() }, "{call:?}");
+            assert!(!has_moved || after.state == before.state);
+            has_moved = true;
+        }
+    }
+}
+
+/// Messages with their starts.
+type Pairs = BTreeSet<(Vec<u8>, Vec<u8>)>;
+
+fn pairs(count: usize, buffer: &[u8]) -> Pairs {
+    let reports = answers::reports(count, buffer);
+    reports.iter().map(|report| (report[..4].to_vec(), report[10..].to_vec())).collect()
+}
+
+/// What the Rust says, amply, of a check by rules over some positions of a list: its pairs and its visits.
+fn of_positions(history: &History, rules: u8, listed: &Listed, positions: &[usize]) -> Option<(Pairs, usize)> {
+    let [schema, condition, _] = history.records.clone();
+    let records = vec![schema, condition, listed.of_positions(positions)];
+    match known(rules, Case { operation: Operation::Check, records, size: 1 << 16 })? {
+        Outcome::Answered(answer, buffer) if answer.number != 11 => Some((pairs(answer.count, &buffer), answer.visits)),
+        _ => None,
+    }
+}
+
+/// At each split, with space for all, the pairs are those of a check of the targets done before the first move, by the rules
+/// of the start, and those of a check with own bodies of the targets done since, each once; the visits are those of one check
+/// of all of them.
+#[test]
+fn the_pairs_of_a_split_are_those_of_both_parts() {
+    let mut rng = Rng::new(113);
+    let (mut compared, mut of_first, mut of_second, mut of_both) = (0, 0, 0, 0);
+    while compared < 400 {
+        let ample = History { size: 1 << 16, ..moved(&mut rng).0 };
+        let Some(courses) = ample.courses(&known) else { continue };
+        let last = courses.last().expect("a start");
+        let Ok(listed) = Listed::of(last.targets()) else { continue };
+        let split = ample.calls.iter().position(|call| *call == Call::Move).expect("a move");
+        let done = |course: &Course| -> Vec<usize> {
+            (0..listed.targets.len()).filter(|position| course.state.marks[*position] == steps::DONE).collect()
+        };
+        let (before, all) = (done(&courses[split]), done(last));
+        let since: Vec<usize> = all.iter().filter(|position| !before.contains(position)).copied().collect();
+        let own = ample.rules | steps::OWN_BODIES;
+        let first = of_positions(&ample, ample.rules, &listed, &before);
+        let (Some(first), Some(second)) = (first, of_positions(&ample, own, &listed, &since)) else { continue };
+        let Some(at_once) = of_positions(&ample, ample.rules, &listed, &all) else { continue };
+
+        let stored = Stored::of(ample.clone(), &courses);
+        let found = pairs(stored.reports(), &last.buffer);
+        assert_eq!(found, first.0.union(&second.0).cloned().collect(), "{}", ample.line());
+        assert_eq!(found.len(), stored.reports(), "{}", ample.line());
+        assert_eq!((last.state.visits as usize, first.1 + second.1), (at_once.1, at_once.1), "{}", ample.line());
+        compared += 1;
+        of_first += first.0.difference(&second.0).count();
+        of_second += second.0.difference(&first.0).count();
+        of_both += first.0.intersection(&second.0).count();
+    }
+    assert!(of_first > 100 && of_second > 100 && of_both > 100, "{of_first} {of_second} {of_both}");
 }
 
 /// What is said of states that no call left, at the smallest of them.

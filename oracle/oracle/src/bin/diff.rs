@@ -12,8 +12,10 @@
 //!
 //! For every tenth case a history of a stepping check is made, and each of its answers, with state, list and buffer, is held
 //! to one check over the targets that are done (`oracle::steps`): to the Rust's, and by strict rules, which it has not, to the
-//! library's own. Then its state, buffer and list are changed into such as no call leaves, and the next step, append and
-//! withdrawal are held to a model of the definition; they are made twice, and may write only where they should.
+//! library's own. Then its state, buffer and list are changed into such as no call leaves, and the next step, append,
+//! withdrawal and move are held to a model of the definition; they are made twice, and may write only where they should.
+//! For every third of these histories there is one more in which the rule is moved to own bodies on the way; the steps
+//! behind the move are held to the model, of which the Rust judges the check of each target.
 //!
 //! A case with the types `datetime` and `duration` is marked, and not held to what the Rust says of it: `oracle::times` has
 //! what is known of its outcome, the whole of it where other types can stand for the two, and else a part.
@@ -25,7 +27,7 @@ use oracle::answers::Answer;
 use oracle::cases::{Case, Draft, Operation, Outcome, FILL};
 use oracle::coverage::Coverage;
 use oracle::generate::histories;
-use oracle::steps::{self, Course, History, Steps};
+use oracle::steps::{self, Checked, Course, History, Steps};
 use oracle::{decimals, generate, hex, lists, own, rng::Rng, shrink, times, workloads};
 use std::collections::BTreeSet;
 use std::time::{SystemTime, UNIX_EPOCH};
@@ -53,7 +55,9 @@ fn main() {
     let stored = compare_stored(&operations);
     let mut coverage = compare_fresh(&operations, count, seed);
     if wanted.is_none() {
-        compare_histories(count.div_ceil(10), seed, &mut coverage);
+        let histories = count.div_ceil(10);
+        compare_histories(histories, seed ^ 108, histories::history, &mut coverage);
+        compare_histories(histories.div_ceil(3), seed ^ 113, histories::moved_history, &mut coverage);
         compare_decimals(count, seed);
     }
     println!("oracle: {stored} stored and {count} fresh cases agree\n\nThe fresh cases covered:");
@@ -273,6 +277,7 @@ fn has_steps() -> bool {
         && library::steps_step_with([&[]; 3], begun(), &mut [], &mut []).is_some()
         && library::steps_append(&mut [], 0, &[]).is_some()
         && library::steps_withdraw(&[], begun(), 0).is_some()
+        && library::steps_move(begun()).is_some()
 }
 
 /// What a check answers by rules: what the oracle knows, and where it knows nothing what the library says.
@@ -280,10 +285,11 @@ fn checked(rules: u8, case: Case) -> Option<Outcome> {
     steps::known(rules, case.clone()).or_else(|| library::ruled(rules, &case))
 }
 
-fn compare_histories(count: usize, seed: u64, coverage: &mut Coverage) {
-    let mut rng = Rng::new(seed ^ 108);
+fn compare_histories(count: usize, seed: u64, make: fn(&mut Rng, Checked) -> History, coverage: &mut Coverage) {
+    let (mut rng, mut moved) = (Rng::new(seed), 0);
     for i in 0..count {
-        let history = histories::history(&mut rng, &checked);
+        let history = make(&mut rng, &checked);
+        moved += usize::from(history.moves());
         if history_differs(&history) {
             println!("history {i} differs; with as few calls as do:");
             show_history(&shorter(history));
@@ -301,7 +307,9 @@ fn compare_histories(count: usize, seed: u64, coverage: &mut Coverage) {
             }
         }
     }
-    println!("oracle: {count} histories of a stepping check agree, and as many states that no call left");
+    println!(
+        "oracle: {count} histories of a stepping check agree, {moved} of them with a move, and as many states that no call left"
+    );
 }
 
 /// Whether the library answers otherwise at some call, or leaves another state, list or buffer, with workspace and without.
@@ -369,8 +377,8 @@ fn lent<T>(bytes: &[u8], call: impl FnOnce(&mut [u8]) -> Option<T>) -> Result<(T
     Ok((given, inside.to_vec()))
 }
 
-/// Looks whether a step, an append and a withdrawal from any state are as the model has them, each time that they are made;
-/// the number of the step.
+/// Looks whether a step, an append, a withdrawal and a move from any state are as the model has them, each time that they are
+/// made; the number of the step.
 fn state_differs(rng: &mut Rng, history: &History, course: &Course) -> Result<u8, &'static str> {
     let targets = course.targets().to_vec();
     let records = history.records_with(&targets);
@@ -393,6 +401,11 @@ fn state_differs(rng: &mut Rng, history: &History, course: &Course) -> Result<u8
         if library::steps_withdraw(&targets, course.state.clone(), position) != Some((wanted, state)) {
             return Err("a withdrawal");
         }
+    }
+    let mut state = course.state.clone();
+    steps::move_to_own_bodies(&mut state);
+    if library::steps_move(course.state.clone()) != Some(state) {
+        return Err("a move");
     }
     Ok(answer.number)
 }

@@ -6,7 +6,7 @@ use crate::steps::{Call, History, OWN_BODIES};
 pub struct Stepped {
     pub shows: &'static str,
     pub history: History,
-    /// Number, record and count, and in some lines the visits, of the start and of each call.
+    /// Number, record and count, and in some lines the visits, of the start and of each call; none of a move.
     pub answers: Vec<Vec<usize>>,
 }
 
@@ -16,7 +16,7 @@ const ONE_TARGET: &str = "44 57 54 00 01 00 00 01 00 01 76";
 
 /// A line: `own` where binders have their own bodies, `steps`, then `S`, `C` and `T` with schema, condition and targets, `L`
 /// and `B` with the lengths of the list's and of the reports' buffer, after each `|` a call, `=>`, the answers of the start and
-/// of each call, after `;` what it shows. A schema that is not given has no entries, the condition is `true < 1`, and the list
+/// of each call (`ok` of a move, which answers nothing), after `;` what it shows. A schema that is not given has no entries, the condition is `true < 1`, and the list
 /// has the target `v`; the list's buffer has 32,768 bytes, and that of the reports 4,096.
 const TABLE: &str = "
 steps C 58 58 58 | step => 3 2 0 | 3 2 0 ; a refused record refuses each step
@@ -58,6 +58,15 @@ steps C 44 57 43 00 01 01 [00]*8 08 [00]*8 01 05 02 08 [00 00 00 01]*2 01 05 02 
 steps C 44 57 43 00 01 01 [00]*8 08 [00]*8 01 05 02 08 [00 00 00 01]*2 01 05 02 T 44 57 54 00 01 00 00 02 00 01 76 00 01 77 | step | step => 0 0 0 0 | 0 0 2 3 | 0 0 2 6 ; a repeat is no report, and has its visits
 steps C 44 57 43 00 01 01 [00]*8 09 [00]*8 00 01 76 01 06 53 74 72 69 6E 67 0B [00]*8 08 [00]*8 04 08 01 76 02 T 44 57 54 00 01 00 00 02 00 01 76 00 01 77 | step | step => 0 0 0 0 | 0 0 1 4 | 0 0 1 8 ; in one scope
 own steps C 44 57 43 00 01 01 [00]*8 09 [00]*8 00 01 76 01 06 53 74 72 69 6E 67 0B [00]*8 08 [00]*8 04 08 01 76 02 T 44 57 54 00 01 00 00 02 00 01 76 00 01 77 | step | step => 0 0 0 0 | 0 0 0 4 | 0 0 0 8 ; the rule of the start holds for every step
+steps C 44 57 43 00 01 01 [00]*8 09 [00]*8 00 01 76 01 06 53 74 72 69 6E 67 0B [00]*8 08 [00]*8 04 08 01 76 02 | move | step => 0 0 0 | ok | 0 0 0 ; a move before the first step gives the check with own bodies
+steps C 44 57 43 00 01 01 [00]*8 09 [00]*8 00 01 76 01 06 53 74 72 69 6E 67 0B [00]*8 08 [00]*8 04 08 01 76 02 | step | move | step => 0 0 0 | 0 0 1 | ok | 0 0 1 ; what is done keeps its reports
+steps B 84 | step | move | step => 0 0 0 | 11 0 0 | ok | 11 0 0 ; after 11 a move starts nothing anew
+steps T 44 57 54 00 01 00 00 02 00 01 76 00 01 77 C 44 57 43 00 01 01 [00]*8 09 [00]*8 00 01 76 01 06 53 74 72 69 6E 67 0B [00]*8 08 [00]*8 04 08 01 76 02 | move | step | move | step => 0 0 0 | ok | 0 0 0 | ok | 0 0 0 ; a second move changes nothing
+own steps C 44 57 43 00 01 01 [00]*8 09 [00]*8 00 01 76 01 06 53 74 72 69 6E 67 0B [00]*8 08 [00]*8 04 08 01 76 02 | move | step => 0 0 0 | ok | 0 0 0 ; nor does one in a check that was started with own bodies
+steps T 44 57 54 00 01 00 00 02 00 01 76 00 01 77 | step | move | step => 0 0 0 | 0 0 1 | ok | 0 0 1 ; a repeat is dropped, whichever rule reported it first
+steps T 44 57 54 00 01 00 00 02 00 01 76 00 01 77 C 44 57 43 00 01 01 [00]*8 09 [00]*8 00 01 76 01 06 53 74 72 69 6E 67 0B [00]*8 08 [00]*8 04 08 01 76 02 | step | move | step => 0 0 0 0 | 0 0 1 4 | ok | 0 0 1 8 ; visits do not depend on the rule
+steps C 44 57 43 00 01 01 [00]*8 09 [00]*8 00 01 76 01 06 53 74 72 69 6E 67 0B [00]*8 08 [00]*8 04 08 01 76 02 | move | withdraw 0 | append 00 01 77 | move | step => 0 0 0 | ok | 0 0 0 | 0 0 14 | ok | 0 0 0 ; between any two calls
+steps C 44 57 43 00 01 01 [00]*8 09 [00]*8 00 01 76 01 06 53 74 72 69 6E 67 0B [00]*8 08 [00]*8 04 08 01 76 02 S 58 58 58 | move | step => 3 1 0 | ok | 3 1 0 ; a move reads no record
 ";
 
 pub fn all() -> Vec<Stepped> {
@@ -68,7 +77,7 @@ fn example(line: &'static str) -> Stepped {
     let (given, rest) = line.split_once(" => ").expect("a line has =>");
     let (answers, shows) = rest.split_once(" ; ").expect("a line says what it shows");
     let number = |word: &str| word.parse().expect("a number");
-    let numbers = |answer: &str| answer.split_whitespace().map(number).collect();
+    let numbers = |answer: &str| answer.split_whitespace().filter(|word| *word != "ok").map(number).collect();
     let mut parts = given.split(" | ");
     let start = parts.next().expect("a line begins with the start");
     let part = |letter: &str, otherwise: &str| part_of(start, letter).unwrap_or(otherwise.to_string());
@@ -97,6 +106,7 @@ fn call(words: &str) -> Call {
         ("step", _) => Call::Step,
         ("append", target) => Call::Append(decoded(target)),
         ("withdraw", position) => Call::Withdraw(position.parse().expect("a position")),
+        ("move", _) => Call::Move,
         _ => panic!("no call: {words}"),
     }
 }

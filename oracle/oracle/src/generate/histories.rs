@@ -5,14 +5,35 @@ use crate::cases::FILL;
 use crate::pieces::{byte, target, targets, Piece};
 use crate::records::LONGEST;
 use crate::rng::Rng;
-use crate::steps::{Call, Checked, Course, History};
+use crate::steps::{Call, Checked, Course, History, OWN_BODIES};
 
-/// A fresh history: a world's records, of which one is damaged every tenth time; a few calls, of which most are steps, the
-/// others append targets, some of them damaged, or withdraw positions, some of which are not there; buffers that are long
-/// enough or not.
+/// A fresh history without a move: a world's records, of which one is damaged every tenth time; a few calls, of which most
+/// are steps, the others append targets, some of them damaged, or withdraw positions, some of which are not there; buffers
+/// that are long enough or not.
 pub fn history(rng: &mut Rng, checked: Checked) -> History {
+    let makes = [conditions::condition_record, conditions::condition_record, conditions::again_record];
+    history_of(rng, checked, makes, calls)
+}
+
+/// The same with a move or two among the calls, mostly of a check that begins in one scope, and of a condition whose names
+/// are declared again and again.
+pub fn moved_history(rng: &mut Rng, checked: Checked) -> History {
+    let mut history = history_of(rng, checked, [conditions::again_record; 3], calls_with_moves);
+    if rng.chance(7, 8) {
+        history.rules &= !OWN_BODIES;
+        history.size = 1 << 16;
+        history.size = size(rng, &history, checked);
+    }
+    history
+}
+
+/// How a condition is made for a world, and how the calls are, for a world and a list of so many targets.
+type Make = fn(&mut Rng, &World) -> Piece;
+type MakeCalls = fn(&mut Rng, &World, usize) -> Vec<Call>;
+
+fn history_of(rng: &mut Rng, checked: Checked, makes: [Make; 3], calls: MakeCalls) -> History {
     let (world, version) = (World::random(rng), rng.one(&[1, 2, 3]));
-    let make = rng.one(&[conditions::condition_record, conditions::condition_record, conditions::again_record]);
+    let make = rng.one(&makes);
     let condition = make(rng, &world);
     let (list, listed) = list(rng, &world);
     let pieces = [world.schema(), in_version(rng, condition, version), list];
@@ -21,12 +42,31 @@ pub fn history(rng: &mut Rng, checked: Checked) -> History {
         let which = rng.below(3);
         records[which] = damage::damaged(rng, &pieces[which]);
     }
-    let calls: Vec<Call> = (0..2 + rng.below(10)).map(|_| call(rng, &world, listed)).collect();
+    let calls = calls(rng, &world, listed);
     let rules = rng.one(&[0, 1, 2, 3]) | rng.one(&[0, 0, 0, 0xFC]);
     let space = list_space(rng, &records[2], &calls);
     let mut history = History { rules, records, space, size: 1 << 16, calls };
     history.size = size(rng, &history, checked);
     history
+}
+
+fn calls(rng: &mut Rng, world: &World, listed: usize) -> Vec<Call> {
+    (0..2 + rng.below(10)).map(|_| call(rng, world, listed)).collect()
+}
+
+/// A move anywhere among them, mostly with a target that is done before it and others that are done behind it; and every
+/// other time a second one.
+fn calls_with_moves(rng: &mut Rng, world: &World, listed: usize) -> Vec<Call> {
+    let mut all = calls(rng, world, listed);
+    let at = rng.below(all.len() + 1);
+    let mut append = || Call::Append(world.target(rng).bytes());
+    let around = vec![append(), Call::Step, Call::Move, append(), append(), Call::Step, Call::Step];
+    let moved = if rng.chance(3, 4) { around } else { vec![Call::Move] };
+    all.splice(at..at, moved);
+    if rng.chance(1, 2) {
+        all.insert(rng.below(all.len() + 1), Call::Move);
+    }
+    all
 }
 
 /// A few targets, or so many that the list is soon full; and how many.
