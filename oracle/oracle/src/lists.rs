@@ -9,7 +9,7 @@ use crate::examples::{
 use crate::generate::{self, boundaries, compared, histories};
 use crate::pieces::{self, Piece};
 use crate::rng::Rng;
-use crate::steps::{self, History, Stored};
+use crate::steps::{self, Call, Checked, History, Stored};
 use crate::times;
 
 /// The seed of the stored lists.
@@ -80,11 +80,13 @@ pub fn all() -> Vec<List> {
             file: "steps.cases",
             form: "h (schema, condition, history): a stepping check, by rules without the strict one. The history is: the \
                    rules (a byte), the space of the list (two bytes), the list at the start and at the end, then the calls. A \
-                   call begins as a case does: a letter (b start, s step, a append, w withdraw), NUMBER, RECORD, COUNT, a SIZE \
-                   of 0 and VISITS; behind them stands an argument (a target, or a position). Lists and arguments have their \
-                   lengths before them, in two bytes. SIZE and OUTPUT of the case are of the reports' buffer, and its numbers \
-                   those of the last call; the list's buffer is filled with A5 behind the list. The Rust has no such check: \
-                   after each step it was asked for one check over the targets that are done.",
+                   call begins as a case does: a letter (b start, s step, a append, w withdraw, m move to own bodies), NUMBER, \
+                   RECORD, COUNT, a SIZE of 0 and VISITS, which are zeros of a move; behind them stands an argument (a target, \
+                   or a position). Lists and arguments have their lengths before them, in two bytes. SIZE and OUTPUT of the \
+                   case are of the reports' buffer, and its numbers those of the last call; the list's buffer is filled with A5 \
+                   behind the list. The Rust has no such check: after each step it was asked for one check over the targets \
+                   that are done, and after a step behind a move for the check of its target, whose new reports were put behind \
+                   the others.",
             cases: stepped(),
         },
         List {
@@ -339,10 +341,34 @@ fn bound() -> Vec<Case> {
     once(cases)
 }
 
-/// The examples of the stepping check, but for those of lists so long that a case does not hold them, and random histories.
-/// Of those in which no step has a report every fourth is kept.
+/// Histories of the stepping check: those without a move, and behind them those with one.
 fn stepped() -> Vec<Case> {
-    const FRESH: usize = 300;
+    let (moved, others): (Vec<History>, Vec<History>) =
+        stepped_examples::all().into_iter().map(|e| e.history).partition(History::moves);
+    let has_reports = |stored: &Stored| stored.reports() > 0;
+    let mut cases = stored_histories(others, 300, b'h', histories::history, has_reports, 4);
+    cases.extend(stored_histories(moved, 100, b'm', histories::moved_history, shows_its_move, 40));
+    once(cases)
+}
+
+/// Whether the reports would be others without the moves.
+fn shows_its_move(stored: &Stored) -> bool {
+    let mut without = stored.history.clone();
+    without.calls.retain(|call| *call != Call::Move);
+    let buffer = |history: &History| Some(history.courses(&steps::known)?.last()?.buffer.clone());
+    buffer(&stored.history) != buffer(&without)
+}
+
+/// So many histories: the examples, but for those of lists so long that a case does not hold them, and random ones that show
+/// something. Of the others one in `rarely` is kept.
+fn stored_histories(
+    examples: Vec<History>,
+    count: usize,
+    letter: u8,
+    make: fn(&mut Rng, Checked) -> History,
+    shows: fn(&Stored) -> bool,
+    rarely: usize,
+) -> Vec<Case> {
     const LONGEST_STORED: usize = 8_192;
     let stored = |history: History| {
         let courses = history.courses(&steps::known)?;
@@ -350,23 +376,20 @@ fn stepped() -> Vec<Case> {
     };
     let is_short = |history: &History| history.space <= LONGEST_STORED && history.size <= LONGEST_STORED;
     let mut cases = Vec::new();
-    for e in stepped_examples::all() {
-        let space = e.history.space.min(LONGEST_STORED);
-        if e.history.records[2].len() < LONGEST_STORED {
-            cases.extend(stored(History { space, ..e.history }));
-        }
+    for history in examples.into_iter().filter(|history| history.records[2].len() < LONGEST_STORED) {
+        let space = history.space.min(LONGEST_STORED);
+        cases.extend(stored(History { space, ..history }));
     }
-    let mut rng = Rng::new(SEED ^ u64::from(b'h'));
-    while cases.len() < FRESH {
-        let mut history = histories::history(&mut rng, &steps::known);
+    let mut rng = Rng::new(SEED ^ u64::from(letter));
+    while cases.len() < count {
+        let mut history = make(&mut rng, &steps::known);
         history.rules &= !steps::STRICT;
         let Some(case) = is_short(&history).then(|| stored(history)).flatten() else { continue };
-        let shows_little = Stored::read(&case).is_none_or(|stored| stored.reports() == 0);
-        if !shows_little || rng.chance(1, 4) {
+        if Stored::read(&case).is_some_and(|stored| shows(&stored)) || rng.chance(1, rarely) {
             cases.push(case);
         }
     }
-    once(cases)
+    cases
 }
 
 fn terms() -> Vec<Case> {
