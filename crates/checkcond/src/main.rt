@@ -1,10 +1,12 @@
 // Checks a condition under a target record, and prints the reports. It reads schema.dws, cond.dwc and targets.dwt, or the files
 // that its three arguments name; with any other number of arguments it reads nothing. Of the options before them `--strict` has
 // the strict check made, `--own-bodies` gives each binder its own body, and `--visits` adds a line with the number of visits.
+#![tactic(auto)]
+
 use program::Loaded;
 
 // What the options say, and how many they are.
-#[derive(Drop)]
+#[derive(Clone, Copy)]
 struct Options {
     strict: bool,
     own: bool,

@@ -6,3 +6,5 @@
 //
 // So are those of the stepping check: a `History` (specs/Steps.antt) is a start and any calls since, each of which carries the equation that its
 // function's contract has, with what it was handed and what it left.
+
+#![tactic(auto)]

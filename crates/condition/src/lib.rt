@@ -2,6 +2,8 @@
 //
 // A position of accepted bytes denotes a condition, a term, a binder, .. (`specs/Places`). `specs/Walk` says what the walk of a condition reaches and which
 // binders it passes. The crate `nodes` takes a node apart, the crate `walk` goes through a record.
+#![tactic(auto)]
+
 mod choice;
 mod read;
 mod values;

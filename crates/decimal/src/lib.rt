@@ -1,4 +1,6 @@
 // Decimals: text read into a number of ten-thousandths, and such a number written back.
+#![tactic(auto)]
+
 mod field;
 mod text;
 mod write;
@@ -8,7 +10,7 @@ pub use text::value_of;
 pub use write::write_decimal;
 
 // What a text is: a number of ten-thousandths; not a decimal; a decimal beyond 64 bits.
-#[derive(Drop)]
+#[derive(Clone, Copy)]
 pub enum Decimal {
     Value(i64),
     Malformed,

@@ -1,4 +1,6 @@
 // The exported functions of the static library.
+#![tactic(auto)]
+
 ghost use Rattle.std.specs.Prelude.{◌≡◌, []};
 ghost use Rattle.names.specs.Fields.{whole};
 ghost use Rattle.names.specs.Read.{refusal_number};

@@ -1,5 +1,7 @@
 // Looks a path under a scope up for one target, and prints how it resolves. It reads schema.dws, targets.dwt and path.dwp, or
 // the files that its three arguments name; with any other number of arguments it reads nothing.
+#![tactic(auto)]
+
 ghost use Rattle.std.specs.Prelude.{◌≡◌, length};
 
 use program::{Loaded, print};

@@ -1,4 +1,6 @@
 // The lookup of a scope path for one target of a list.
+#![tactic(auto)]
+
 mod ambiguous;
 mod entry;
 mod missing;
@@ -10,7 +12,7 @@ use names::Row;
 use targets::Narrowed;
 
 // A path under a scope: the narrowing, the entity types that the action names there, in the schema, and the segments, in the path record.
-#[derive(Drop)]
+#[derive(Clone, Copy)]
 pub struct Question {
     pub narrowing: Narrowed,
     pub types: Row,
@@ -18,7 +20,7 @@ pub struct Question {
 }
 
 // How many strings an output has, and how many bytes they take with their lengths.
-#[derive(Drop)]
+#[derive(Clone, Copy)]
 pub struct Measured {
     pub count: usize,
     pub size: usize,

@@ -5,6 +5,8 @@
 // | joined | the segments of an annotation, joined: `put_joined`, `joined_size` |
 // | words | one word: `put_word`, `word_size` |
 // | whole | the whole message: `put_message`, `message_size` |
+#![tactic(auto)]
+
 mod joined;
 mod whole;
 mod words;
@@ -15,7 +17,7 @@ pub use whole::{message_size, put_message, say};
 
 // A word that a message quotes: nothing; the string that stands at a place of the condition; a type, displayed; the segments of the annotation that stands at a place
 // of the condition, joined.
-#[derive(Drop)]
+#[derive(Clone, Copy)]
 pub enum Word {
     Nothing,
     Name(usize),
@@ -24,7 +26,7 @@ pub enum Word {
 }
 
 // A message: which one, and its words, of which it quotes as many as there are gaps between its texts.
-#[derive(Drop)]
+#[derive(Clone, Copy)]
 pub struct Sentence {
     pub which: Message,
     pub first: Word,
@@ -34,7 +36,7 @@ pub struct Sentence {
 }
 
 // What is said of something: nothing, or a message.
-#[derive(Drop)]
+#[derive(Clone, Copy)]
 pub enum Said {
     Nothing,
     Message(Sentence),

@@ -1,4 +1,6 @@
 // Names: the fields of a record, the classes of strings, the simple name, equality and order.
+#![tactic(auto)]
+
 mod bytewise;
 mod classes;
 mod fields;
@@ -16,14 +18,14 @@ pub use simple::{simple_name, simple_start};
 pub use writer::{put, put_u16, put_u32, put_u64};
 
 // Where the next byte stands, or the number of the refusal.
-#[derive(Drop)]
+#[derive(Clone, Copy)]
 pub enum Read {
     Next(usize),
     Refused(u8),
 }
 
 // What a string may be.
-#[derive(Drop)]
+#[derive(Clone, Copy)]
 pub enum Class {
     PathName,
     Plain,
@@ -32,7 +34,7 @@ pub enum Class {
 }
 
 // Where a byte of a path name stands: at the start of an identifier, inside one, between two colons; in no path name.
-#[derive(Drop)]
+#[derive(Clone, Copy)]
 pub enum Place {
     Start,
     Inside,
@@ -41,7 +43,7 @@ pub enum Place {
 }
 
 // How two strings stand to each other, bytewise.
-#[derive(Drop)]
+#[derive(Clone, Copy)]
 pub enum Order {
     Less,
     Same,
@@ -49,21 +51,21 @@ pub enum Order {
 }
 
 // The name before, by the position of its length byte.
-#[derive(Drop)]
+#[derive(Clone, Copy)]
 pub enum Before {
     Nothing,
     At(usize),
 }
 
 // What a lookup gives: the position of what was found.
-#[derive(Drop)]
+#[derive(Clone, Copy)]
 pub enum Found {
     At(usize),
     Absent,
 }
 
 // So many things, one after another from a position.
-#[derive(Drop)]
+#[derive(Clone, Copy)]
 pub struct Row {
     pub count: usize,
     pub at: usize,

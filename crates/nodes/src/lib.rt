@@ -11,6 +11,8 @@
 // | windows | `window_at`: the window of a Formerly, a Previous, a Since; and how many bytes it takes |
 // | aggregates | `next_aggregate(s, count, first)`: `NextIs` of `aggregates_in s count first` |
 // | leaves | `next_leaf(s, count, first)`: `NextLeafIs` of `leaves_in s count first` |
+#![tactic(auto)]
+
 mod aggregates;
 mod leaves;
 mod offsets;
@@ -32,14 +34,14 @@ pub use windows::window_at;
 pub const ROOT: usize = 5;
 
 // The ends of a span.
-#[derive(Drop)]
+#[derive(Clone, Copy)]
 pub struct Ends {
     pub start: u32,
     pub end: u32,
 }
 
 // A comparison: its operator's number, and where its operands stand.
-#[derive(Drop)]
+#[derive(Clone, Copy)]
 pub struct ComparisonAt {
     pub operator: u8,
     pub left: usize,
@@ -47,14 +49,14 @@ pub struct ComparisonAt {
 }
 
 // Where the operands of an arithmetic stand.
-#[derive(Drop)]
+#[derive(Clone, Copy)]
 pub struct Operands {
     pub left: usize,
     pub right: usize,
 }
 
 // A predicate: how many path names its namespace has and where the first stands, where its action stands, how many arguments it has and where the first stands.
-#[derive(Drop)]
+#[derive(Clone, Copy)]
 pub struct PredicateAt {
     pub names: usize,
     pub namespace: usize,
@@ -64,7 +66,7 @@ pub struct PredicateAt {
 }
 
 // An argument, whose name stands at its own place: where its field path and its term stand, and the place behind it.
-#[derive(Drop)]
+#[derive(Clone, Copy)]
 pub struct ArgumentAt {
     pub field: usize,
     pub term: usize,
@@ -72,14 +74,14 @@ pub struct ArgumentAt {
 }
 
 // So many things, one after another from a place on.
-#[derive(Drop)]
+#[derive(Clone, Copy)]
 pub struct Several {
     pub count: usize,
     pub first: usize,
 }
 
 // A slot: the place of its name, or a macro's parameter or binder.
-#[derive(Drop)]
+#[derive(Clone, Copy)]
 pub enum SlotAt {
     Named(usize),
     ParamRef,
@@ -87,7 +89,7 @@ pub enum SlotAt {
 }
 
 // The window of a condition: none is said, or a macro's parameter, or so many seconds.
-#[derive(Drop)]
+#[derive(Clone, Copy)]
 pub enum WindowAt {
     Unsaid,
     Parameter,
@@ -95,7 +97,7 @@ pub enum WindowAt {
 }
 
 // The annotation of the last binder of a name: where its segments stand, a timepoint, or there is no such binder.
-#[derive(Drop)]
+#[derive(Clone, Copy)]
 pub enum Bound {
     Segments(usize),
     Timepoint,
@@ -103,14 +105,14 @@ pub enum Bound {
 }
 
 // The next aggregate of some terms in a row: where it stands, and the terms that the others are in; or there is none.
-#[derive(Drop)]
+#[derive(Clone, Copy)]
 pub enum NextAggregate {
     At(usize, Several),
     Done,
 }
 
 // The next leaf of some terms in a row: where it stands, and the terms that the others are in; or there is none.
-#[derive(Drop)]
+#[derive(Clone, Copy)]
 pub enum NextLeaf {
     At(usize, Several),
     Done,

@@ -1,11 +1,13 @@
 // The type of an operand of the comparison that a condition is, under one target of a list.
+#![tactic(auto)]
+
 mod run;
 mod text;
 
 pub use run::operand_type;
 
 // An operand of a comparison.
-#[derive(Drop)]
+#[derive(Clone, Copy)]
 pub enum Operand {
     Left,
     Right,
@@ -13,7 +15,7 @@ pub enum Operand {
 
 // What is answered of an operand: its type is written, in so many bytes; it has no type; the condition is no comparison; or the number of the
 // refusal and of the record.
-#[derive(Drop)]
+#[derive(Clone, Copy)]
 pub enum Answer {
     Written(usize),
     Untyped,

@@ -1,4 +1,6 @@
 // What the programs share: a record read from a file into a lent buffer, words, numbers and reports printed.
+#![tactic(auto)]
+
 mod printed;
 
 ghost use Rattle.std.specs.Prelude.{◌≡◌, length};
@@ -8,7 +10,7 @@ use libc::{STDERR_FILENO, STDOUT_FILENO};
 pub use printed::{print_run, report_space};
 
 // How many bytes of a file were put at the front of a buffer, or that it could not be read.
-#[derive(Drop)]
+#[derive(Clone, Copy)]
 pub enum Loaded {
     Bytes(usize),
     Unread,

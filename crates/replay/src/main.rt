@@ -4,6 +4,8 @@
 //
 // The lists stand in data/; their headings say how they were made and how a case is to be read. A case is never copied: its
 // records are parts of the list. Nothing is asked of a list: what no list has makes a case differ.
+#![tactic(auto)]
+
 ghost use Rattle.std.specs.Prelude.{◌≡◌, length};
 
 use dogwood::{Answer, CheckAnswer, Stepped, Steps};
@@ -11,7 +13,7 @@ use operands::Operand;
 use program::{Loaded, print, print_between, print_number};
 
 // How many cases, how many of them differ, which is the first that does.
-#[derive(Drop)]
+#[derive(Clone, Copy)]
 struct Tally {
     cases: usize,
     differ: usize,
@@ -19,7 +21,7 @@ struct Tally {
 }
 
 // Where the fields of a case stand, and the next case.
-#[derive(Drop)]
+#[derive(Clone, Copy)]
 struct Case {
     output: usize,
     first: usize,
@@ -29,7 +31,7 @@ struct Case {
 }
 
 // What a history has come to: the last answer, the state, how long the list is, and whether each answer was as it should be.
-#[derive(Drop)]
+#[derive(Clone, Copy)]
 struct Course {
     answer: CheckAnswer,
     state: Steps,

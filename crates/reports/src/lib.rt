@@ -1,4 +1,6 @@
 // Reports in a lent buffer: each a message with its start and end, as many whole ones as fit.
+#![tactic(auto)]
+
 mod buffer;
 mod earlier;
 mod pieces;
@@ -15,7 +17,7 @@ pub use standing::{refile, resume};
 pub use tabled::push_scratch;
 
 // What the buffer holds: the bytes used, the reports in them, and whether one did not fit.
-#[derive(Drop)]
+#[derive(Clone, Copy)]
 pub struct State {
     pub used: usize,
     pub count: usize,
@@ -23,7 +25,7 @@ pub struct State {
 }
 
 // What stands before a report's message: its start, its end, and the message's length.
-#[derive(Drop)]
+#[derive(Clone, Copy)]
 struct Header {
     start: u32,
     end: u32,
@@ -31,7 +33,7 @@ struct Header {
 }
 
 // A buffer that is handed back: what it holds, and how many of its bytes may be used.
-#[derive(Drop)]
+#[derive(Clone, Copy)]
 pub struct Resumed {
     pub state: State,
     pub size: usize,
@@ -39,7 +41,7 @@ pub struct Resumed {
 
 // What a run answers: the number of a refusal, 0 for none; the record that it is about, 0 for none; how many reports the buffer holds.
 #[repr(C)]
-#[derive(Drop)]
+#[derive(Clone, Copy)]
 pub struct Answer {
     pub number: u8,
     pub record: u8,
@@ -47,7 +49,7 @@ pub struct Answer {
 }
 
 // The messages, each a `format!` of the Rust.
-#[derive(Drop)]
+#[derive(Clone, Copy)]
 pub enum Message {
     WrongArgument,
     WrongTimepoint,
@@ -61,7 +63,7 @@ pub enum Message {
 }
 
 // What the search for a report in the table says: it is there, or the slot that it is put into.
-#[derive(Drop)]
+#[derive(Clone, Copy)]
 pub enum Slot {
     Seen,
     Free(usize),

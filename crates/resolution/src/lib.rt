@@ -1,4 +1,6 @@
 // Attribute paths, and what a rule's scope admits. A segment of a path, and a name, is the position of its length byte.
+#![tactic(auto)]
+
 mod all;
 mod along;
 mod entity;
@@ -18,14 +20,14 @@ pub use scope::{admits, admits_any_env, next_admitted, scope_type};
 use types::Rich;
 
 // A type, where there is one.
-#[derive(Drop)]
+#[derive(Clone, Copy)]
 pub enum Typed {
     As(Rich),
     Nothing,
 }
 
 // How a path into a record ends.
-#[derive(Drop)]
+#[derive(Clone, Copy)]
 pub enum PathResolution {
     Resolved(Rich),
     HeadMissing,
@@ -34,7 +36,7 @@ pub enum PathResolution {
 }
 
 // How a path ends on one entity type.
-#[derive(Drop)]
+#[derive(Clone, Copy)]
 pub enum PathEnd {
     Resolved(Rich),
     Missing(usize),
@@ -42,7 +44,7 @@ pub enum PathEnd {
 }
 
 // How a path ends over all the entity types that a scope admits. What it lists beside, passes give: the entity types of `Missing`, the types of `Ambiguous`.
-#[derive(Drop)]
+#[derive(Clone, Copy)]
 pub enum ScopePath {
     Resolved(Rich),
     Missing(usize),
@@ -52,14 +54,14 @@ pub enum ScopePath {
 }
 
 // What a pass over a row of names finds next: where the name stands, and the names behind it.
-#[derive(Drop)]
+#[derive(Clone, Copy)]
 pub enum Next {
     Name(usize, Row),
     Over,
 }
 
 // The same, with the row of entity types from which the next search for one begins.
-#[derive(Drop)]
+#[derive(Clone, Copy)]
 pub enum NextNear {
     Name(usize, Row, Row),
     Over,

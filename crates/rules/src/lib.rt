@@ -7,6 +7,8 @@
 // | arithmetic | the leaves of an operand that is arithmetic |
 // | predicate | the arguments of a predicate |
 // | kinds | `node(..)`: what a reached node breaks, by its kind |
+#![tactic(auto)]
+
 mod arithmetic;
 mod judge;
 mod kinds;
@@ -19,7 +21,7 @@ use nodes::Ends;
 use types::Rich;
 
 // What a judgement finds: no breach, or one, with the types and the places of the names that its message quotes.
-#[derive(Drop)]
+#[derive(Clone, Copy)]
 pub enum Finding {
     Clean,
     // inside arithmetic
@@ -35,14 +37,14 @@ pub enum Finding {
 }
 
 // What was found at a node, and the span at which it is reported.
-#[derive(Drop)]
+#[derive(Clone, Copy)]
 pub struct Judged {
     pub span: Ends,
     pub finding: Finding,
 }
 
 // A comparison: where its breaches are reported, whether its operator orders, and where its operands stand.
-#[derive(Drop)]
+#[derive(Clone, Copy)]
 pub struct Compared {
     pub span: Ends,
     pub ordering: bool,
@@ -51,14 +53,14 @@ pub struct Compared {
 }
 
 // An operand of a comparison, or a part of one: where it stands, and where its breaches are reported.
-#[derive(Drop)]
+#[derive(Clone, Copy)]
 pub struct Operand {
     pub span: Ends,
     pub at: usize,
 }
 
 // A predicate: where its breaches are reported, where the name of its action stands, where that is declared, how many arguments there are, and where the first stands.
-#[derive(Drop)]
+#[derive(Clone, Copy)]
 pub struct Applied {
     pub span: Ends,
     pub name: usize,

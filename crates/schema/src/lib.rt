@@ -1,4 +1,6 @@
 // The schema record: which bytes are one, and what is looked up in it.
+#![tactic(auto)]
+
 mod find;
 mod near;
 mod parts;
@@ -14,7 +16,7 @@ pub use read::read_schema;
 pub use rich::{kind_at, rich_type, tag_at};
 
 // The namespace of an action: all of the bytes given with it, or the names that stand in a row there, joined by `::`.
-#[derive(Drop)]
+#[derive(Clone, Copy)]
 pub enum Namespace {
     Whole,
     Parts(Row),

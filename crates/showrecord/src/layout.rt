@@ -52,7 +52,7 @@ const DEEPEST: usize = 150;
 
 // An item as it was shown: what follows it in the table, the place in the record and the depth behind it, and the rule that it
 // names, with how often.
-#[derive(Drop)]
+#[derive(Clone, Copy)]
 struct Item {
     next: usize,
     at: usize,

@@ -3,6 +3,8 @@
 //
 // A record is known by its mark. The proved readers say whether it is accepted and, by `offence`, where a refused one shows its
 // offence; an accepted one is walked by the layout, and the place that the walk comes to is held against the record's length.
+#![tactic(auto)]
+
 mod layout;
 mod refusal;
 

@@ -1,5 +1,7 @@
 // The stepping check: one target at each step, others appended or withdrawn between steps. Nothing is kept here: the caller hands the records, the state and the
 // buffer in each time, and every value of every field means something.
+#![tactic(auto)]
+
 mod list;
 mod moved;
 mod positions;
@@ -14,7 +16,7 @@ use typecheck::CheckAnswer;
 // What the records and the buffer do not say: the caller's rules; 0, or that a report did not fit; a mark for each of 256 positions, 0 pending, 1 done, 2
 // withdrawn, any other also not pending; how many bytes of the buffer are used; how many visits were begun.
 #[repr(C)]
-#[derive(Drop)]
+#[derive(Clone, Copy)]
 pub struct Steps {
     pub rules: u8,
     pub stopped: u8,
@@ -25,14 +27,14 @@ pub struct Steps {
 
 // What a call answers, and the state to hand in next.
 #[repr(C)]
-#[derive(Drop)]
+#[derive(Clone, Copy)]
 pub struct Stepped {
     pub answer: CheckAnswer,
     pub state: Steps,
 }
 
 // The first pending target: its position, and where it stands in the record.
-#[derive(Drop)]
+#[derive(Clone, Copy)]
 pub enum Pending {
     Nothing,
     At(usize, usize),

@@ -1,9 +1,11 @@
 // Looks at the sums of a condition, and prints the reports. It reads cond.dwc, or the file that its argument names; with more
 // arguments it reads nothing. The option `--own-bodies` before it gives each binder its own body.
+#![tactic(auto)]
+
 use program::Loaded;
 
 // What the option says, and how many there are: `rules` is 2 where each binder has its own body, and else 0.
-#[derive(Drop)]
+#[derive(Clone, Copy)]
 struct Options {
     rules: u8,
     count: usize,

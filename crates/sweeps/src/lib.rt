@@ -4,6 +4,8 @@
 // |---|---|
 // | entries | an entry put into the lent buffer: nothing after one that did not fit, and only what fits |
 // | run | `windows(condition, period, output)`: record 2 read, indexed once, the window of each reached condition |
+#![tactic(auto)]
+
 mod entries;
 mod run;
 

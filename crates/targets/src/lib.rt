@@ -1,4 +1,6 @@
 // The target record and the path record: which bytes are one, and what stands in them.
+#![tactic(auto)]
+
 mod list;
 mod query;
 mod read;
@@ -10,7 +12,7 @@ pub use read::{read_alone, read_path, read_targets};
 pub use scope::{narrowing_at, principal, principal_at, resource, resource_at};
 
 // What a rule's scope says of a side; a type name is the position of its length byte.
-#[derive(Drop)]
+#[derive(Clone, Copy)]
 pub enum Narrowed {
     Absent,
     Any,
@@ -19,7 +21,7 @@ pub enum Narrowed {
     Member(usize),
 }
 
-#[derive(Drop)]
+#[derive(Clone, Copy)]
 pub enum Side {
     Principal,
     Resource,

@@ -1,4 +1,6 @@
 // The facts of a target, and the types that terms have under them.
+#![tactic(auto)]
+
 mod env;
 mod literals;
 mod scope;
@@ -15,7 +17,7 @@ use types::{Profile, Rich};
 use walk::Binding;
 
 // What all targets of a check have in common: where the schema's actions stand, which is found once, and what the caller chose: the profile, and how names are bound.
-#[derive(Drop)]
+#[derive(Clone, Copy)]
 pub struct Common {
     pub actions: Row,
     pub profile: Profile,
@@ -24,7 +26,7 @@ pub struct Common {
 
 // What a condition is checked under, beside the bytes: where the target's action stands, if it is declared, what the scope says of each side, what all targets
 // have in common, and at which reached condition, by its number in walk order.
-#[derive(Drop)]
+#[derive(Clone, Copy)]
 pub struct Facts {
     pub action: Found,
     pub principal: Narrowed,
@@ -34,14 +36,14 @@ pub struct Facts {
 }
 
 // A term's type, and the place behind the term.
-#[derive(Drop)]
+#[derive(Clone, Copy)]
 pub struct Element {
     pub typed: Typed,
     pub next: usize,
 }
 
 // The elements of an array seen so far: none, all of one type, or mixed.
-#[derive(Drop)]
+#[derive(Clone, Copy)]
 pub enum Seen {
     Empty,
     Like(Rich),

@@ -1,4 +1,6 @@
 // The types that the checks compare: a number of array layers over a base. Their tests, and their texts.
+#![tactic(auto)]
+
 mod fitting;
 mod tags;
 mod texts;
@@ -9,7 +11,7 @@ pub use tags::tag_bytes;
 pub use texts::{display, render, text_length};
 pub use times::time_type;
 
-#[derive(Drop)]
+#[derive(Clone, Copy)]
 pub enum Scalar {
     Long,
     String,
@@ -23,21 +25,21 @@ pub enum Scalar {
 }
 
 // The type that a word names, where it is `datetime` or `duration`.
-#[derive(Drop)]
+#[derive(Clone, Copy)]
 pub enum TimeType {
     As(Scalar),
     Nothing,
 }
 
 // The record that holds a tag.
-#[derive(Drop)]
+#[derive(Clone, Copy)]
 pub enum Source {
     Schema,
     Condition,
 }
 
 // An entity's tag: a part of a record's bytes.
-#[derive(Drop)]
+#[derive(Clone, Copy)]
 pub struct Tag {
     pub source: Source,
     pub at: usize,
@@ -45,7 +47,7 @@ pub struct Tag {
 }
 
 // What stands under the layers. `AnyArray` and `MixedArray` are arrays themselves: of unknown elements, and of mixed ones.
-#[derive(Drop)]
+#[derive(Clone, Copy)]
 pub enum Base {
     Plain(Scalar),
     Tagged(Tag),
@@ -55,21 +57,21 @@ pub enum Base {
 }
 
 // The Rust's `RichType`.
-#[derive(Drop)]
+#[derive(Clone, Copy)]
 pub struct Rich {
     pub layers: usize,
     pub base: Base,
 }
 
 // How an equality takes two entities: plain, any two are compatible, as in the Rust; strict, two known, different tags are not.
-#[derive(Drop)]
+#[derive(Clone, Copy)]
 pub enum Profile {
     Plain,
     Strict,
 }
 
 // The tests of two types: the Rust's `==`, `accepts` and `compatible`, of which the last takes the profile.
-#[derive(Drop)]
+#[derive(Clone, Copy)]
 pub enum Test {
     Equal,
     Accepts,
@@ -77,7 +79,7 @@ pub enum Test {
 }
 
 // The texts of a type: the Rust's `display` and `render`.
-#[derive(Drop)]
+#[derive(Clone, Copy)]
 pub enum Form {
     Display,
     Render,

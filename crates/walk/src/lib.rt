@@ -9,6 +9,8 @@
 // | around | `bound_around(s, table, node, name)`: `BoundBy` of `last_named name (around_at own s node)`, holder by holder, a long list by halving; `bound_among(s, at, name)`: of `last_named name (binders_in s at)` |
 // | either | `binding_of(rules)`: what a caller chooses; `names_of(binding, s, places, table)`, `bound_by(binding, s, table, node, name)`: either of the two, by the caller's choice: `Names s (binding_in binding) (take r table)`, `BoundBy` of `last_named name (around_at (binding_in binding) s node)` |
 // | sorted | a table of places that is sorted by name: `spot`, `replace`, `insert` |
+#![tactic(auto)]
+
 mod around;
 mod either;
 mod flat;
@@ -25,7 +27,7 @@ pub use lists::bodies;
 pub use places::reached_at;
 
 // What the index of a part of a condition is: the place behind the part, and the entries that the table has.
-#[derive(Drop)]
+#[derive(Clone, Copy)]
 pub struct Indexed {
     pub next: usize,
     pub count: usize,
@@ -33,28 +35,28 @@ pub struct Indexed {
 
 // The scope of a reached condition: where what holds the innermost binders around it stands, and the row of the reached condition that this stands in. Where there
 // are none, the place is 0.
-#[derive(Drop)]
+#[derive(Clone, Copy)]
 pub struct Scope {
     pub holder: usize,
     pub node: usize,
 }
 
 // What a walk puts into the row of a reached condition: its place, or its scope.
-#[derive(Drop)]
+#[derive(Clone, Copy)]
 pub enum Row {
     Place,
     Around(Scope),
 }
 
 // How a name is bound: by the last binder of that name in the whole condition, or by the innermost one around its use.
-#[derive(Drop)]
+#[derive(Clone, Copy)]
 pub enum Binding {
     Flat,
     Own,
 }
 
 // The sorted lists of a table: where the next one starts, how many there are, and the place of the aggregate that has the last.
-#[derive(Drop)]
+#[derive(Clone, Copy)]
 pub struct Directory {
     pub free: usize,
     pub count: usize,
@@ -62,7 +64,7 @@ pub struct Directory {
 }
 
 // Where a name stands in a table of places that is sorted by name, or where it belongs.
-#[derive(Drop)]
+#[derive(Clone, Copy)]
 pub struct Spot {
     pub at: usize,
     pub found: bool,

@@ -4,12 +4,14 @@
 //
 // It prints how many windows there are, and a line for each: where its condition starts, the whole sweeps, the seconds left, and
 // then the window and what is left of it as times that people read.
+#![tactic(auto)]
+
 ghost use Rattle.std.specs.Prelude.{◌≡◌, length};
 
 use program::{Loaded, print, print_between, print_number};
 
 // A period, or what is none.
-#[derive(Drop)]
+#[derive(Clone, Copy)]
 enum Period {
     Seconds(u64),
     Malformed,

@@ -50,18 +50,18 @@ module _ {a b : List ℕ} {most i : ℕ} (inv : Alike a b most i) where
 
 ruleset steps = (rules, begins, first_word, second_word, rest, rest_short, ends, below, above, goes_on)
 
-abbrev invariant-loop : tie.invariant-loop
-invariant-loop a b most i₀ i = Alike a b most i
+abbrev invariant-loop-i : tie.invariant-loop-i
+invariant-loop-i a b most i₀ i = Alike a b most i
 
-abbrev decreases-loop : tie.decreases-loop
-decreases-loop a b most i₀ i = most - i
+abbrev decreases-loop-i : tie.decreases-loop-i
+decreases-loop-i a b most i₀ i = most - i
 
 pub compare_spec : {M : Type 1} → statement M
 compare_spec =
     tie.close
     (tie.spec
-    invariant-loop
-    decreases-loop
+    invariant-loop-i
+    decreases-loop-i
     (λ c κs. search steps)
     (λ c. search steps)
     (λ c. search steps)

@@ -55,18 +55,18 @@ module _ (a b : List ℕ) (most i o : ℕ) (short : Lesser (length a) (length b)
 
 ruleset steps = (rules, in_first, in_second, less, more, agree, a_ends, b_ends, both_end)
 
-abbrev invariant-loop : tie.invariant-loop
-invariant-loop a b from most i₀ i = (i ≤ most) × (order (drop i a) (drop i b) ≡ order (drop from a) (drop from b))
+abbrev invariant-loop-i : tie.invariant-loop-i
+invariant-loop-i a b from most i₀ i = (i ≤ most) × (order (drop i a) (drop i b) ≡ order (drop from a) (drop from b))
 
-abbrev decreases-loop : tie.decreases-loop
-decreases-loop a b from most i₀ i = most - i
+abbrev decreases-loop-i : tie.decreases-loop-i
+decreases-loop-i a b from most i₀ i = most - i
 
 pub compare_bytes_spec : {M : Type 1} → statement M
 compare_bytes_spec =
     tie.close
     (tie.spec
-    invariant-loop
-    decreases-loop
+    invariant-loop-i
+    decreases-loop-i
     (λ c. search steps)
     (λ c. search steps)
     (λ c. search steps)

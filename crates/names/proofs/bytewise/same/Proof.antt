@@ -47,18 +47,18 @@ module _ {a b : List ℕ} {i : ℕ} (as_long : length b ≡ length a) (inv : Ali
 
 ruleset steps = (rules, unlike_lengths, begins, first_word, second_word, rest, ends, differ, agree)
 
-abbrev invariant-loop : tie.invariant-loop
-invariant-loop a b n i₀ i = Alike a b i
+abbrev invariant-loop-i : tie.invariant-loop-i
+invariant-loop-i a b n i₀ i = Alike a b i
 
-abbrev decreases-loop : tie.decreases-loop
-decreases-loop a b n i₀ i = n - i
+abbrev decreases-loop-i : tie.decreases-loop-i
+decreases-loop-i a b n i₀ i = n - i
 
 pub same_spec : {M : Type 1} → statement M
 same_spec =
     tie.close
     (tie.spec
-    invariant-loop
-    decreases-loop
+    invariant-loop-i
+    decreases-loop-i
     (λ c. search steps)
     (λ c. search steps)
     (λ c. search steps)

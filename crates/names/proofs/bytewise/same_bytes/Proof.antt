@@ -30,18 +30,18 @@ module _ (a b : List ℕ) (i : ℕ) (t : Bool) (inv : same (drop i a) (drop i b)
 
 ruleset steps = (rules, both_end, differ, agree)
 
-abbrev invariant-loop : tie.invariant-loop
-invariant-loop a b from n i₀ i = (i ≤ n) × (same (drop i a) (drop i b) ≡ same (drop from a) (drop from b))
+abbrev invariant-loop-i : tie.invariant-loop-i
+invariant-loop-i a b from n i₀ i = (i ≤ n) × (same (drop i a) (drop i b) ≡ same (drop from a) (drop from b))
 
-abbrev decreases-loop : tie.decreases-loop
-decreases-loop a b from n i₀ i = n - i
+abbrev decreases-loop-i : tie.decreases-loop-i
+decreases-loop-i a b from n i₀ i = n - i
 
 pub same_bytes_spec : {M : Type 1} → statement M
 same_bytes_spec =
     tie.close
     (tie.spec
-    invariant-loop
-    decreases-loop
+    invariant-loop-i
+    decreases-loop-i
     (λ c. search steps)
     (λ c. search steps)
     (λ c. search steps)

@@ -46,18 +46,18 @@ module _ (s : List ℕ) where
 
 ruleset steps = (rules, empty, no_letter, begun, all, wrong, right)
 
-abbrev invariant-loop : tie.invariant-loop
-invariant-loop s i₀ i = (i ≤ length s) × (every letter_or_digit (drop i s) ≡ identifier s)
+abbrev invariant-loop-i : tie.invariant-loop-i
+invariant-loop-i s i₀ i = (i ≤ length s) × (every letter_or_digit (drop i s) ≡ identifier s)
 
-abbrev decreases-loop : tie.decreases-loop
-decreases-loop s i₀ i = length s - i
+abbrev decreases-loop-i : tie.decreases-loop-i
+decreases-loop-i s i₀ i = length s - i
 
 pub is_identifier_spec : {M : Type 1} → statement M
 is_identifier_spec =
     tie.close
     (tie.spec
-    invariant-loop
-    decreases-loop
+    invariant-loop-i
+    decreases-loop-i
     (λ c. search steps)
     (λ c. search steps)
     (λ c κs. search steps)

@@ -22,18 +22,18 @@ module _ (s : List ℕ) (i : ℕ) (p : Place) (inv : path_from p (drop i s) ≡ 
 
 ruleset steps = (rules, at-end, turn)
 
-abbrev invariant-loop : tie.invariant-loop
-invariant-loop s place₀ i₀ place i = (i ≤ length s) × (path_from place (drop i s) ≡ path_name s)
+abbrev invariant-loop-i : tie.invariant-loop-i
+invariant-loop-i s place₀ i₀ place i = (i ≤ length s) × (path_from place (drop i s) ≡ path_name s)
 
-abbrev decreases-loop : tie.decreases-loop
-decreases-loop s place₀ i₀ place i = length s - i
+abbrev decreases-loop-i : tie.decreases-loop-i
+decreases-loop-i s place₀ i₀ place i = length s - i
 
 pub is_path_name_spec : {M : Type 1} → statement M
 is_path_name_spec =
     tie.close
     (tie.spec
-    invariant-loop
-    decreases-loop
+    invariant-loop-i
+    decreases-loop-i
     (λ c. search steps)
     (λ c. search steps)
     (λ c κs. search steps)

@@ -28,18 +28,18 @@ module _ (s : List ℕ) (i : ℕ) (inv : plain (drop i s) ≡ plain s) where
 
 ruleset steps = (rules, all, wrong, right)
 
-abbrev invariant-loop : tie.invariant-loop
-invariant-loop s i₀ i = (i ≤ length s) × (plain (drop i s) ≡ plain s)
+abbrev invariant-loop-i : tie.invariant-loop-i
+invariant-loop-i s i₀ i = (i ≤ length s) × (plain (drop i s) ≡ plain s)
 
-abbrev decreases-loop : tie.decreases-loop
-decreases-loop s i₀ i = length s - i
+abbrev decreases-loop-i : tie.decreases-loop-i
+decreases-loop-i s i₀ i = length s - i
 
 pub is_plain_spec : {M : Type 1} → statement M
 is_plain_spec =
     tie.close
     (tie.spec
-    invariant-loop
-    decreases-loop
+    invariant-loop-i
+    decreases-loop-i
     (λ c. search steps)
     (λ c. search steps)
     (λ c κs. search steps)

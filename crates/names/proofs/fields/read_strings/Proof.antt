@@ -14,18 +14,18 @@ use Rattle.names.proofs.fields.read_strings.Tie as tie
 
 ruleset steps = (rules, counted-end, counted_start, each_done, each_stops, each_turn)
 
-abbrev invariant-loop : tie.invariant-loop
-invariant-loop s start class rest₀ at₀ rest at = ending (counted (each (string_of (class_of class))) s start) ≡ ending (row (string_of (class_of class)) rest s at)
+abbrev invariant-loop-rest : tie.invariant-loop-rest
+invariant-loop-rest s start class rest₀ at₀ rest at = ending (counted (each (string_of (class_of class))) s start) ≡ ending (row (string_of (class_of class)) rest s at)
 
-abbrev decreases-loop : tie.decreases-loop
-decreases-loop s start class rest₀ at₀ rest at = rest
+abbrev decreases-loop-rest : tie.decreases-loop-rest
+decreases-loop-rest s start class rest₀ at₀ rest at = rest
 
 pub read_strings_spec : {M : Type 1} → statement M
 read_strings_spec =
     tie.close
     (tie.spec
-    invariant-loop
-    decreases-loop
+    invariant-loop-rest
+    decreases-loop-rest
     (λ c. search steps)
     (λ c. search steps)
     (λ c κs. search steps)

@@ -67,18 +67,18 @@ module _ {s : List ℕ} {start i : ℕ} (inv : Searched s start i) where
 
 ruleset steps = (rules, begins, at-end, eight_on, at_last, one_on, one_on', two_on)
 
-abbrev invariant-loop : tie.invariant-loop
-invariant-loop s start₀ i₀ start i = Searched s start i
+abbrev invariant-loop-i : tie.invariant-loop-i
+invariant-loop-i s start₀ i₀ start i = Searched s start i
 
-abbrev decreases-loop : tie.decreases-loop
-decreases-loop s start₀ i₀ start i = length s - i
+abbrev decreases-loop-i : tie.decreases-loop-i
+decreases-loop-i s start₀ i₀ start i = length s - i
 
 pub simple_start_spec : {M : Type 1} → statement M
 simple_start_spec =
     tie.close
     (tie.spec
-    invariant-loop
-    decreases-loop
+    invariant-loop-i
+    decreases-loop-i
     (λ c. search steps)
     (λ c κs. search steps)
     (λ c. search steps)

@@ -30,18 +30,18 @@ keeps_length t s i x h = simp length-set h
 
 ruleset steps = (rules, none, turn, all, keeps_length)
 
-abbrev invariant-loop : tie.invariant-loop
-invariant-loop buf₀ at bytes i₀ buf i = (i ≤ length bytes) × (buf ≡ paste buf₀ at bytes i) × (length buf ≡ length buf₀)
+abbrev invariant-loop-i : tie.invariant-loop-i
+invariant-loop-i buf₀ at bytes i₀ buf i = (i ≤ length bytes) × (buf ≡ paste buf₀ at bytes i) × (length buf ≡ length buf₀)
 
-abbrev decreases-loop : tie.decreases-loop
-decreases-loop buf₀ at bytes i₀ buf i = length bytes - i
+abbrev decreases-loop-i : tie.decreases-loop-i
+decreases-loop-i buf₀ at bytes i₀ buf i = length bytes - i
 
 pub put_spec : {M : Type 1} → statement M
 put_spec =
     tie.close
     (tie.spec
-    invariant-loop
-    decreases-loop
+    invariant-loop-i
+    decreases-loop-i
     (λ c. search steps)
     (λ c. search steps)
     (λ c. search steps)
