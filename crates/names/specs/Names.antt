@@ -1,5 +1,5 @@
 -- Names: the classes of strings, the simple name, and the bytewise order.
-use Rattle.std.specs.Prelude.{ℕ, zero, suc, ◌+◌, Bool, true, false, cond, ◌&&◌, ◌||◌, not, List, [], ◌∷◌, ◌++◌, ltb, leb, eqb}
+use Rattle.std.specs.Prelude.{ℕ, Bool, true, false, cond, ◌&&◌, ◌||◌, not, List, [], ◌∷◌, ◌++◌, ltb, leb, eqb}
 use Rattle.names.specs.Lists.{every}
 
 abbrev pub between : ℕ → ℕ → ℕ → Bool

@@ -1,6 +1,6 @@
 -- Laws of fields: the digits of a number, and the number of some digits. Assumes nothing.
 use Rattle.std.specs.Prelude.{◌≡◌, refl, List, [], ◌∷◌, ◌++◌, ℕ, zero, suc, ◌+◌, ◌*◌, ◌/◌, ◌%◌, ◌<◌, length, take, drop}
-use Rattle.std.proofs.Common.{ap, ◌∙◌, zero-add, arith, length-append, take_at, drop_at}
+use Rattle.std.proofs.Common.{ap, ◌∙◌, arith, length-append, take_at, drop_at}
 use Rattle.names.specs.Fields.{number, digits}
 
 number_snoc : (n : ℕ) (w : List ℕ) (d : ℕ) → number n (w ++ (d ∷ [])) ≡ number n w * 256 + d

@@ -1,11 +1,11 @@
 -- A path name is identifiers joined by `::`, and nothing else is (`joined_path`, `path_joined`);
 -- the simple name is an end of the name (`simple-end`) in which no `::` stands (`simple_no_colons`). Assumes nothing.
 use Rattle.std.specs.Prelude.{◌≡◌, refl, List, [], ◌∷◌, ◌++◌, Bool, true, false, cond, ◌&&◌, ◌||◌, ℕ, eqb}
-use Rattle.std.proofs.Common.{sym, ap, subst, ◌∙◌, append-nil, append_assoc, eqb-true}
+use Rattle.std.proofs.Common.{sym, ap, ◌∙◌, append-nil, append_assoc, eqb-true}
 use Rattle.std.proofs.Math.Bool.{and-eq-true_iff}
 use Rattle.std.proofs.lemmas.Bool.{false≢true}
 use Rattle.names.specs.Lists.{every}
-use Rattle.names.specs.Names.{between, letter, letter_or_digit, identifier, path_name, path_tail, second_colon, joined, simple_from, simple_name}
+use Rattle.names.specs.Names.{letter, letter_or_digit, identifier, path_name, path_tail, second_colon, joined, simple_from, simple_name}
 
 -- ---- what is joined is a path name
 

@@ -14,7 +14,7 @@ use Rattle.std.proofs.Math.Dec.{leb}
 use Rattle.std.proofs.Math.ListN.{length}
 use Rattle.names.specs.declared.Read.{Read}
 use Rattle.names.specs.declared.Read.TheVariants.{Next, Refused}
-use Rattle.names.specs.Fields.{Got, got, bad, Reader, next, pure, holds, choose, u8, u16, number, bytes, string_of, each, many, counted, heading, finished, whole}
+use Rattle.names.specs.Fields.{Got, got, bad, Reader, next, holds, choose, u8, u16, number, bytes, string_of, many, heading, finished, whole}
 use Rattle.names.specs.Lists.{first}
 use Rattle.names.specs.Names.{same}
 use Rattle.std.proofs.Math.Option.{Option, none, some}

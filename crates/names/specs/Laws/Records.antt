@@ -1,14 +1,14 @@
 -- A whole record: its size, its front and its end, whatever stands between. Assumes nothing.
 use Rattle.std.proofs.Math.Path.{◌≡◌}
-use Rattle.std.specs.Prelude.{refl, Bool, cond, List, ℕ, ◌≤◌, ◌<◌, leb, eqb, length}
-use Rattle.std.proofs.Common.{ap, sym, ◌∙◌, arith, le-leb}
+use Rattle.std.specs.Prelude.{Bool, cond, List, ℕ, ◌≤◌, ◌<◌, leb, eqb, length}
+use Rattle.std.proofs.Common.{arith, le-leb}
 use Rattle.std.proofs.Math.Bool.{true, false}
 use Rattle.std.proofs.lemmas.Bool.{lt-leb}
 use Rattle.names.specs.declared.Read.{Read}
 use Rattle.names.specs.declared.Read.TheVariants.{Next, Refused}
-use Rattle.names.specs.Fields.{Got, got, bad, Reader, ◌>>=◌, heading, finished, whole, holds}
+use Rattle.names.specs.Fields.{got, bad, Reader, ◌>>=◌, heading, finished, whole, holds}
 use Rattle.names.specs.Read.{ending}
-use Rattle.names.specs.Laws.Readers.{via, stops, goes}
+use Rattle.names.specs.Laws.Readers.{stops, goes}
 
 -- by the size
 module _ {A : Type 0} (f : Reader A) (s : List ℕ) where

@@ -9,7 +9,7 @@ use Rattle.std.proofs.Math.Numerals.{sub-one}
 use Rattle.std.proofs.Math.ListN.{length, take}
 use Rattle.names.specs.declared.Read.{Read}
 use Rattle.names.specs.declared.Read.TheVariants.{Next, Refused}
-use Rattle.names.specs.Fields.{got, Reader, next, u8, bytes, string_of, many, each, counted}
+use Rattle.names.specs.Fields.{got, Reader, u8, bytes, string_of, many, each, counted}
 use Rattle.names.specs.Read.{ending, accepted, value_or, word_at, row, is_row, row_in, Listed}
 use Rattle.names.specs.Laws.Readers.{u8-end, u8_got, u8_view, string_view, split, held, stops, goes, last, accept, is_accepted, has_value, got_value, got_place, arrives}
 

@@ -1,6 +1,6 @@
 -- A loop that walks a list by index: what is left of the list at `i`, in a turn and after the last. Assumes nothing.
-use Rattle.std.specs.Prelude.{◌≡◌, refl, List, [], ◌∷◌, ℕ, zero, suc, ◌+◌, ◌-◌, ◌≤◌, ◌<◌, length, get_or, take, drop}
-use Rattle.std.proofs.Common.{sym, ap, ◌∙◌, add-one, drop_of_length-le, length-take, drop-cons, drop-drop}
+use Rattle.std.specs.Prelude.{◌≡◌, List, [], ◌∷◌, ℕ, zero, suc, ◌+◌, ◌-◌, ◌≤◌, ◌<◌, length, get_or, take, drop}
+use Rattle.std.proofs.Common.{sym, ◌∙◌, add-one, drop_of_length-le, length-take, drop-cons, drop-drop}
 use Rattle.std.proofs.Math.Nat.{sub-zero, suc-sub-suc, zero-sub, min-le_left}
 use Rattle.std.proofs.Math.ListN.{get_or-eq_default}
 use Rattle.std.proofs.Math.Seq.{drop-nil, take-nil}

@@ -3,7 +3,6 @@ use mathlib.Core.Path.{◌≡◌}
 use mathlib.Core.Bool.{true, false}
 use mathlib.Core.List.{List}
 use Prim.Native.Nat.{ℕ}
-use lib.Dec.{eqb}
 use borrow.Author.Rules.{rules}
 use Rattle.names.specs.declared.Order.{Order}
 use Rattle.names.specs.declared.Order.TheVariants.{Less, Same, More}

@@ -1,5 +1,5 @@
 -- `names::bytewise::same_bytes` meets its contract: at `i`, what is left of the two is the same just where what is left from `from` on is. Assumes nothing.
-use mathlib.Core.Path.{◌≡◌, refl, sym}
+use mathlib.Core.Path.{◌≡◌}
 use mathlib.Core.List.{List}
 use mathlib.Core.Bool.{Bool, true, false}
 use Prim.Native.Nat.{ℕ, ◌+◌, ◌≤◌, ◌<◌, ◌-◌}

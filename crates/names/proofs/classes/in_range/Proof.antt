@@ -1,6 +1,5 @@
 -- `names::classes::in_range` meets its contract. Assumes nothing.
 use mathlib.Core.Path.{◌≡◌}
-use mathlib.Core.Bool.{false}
 use Prim.Native.Nat.{ℕ, ◌≤◌, ◌<◌}
 use lib.Dec.{leb}
 use borrow.Author.Rules.{rules}

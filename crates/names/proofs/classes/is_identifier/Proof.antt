@@ -1,12 +1,11 @@
 -- `names::classes::is_identifier` meets its contract: at `i`, what is left decides the whole. Assumes nothing.
-use mathlib.Core.Path.{◌≡◌, refl, sym, ap, ◌∙◌}
+use mathlib.Core.Path.{◌≡◌, ap}
 use mathlib.Core.List.{List, [], ◌∷◌}
-use mathlib.Core.Bool.{Bool, true, false, not}
+use mathlib.Core.Bool.{Bool, true, false}
 use Prim.Native.Nat.{ℕ, ◌+◌, ◌≤◌, ◌<◌, ◌-◌}
 use native.Mathlib.Omega.{arith}
 use lib.ListN.{length, drop, get_or}
 use borrow.Author.Rules.{rules}
-use borrow.Author.Tests.{not-true, not-false}
 use Rattle.names.specs.Lists.{every}
 use Rattle.names.specs.Names.{identifier, letter, letter_or_digit}
 use Rattle.names.specs.Laws.Walks.{here, done}
@@ -22,13 +21,13 @@ module _ (s : List ℕ) where
     opened : identifier s ≡ identifier (get_or s 0 0 ∷ drop 1 s)
     opened = ap identifier (here s 0 (omega arith))
 
-    no_letter : not b ≡ true → false ≡ identifier s
+    no_letter : b ≡ false → false ≡ identifier s
     unfolding identifier
-    no_letter e = rw (opened, ← is, not-true b e)
+    no_letter e = rw (opened, ← is, e)
 
-    begun : not b ≡ false → every letter_or_digit (drop 1 s) ≡ identifier s
+    begun : b ≡ true → every letter_or_digit (drop 1 s) ≡ identifier s
     unfolding identifier
-    begun e = rw (opened, ← is, not-false b e)
+    begun e = rw (opened, ← is, e)
 
   module _ (i : ℕ) (inv : every letter_or_digit (drop i s) ≡ identifier s) where
     all : length s ≤ i → true ≡ identifier s
@@ -36,13 +35,13 @@ module _ (s : List ℕ) where
     all h = rw (← inv, done s i h)
 
     module _ (h : i < length s) (b : Bool) (is : b ≡ letter_or_digit (get_or s i 0)) where
-      wrong : not b ≡ true → false ≡ identifier s
+      wrong : b ≡ false → false ≡ identifier s
       unfolding every
-      wrong e = rw (← inv, here s i h, ← is, not-true b e)
+      wrong e = rw (← inv, here s i h, ← is, e)
 
-      right : not b ≡ false → every letter_or_digit (drop (i + 1) s) ≡ identifier s
+      right : b ≡ true → every letter_or_digit (drop (i + 1) s) ≡ identifier s
       unfolding every
-      right e = rw (← inv, here s i h, ← is, not-false b e)
+      right e = rw (← inv, here s i h, ← is, e)
 
 ruleset steps = (rules, empty, no_letter, begun, all, wrong, right)
 

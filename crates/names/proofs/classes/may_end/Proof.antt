@@ -1,10 +1,10 @@
 -- `names::classes::may_end` meets its contract. Assumes nothing.
-use mathlib.Core.Path.{◌≡◌, refl}
+use mathlib.Core.Path.{◌≡◌}
 use mathlib.Core.List.{[]}
 use mathlib.Core.Bool.{true, false}
 use borrow.Author.Rules.{rules}
 use Rattle.names.specs.declared.Place.{Place}
-use Rattle.names.specs.declared.Place.TheVariants.{Start, Inside, Colon, Nowhere}
+use Rattle.names.specs.declared.Place.TheVariants.{Start, Inside, Colon}
 use Rattle.names.specs.Names.{path_name, path_tail, second_colon}
 use Rattle.names.specs.Class.{path_from}
 use Rattle.names.proofs.classes.may_end.Statement.{statement}

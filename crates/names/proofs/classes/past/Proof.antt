@@ -1,11 +1,10 @@
 -- `names::classes::past` meets its contract. Assumes nothing.
 use mathlib.Core.Path.{◌≡◌, refl, sym}
 use mathlib.Core.List.{List, ◌∷◌}
-use mathlib.Core.Bool.{Bool, true, false, ◌||◌, ◌&&◌}
+use mathlib.Core.Bool.{Bool, true, false, ◌||◌}
 use Prim.Native.Nat.{ℕ}
-use lib.Dec.{eqb}
 use borrow.Author.Rules.{rules}
-use borrow.Author.Tests.{eq-eqb, ne_eqb}
+use borrow.Author.Tests.{ne_eqb}
 use Rattle.names.specs.declared.Place.{Place}
 use Rattle.names.specs.declared.Place.TheVariants.{Start, Inside, Colon, Nowhere}
 use Rattle.names.specs.Names.{letter, letter_or_digit, path_name, path_tail, second_colon}

@@ -1,8 +1,4 @@
 -- `names::fields::byte_at` meets its contract. Assumes nothing.
-use mathlib.Core.Path.{◌≡◌, sym}
-use mathlib.Core.List.{List}
-use Prim.Native.Nat.{ℕ, ◌≤◌}
-use lib.ListN.{length, get_or}
 use borrow.Author.Rules.{rules}
 use Rattle.names.specs.Laws.Walks.{past_end}
 use Rattle.names.proofs.fields.byte_at.Statement.{statement}

@@ -1,10 +1,6 @@
 -- `names::fields::read_strings` meets its contract. Assumes nothing.
 use mathlib.Core.Path.{◌≡◌}
-use mathlib.Core.List.{List}
-use mathlib.Core.Option.{Option, none}
-use Prim.Native.Nat.{ℕ, ◌+◌, ◌-◌, ◌≤◌, ◌<◌}
 use borrow.Author.Rules.{rules}
-use Rattle.names.specs.declared.Class.{Class}
 use Rattle.names.specs.Class.{class_of}
 use Rattle.names.specs.Fields.{each, counted, string_of}
 use Rattle.names.specs.Read.{ending, row}
