@@ -15,10 +15,8 @@ use Rattle.types.specs.Rules.{loose, tags_by, fits_by, plain_fits, untagged_fits
 use Rattle.types.specs.declared.Scalar.{Scalar}
 use Rattle.types.specs.declared.Tag.{Tag}
 use Rattle.types.specs.declared.Base.{Base}
-use Rattle.types.specs.declared.Base.TheVariants as Base
 use Rattle.types.specs.declared.Profile.TheVariants as Profile
 use Rattle.types.specs.declared.Test.{Test}
-use Rattle.types.specs.declared.Test.TheVariants as Test
 
 -- without a tag on one side the two rules are one
 tags_none : (r : Test) (e : List ℕ) → loose r ≡ tags_by r none (some e)

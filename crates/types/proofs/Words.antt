@@ -18,9 +18,7 @@ use Rattle.types.specs.Laws.Texts.{array_text}
 use Rattle.types.specs.Meaning.{scalar_of, base_of, tag_part, layered}
 use Rattle.types.specs.Words.{text_by, words, type_word, word_of, repeated}
 use Rattle.types.specs.declared.Base.{Base}
-use Rattle.types.specs.declared.Base.TheVariants as Base
 use Rattle.types.specs.declared.Form.{Form}
-use Rattle.types.specs.declared.Form.TheVariants as Form
 
 abbrev pub table : List ℕ
 table = text "intstringdecimalbooleantimepointobjectneverdatetimedurationentityarraymixed-type arrayarray<?>entity:array<>"

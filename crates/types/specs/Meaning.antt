@@ -4,16 +4,11 @@ use Rattle.std.proofs.Math.Option.{Option, none, some}
 use Rattle.types.specs.Types.{Ty, scalar, entity, any_array, mixed_array, array}
 use Rattle.types.specs.Types as types
 use Rattle.types.specs.declared.Profile.{Profile}
-use Rattle.types.specs.declared.Profile.TheVariants as Profile
 use Rattle.types.specs.declared.Scalar.{Scalar}
-use Rattle.types.specs.declared.Scalar.TheVariants as Scalar
 use Rattle.types.specs.declared.TimeType.{TimeType}
-use Rattle.types.specs.declared.TimeType.TheVariants as TimeType
 use Rattle.types.specs.declared.Source.{Source}
-use Rattle.types.specs.declared.Source.TheVariants as Source
 use Rattle.types.specs.declared.Tag.{Tag}
 use Rattle.types.specs.declared.Base.{Base}
-use Rattle.types.specs.declared.Base.TheVariants as Base
 use Rattle.types.specs.declared.Rich.{Rich}
 
 abbrev pub scalar_of : Scalar → types.Scalar

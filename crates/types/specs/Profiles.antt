@@ -7,7 +7,6 @@ use Rattle.names.specs.Text.{text}
 use Rattle.types.specs.Types.{Ty, entity, fits, plain, strict, accepts, compatible}
 use Rattle.types.specs.Meaning.{layered, profile_in, rich_of}
 use Rattle.types.specs.declared.Profile.{Profile}
-use Rattle.types.specs.declared.Profile.TheVariants as Profile
 use Rattle.types.specs.declared.Rich.{Rich}
 
 -- `compatible` as it was before there was a profile to choose, word for word

@@ -4,12 +4,9 @@ use Rattle.std.proofs.Math.Option.{Option}
 use Rattle.types.specs.Types.{Ty, fits, same_tag, tag_fits, tags_under, same_scalar}
 use Rattle.types.specs.Meaning.{scalar_of, profile_in}
 use Rattle.types.specs.declared.Profile.{Profile}
-use Rattle.types.specs.declared.Profile.TheVariants as Profile
 use Rattle.types.specs.declared.Scalar.{Scalar}
 use Rattle.types.specs.declared.Base.{Base}
-use Rattle.types.specs.declared.Base.TheVariants as Base
 use Rattle.types.specs.declared.Test.{Test}
-use Rattle.types.specs.declared.Test.TheVariants as Test
 
 -- an array of unknown elements stands for any array, and an untagged entity for any entity
 abbrev pub loose : Test → Bool

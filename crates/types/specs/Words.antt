@@ -4,9 +4,7 @@ use Rattle.names.specs.Text.{text}
 use Rattle.types.specs.Types.{Ty, rank, display, render}
 use Rattle.types.specs.Meaning.{scalar_of}
 use Rattle.types.specs.declared.Base.{Base}
-use Rattle.types.specs.declared.Base.TheVariants as Base
 use Rattle.types.specs.declared.Form.{Form}
-use Rattle.types.specs.declared.Form.TheVariants as Form
 
 abbrev pub text_by : Form → Ty → List ℕ
 text_by Form.Display = display

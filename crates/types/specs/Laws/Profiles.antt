@@ -2,15 +2,15 @@
 --     profiles, profiles-in-code     the statements of Profiles.antt
 --     compatible-swapped             under either profile the test is symmetric
 --     compatible-plain               whatever passes under a profile passes under the plain one
-use Rattle.std.specs.Prelude.{◌≡◌, refl, Bool, true, false, List, ℕ, zero, suc}
+use Rattle.std.specs.Prelude.{◌≡◌, refl, Bool, true, false, List, ℕ, suc}
 use Rattle.std.proofs.Common.{sym, ap, ◌∙◌}
 use Rattle.std.proofs.lemmas.Bool.{false≢true}
 use Rattle.std.proofs.Math.Option.{Option, none, some}
 use Rattle.names.specs.Names.{same}
 use Rattle.names.specs.Text.{text}
-use Rattle.types.specs.Types.{Ty, scalar, entity, any_array, mixed_array, array, tag_fits, fits, Profile, plain, strict, tags_under, accepts, compatible}
+use Rattle.types.specs.Types.{Ty, scalar, entity, any_array, mixed_array, array, tag_fits, fits, Profile, plain, strict, tags_under, compatible}
 use Rattle.types.specs.Meaning.{layered, rich_of}
-use Rattle.types.specs.Profiles.{compatible_before, Unlike, Profiles, ProfilesInCode}
+use Rattle.types.specs.Profiles.{Unlike, Profiles, ProfilesInCode}
 use Rattle.types.specs.Laws.Types.{layers_same}
 use Rattle.types.specs.Laws.Relations.{fits_itself, fits_swapped, fits_more, tag_itself, tag_swapped}
 

@@ -14,10 +14,8 @@ use Rattle.types.specs.Types.{Ty, scalar, entity, any_array, mixed_array, array,
 use Rattle.types.specs.Meaning.{tag_part, base_of, layered, rich_of}
 use Rattle.types.specs.Words.{text_by}
 use Rattle.types.specs.declared.Base.{Base}
-use Rattle.types.specs.declared.Base.TheVariants as Base
 use Rattle.types.specs.declared.Rich.{Rich}
 use Rattle.types.specs.declared.Form.{Form}
-use Rattle.types.specs.declared.Form.TheVariants as Form
 
 -- the layers of a type, and the tag under them, nothing where it has none
 unfoldable pub layers_in : Ty → ℕ

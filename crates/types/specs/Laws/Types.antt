@@ -8,7 +8,7 @@ use Rattle.std.specs.Prelude.{◌≡◌, Bool, true, false, List}
 use Rattle.std.proofs.Math.Path.{refl}
 use Rattle.std.proofs.Math.Option.{Option}
 use Prim.Native.Nat.{ℕ, zero, suc}
-use Rattle.types.specs.Types.{Ty, Scalar, scalar, entity, any_array, mixed_array, array, long, string, decimal, bool, timepoint, object, never, datetime, duration, fits, same_type, compatible, is_numeric}
+use Rattle.types.specs.Types.{Ty, Scalar, scalar, entity, any_array, mixed_array, array, long, string, decimal, bool, timepoint, object, never, datetime, duration, fits, same_type, is_numeric}
 use Rattle.types.specs.Meaning.{layered}
 
 -- an array: of unknown elements, of mixed ones, or of one type

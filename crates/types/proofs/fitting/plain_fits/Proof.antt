@@ -7,7 +7,6 @@ use Rattle.types.specs.Meaning.{scalar_of}
 use Rattle.types.specs.Rules.{plain_fits}
 use Rattle.types.specs.declared.Scalar.{Scalar}
 use Rattle.types.specs.declared.Base.{Base}
-use Rattle.types.specs.declared.Base.TheVariants as Base
 use borrow.Author.Rules.{rules}
 use Rattle.types.proofs.fitting.plain_fits.Statement.{statement}
 use Rattle.types.proofs.fitting.plain_fits.Tie as tie

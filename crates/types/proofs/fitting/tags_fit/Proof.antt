@@ -8,7 +8,6 @@ use Rattle.names.specs.Names.{same}
 use Rattle.types.specs.Rules.{any_tags, tags_by}
 use Rattle.types.specs.declared.Profile.TheVariants as Profile
 use Rattle.types.specs.declared.Test.{Test}
-use Rattle.types.specs.declared.Test.TheVariants as Test
 use borrow.Author.Rules.{rules}
 use Rattle.types.proofs.fitting.tags_fit.Statement.{statement}
 use Rattle.types.proofs.fitting.tags_fit.Tie as tie

@@ -5,7 +5,6 @@ use Prim.Native.Nat.{ℕ}
 use lib.ListN.{take, drop}
 use Rattle.types.specs.Meaning.{bytes_of}
 use Rattle.types.specs.declared.Source.{Source}
-use Rattle.types.specs.declared.Source.TheVariants as Source
 use borrow.Author.Rules.{rules}
 use Rattle.types.proofs.tags.tag_bytes.Statement.{statement}
 use Rattle.types.proofs.tags.tag_bytes.Tie as tie

@@ -5,7 +5,6 @@ use Prim.Native.Nat.{ℕ}
 use Rattle.types.specs.Meaning.{tag_of, tag_part}
 use Rattle.types.specs.declared.Tag.{Tag}
 use Rattle.types.specs.declared.Base.{Base}
-use Rattle.types.specs.declared.Base.TheVariants as Base
 use borrow.Author.Rules.{rules}
 use Rattle.types.proofs.tags.tag_part.Statement.{statement}
 use Rattle.types.proofs.tags.tag_part.Tie as tie

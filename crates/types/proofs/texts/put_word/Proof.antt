@@ -23,7 +23,7 @@ module _ (k : ℕ) (h : k < 17) where
 
 ruleset steps = (rules, rises, ends, room, put_there)
 
-part-put-end : tie.Need-slice-bounds-put-end
+part-put-end : tie.Need-slice_bounds-put-end
 unfolding text
 part-put-end c = search steps
 

@@ -33,18 +33,18 @@ module _ (s : List ℕ) (at k n : ℕ) (room : at + length (repeated n (type_wor
 
 ruleset steps = (rules, none, all, next_room, turn)
 
-abbrev invariant-loop : tie.invariant-loop
-invariant-loop buf₀ at k n next₀ i₀ buf next i = (i ≤ n) × Stored buf₀ at (repeated i (type_word k)) buf next × (length buf ≡ length buf₀)
+abbrev invariant-loop-i : tie.invariant-loop-i
+invariant-loop-i buf₀ at k n next₀ i₀ buf next i = (i ≤ n) × Stored buf₀ at (repeated i (type_word k)) buf next × (length buf ≡ length buf₀)
 
-abbrev decreases-loop : tie.decreases-loop
-decreases-loop buf₀ at k n next₀ i₀ buf next i = n - i
+abbrev decreases-loop-i : tie.decreases-loop-i
+decreases-loop-i buf₀ at k n next₀ i₀ buf next i = n - i
 
 pub put_words_spec : {M : Type 1} → statement M
 put_words_spec =
     tie.close
     (tie.spec
-    invariant-loop
-    decreases-loop
+    invariant-loop-i
+    decreases-loop-i
     (λ c. search steps)
     (λ c κs. search steps)
     (λ c. search steps)

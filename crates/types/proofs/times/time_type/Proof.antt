@@ -34,9 +34,7 @@ time_type_spec =
     tie.close
     (tie.spec
     (λ c. search steps)
-    (λ c κs. search steps)
     (λ c. search steps)
     (λ c. search steps)
-    (λ c κs. search steps)
     (λ c. search steps)
     (λ c. search steps))
