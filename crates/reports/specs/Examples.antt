@@ -1,5 +1,5 @@
 -- The definitions at work: three breaches, of which the third repeats the second's pair with another end; and each message once, as the Rust writes it. Assumes nothing.
-use Rattle.std.specs.Prelude.{◌≡◌, refl, List, [], ◌∷◌, ℕ}
+use Rattle.std.specs.Prelude.{◌≡◌, refl, [], ◌∷◌}
 use Rattle.names.specs.Lists.{any_of, gather}
 use Rattle.names.specs.Names.{same}
 use Rattle.names.specs.Fields.{digits}

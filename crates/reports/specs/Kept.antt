@@ -1,13 +1,13 @@
 -- What a buffer of L bytes keeps of a list of breaches: as a fold that takes them one by one, and as its meaning.
 -- Assumes nothing.
-use Rattle.std.specs.Prelude.{◌≡◌, refl, Bool, true, false, cond, not, ◌||◌, List, [], ◌∷◌, ◌++◌, ℕ, suc, ◌+◌, ◌-◌, ◌≤◌, ◌<◌, length, leb, ltb, eqb}
+use Rattle.std.specs.Prelude.{◌≡◌, refl, Bool, true, false, cond, not, List, [], ◌∷◌, ◌++◌, ℕ, ◌+◌, ◌-◌, ◌≤◌, ◌<◌, length, leb, ltb, eqb}
 use Rattle.std.proofs.Common.{sym, ap, ◌∙◌, append_assoc, append-nil, arith, length-append, leb-true, leb-false, le-leb, ltb-true, ltb-false, le-ltb, lt-ltb, eq-eqb, ne_eqb}
 use Rattle.std.proofs.Math.Bool.{or_comm, or-false}
 use Rattle.std.proofs.Math.Nat.{sub-zero}
 use Rattle.std.proofs.lemmas.Bool.{lt-leb}
 use Rattle.names.specs.Lists.{any_of, gather}
 use Rattle.names.specs.Laws.Lists.{any_append, gather_append}
-use Rattle.reports.specs.Reports.{Breach, same_pair, once, encoded, fitting}
+use Rattle.reports.specs.Reports.{Breach, same_pair, once, fitting}
 use Rattle.reports.specs.Decode.{width, size}
 
 unfoldable pub fold : {A B : Type 0} → (A → B → A) → A → List B → A

@@ -11,7 +11,7 @@
 -- The laws above them say the same of the lists `once [] bs`. Assumes nothing.
 use Rattle.std.specs.Prelude.{◌≡◌, ◌↔◌, ℕ, ◌+◌, ◌≤◌, ◌<◌, length, drop}
 use Rattle.std.proofs.Math.Path.{refl}
-use Rattle.std.proofs.Common.{sym, ap, subst, ◌∙◌, arith}
+use Rattle.std.proofs.Common.{sym, ◌∙◌, arith}
 use mathlib.Core.List.{List, [], ◌∷◌, ◌++◌, cons≢nil}
 use Rattle.std.proofs.Math.Seq.{drop-append_seam}
 use borrow.Author.Tests.{eq-eqb, ne_eqb}
@@ -19,7 +19,7 @@ use Rattle.names.specs.Lists.{any_of, first, gather}
 use Rattle.reports.specs.Reports.{Breach, same_pair, once, encoded, fitting, Outcome, reported}
 use Rattle.reports.specs.Decode.{width_is, size, reports, reports_encoded}
 use Rattle.reports.specs.Kept.{size_nil, size_cons, fitting_all, fitting_less}
-use Rattle.reports.specs.Pairs.{◌∈◌, NoDup, Same, Pair, pair_of, pairs, sum_of, space}
+use Rattle.reports.specs.Pairs.{◌∈◌, NoDup, Same, Pair, pair_of, pairs, space}
 use Rattle.reports.specs.Laws.Sets.{length_same, sum_same}
 use Rattle.reports.specs.Laws.Once.{both, exactly, once_nodup, length_pairs, both_in, both_nodup, length_joined, first_once, once_from, once_append, once_same}
 use Rattle.reports.specs.Laws.Once as O

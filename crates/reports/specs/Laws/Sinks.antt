@@ -5,7 +5,7 @@
 --     reporting-..                             a loop over a list
 --     pushAll-reported, appendAll-reported     a run from no report answers and leaves what `reported` says
 --     push-.., append-.., room-..              the cases of the code, as it learns them
-use Rattle.std.specs.Prelude.{◌≡◌, Bool, not, ◌&&◌, ℕ, ◌+◌, ◌-◌, ◌≤◌, ◌<◌, take, drop, ltb}
+use Rattle.std.specs.Prelude.{◌≡◌, Bool, not, ℕ, ◌+◌, ◌-◌, ◌≤◌, ◌<◌, drop, ltb}
 use Rattle.std.proofs.Math.Path.{refl}
 use Rattle.std.proofs.Common.{sym, ap, subst, subst₂, ◌∙◌, true≢false, arith, length-append, length-drop, drop-drop}
 use Rattle.std.proofs.Math.Bool.{true, false, cond}
@@ -14,14 +14,14 @@ use mathlib.Core.List.{List, [], ◌∷◌, ◌++◌, append-nil}
 use Rattle.std.proofs.Math.ListN.{length}
 use Rattle.std.proofs.Math.Seq.{take-append_seam, drop-append_seam, drop-append-add}
 use Rattle.std.proofs.Math.Dec.{leb}
-use borrow.Author.Tests.{leb-true, leb-false, le-leb, lt-leb}
+use borrow.Author.Tests.{leb-true, le-leb, lt-leb}
 use Rattle.names.specs.Lists.{any_of, gather}
 use Rattle.names.specs.Laws.Lists.{gather_append}
 use Rattle.names.specs.Writer.{store, Stored}
-use Rattle.names.specs.Laws.Writers.{stored_more, stored_length, stored_text}
+use Rattle.names.specs.Laws.Writers.{stored_more, stored_length}
 use Rattle.reports.specs.declared.State.{State}
 use Rattle.reports.specs.Reports.{Breach, same_pair, once, encoded, fitting, reported}
-use Rattle.reports.specs.Decode.{header, length_header, encoded_parts, width, width_is, size, reports, Whole, reports_encoded, whole_encoded}
+use Rattle.reports.specs.Decode.{header, length_header, encoded_parts, width, width_is, size, Whole, reports_encoded, whole_encoded}
 use Rattle.reports.specs.Kept.{fold, fold_append, Log, empty, step, step_once, kept, steps_kept, steps_once, size_nil, size_cons, size_snoc, full_fewer}
 use Rattle.reports.specs.Sink.{Sink, sink, held, more, stopped, append, push, append_all, push_all, room_for, written, log_of, Sound, Recorded, Appended, start, outcome}
 

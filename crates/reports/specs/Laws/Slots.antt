@@ -1,5 +1,5 @@
 -- Laws of the table of slots: what a search knows on its way, and what one entry more changes. Assumes nothing.
-use Rattle.std.specs.Prelude.{◌≡◌, ◌⊎◌, Bool, cond, ◌&&◌, ◌||◌, ℕ, zero, suc, ◌+◌, ◌-◌, ◌/◌, ◌%◌, ◌≤◌, ◌<◌, get_or, set, take, replicate, ltb, leb, eqb}
+use Rattle.std.specs.Prelude.{◌≡◌, ◌⊎◌, Bool, cond, ◌||◌, ℕ, zero, suc, ◌+◌, ◌-◌, ◌≤◌, ◌<◌, get_or, set, take, replicate, ltb, leb, eqb}
 use Rattle.std.proofs.Math.Path.{refl, sym, ap}
 use Rattle.std.proofs.Common.{subst, ◌∙◌, inl, inr, ⊎_elim, true≢false, arith, mod-lt, eq-or-lt_of_le, add_comm, add-one, length-set, length-drop, drop-drop, get_or-drop, get_or-set_same, get_or-set_other, below_more, ltb-true, ltb-false, lt-ltb, le-ltb, eqb-true, eq-eqb, ne_eqb}
 use Rattle.std.proofs.Math.Bool.{true, false}
@@ -19,7 +19,7 @@ use Rattle.reports.specs.Decode.{width, size, reports, long, long_at, report, re
 use Rattle.reports.specs.Kept.{fold, Log, step}
 use Rattle.reports.specs.Sink.{Sink, sink, held, append, push, Sound, written, log_of, start}
 use Rattle.reports.specs.Laws.Sinks.{log_written, length_written, append_written, step_fits, sound_size, sound_start, sound_push}
-use Rattle.reports.specs.Slots.{key_of, slots_of, hashed, first_slot, slot_at, Met, taken, EntryOf, Meets, Tabled, FreeFor, Finds, room, is_open, Filed, Empty, Lent, Pushed}
+use Rattle.reports.specs.Slots.{key_of, slots_of, hashed, first_slot, slot_at, Met, taken, EntryOf, Meets, Tabled, FreeFor, room, is_open, Filed, Empty, Lent, Pushed}
 
 -- ---- the reports of a sound buffer, by the size of those before them
 

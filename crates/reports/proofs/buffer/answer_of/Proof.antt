@@ -3,13 +3,13 @@ use Rattle.reports.specs.Answers.{outcome_of}
 use Rattle.reports.proofs.buffer.answer_of.Statement.{statement}
 use Rattle.reports.proofs.buffer.answer_of.Tie as tie
 
-returns : tie.Need-returns
+returns : tie.Need-returns-then-state
 unfolding outcome_of
-returns c = record { is = λ s. rw c.if1.true }
+returns c = record { is = λ s. rw c.if-state.true }
 
-returns_2 : tie.Need-returns-2
+returns_2 : tie.Need-returns-else-state
 unfolding outcome_of
-returns_2 c = record { is = λ s. rw c.if1.false }
+returns_2 c = record { is = λ s. rw c.if-state.false }
 
 pub answer_of_spec : {M : Type 1} → statement M
 answer_of_spec = tie.close (tie.spec returns returns_2)

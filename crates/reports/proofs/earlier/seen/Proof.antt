@@ -67,25 +67,25 @@ module _ {b : Breach} {s : List ℕ} {count left at : ℕ} (inv : Left b s count
         decides = sym (sym inv.decides ∙ asked b s at left h ∙ rw (← is, e));
       })
 
-abbrev invariant-loop : tie.invariant-loop
-invariant-loop buf count start message left₀ at₀ left at = Left (record { start = start; end = 0; message = message }) buf count left at
+abbrev invariant-loop-left : tie.invariant-loop-left
+invariant-loop-left buf count start message left₀ at₀ left at = Left (record { start = start; end = 0; message = message }) buf count left at
 
-abbrev decreases-loop : tie.decreases-loop
-decreases-loop buf count start message left₀ at₀ left at = left
+abbrev decreases-loop-left : tie.decreases-loop-left
+decreases-loop-left buf count start message left₀ at₀ left at = left
 
 ruleset steps = (rules, begins, fits, found, goes_on, over)
 
 -- within the loop the report at `at` is whole
-in-fits : (c : tie.In-loop invariant-loop decreases-loop)
-    → c.before.loop.at + 10 + long_at c.before.before.before.before.args.buf.now c.before.loop.at ≤ length c.before.before.before.before.args.buf.now
-in-fits c = fits c.before.loop.invariant (omega arith)
+in-fits : (c : tie.In-loop-left invariant-loop-left decreases-loop-left)
+    → c.loop-left.at + 10 + long_at c.args.buf.now c.loop-left.at ≤ length c.args.buf.now
+in-fits c = fits c.loop-left.invariant (omega arith)
 
 pub seen_spec : {M : Type 1} → statement M
 seen_spec =
     tie.close
     (tie.spec
-    invariant-loop
-    decreases-loop
+    invariant-loop-left
+    decreases-loop-left
     (λ c. search steps)
     (λ c κs. in-fits c)
     (λ c. search steps)

@@ -1,8 +1,7 @@
 -- `reports::pieces::put_text` meets its contract: the table is right at every place, by one computed test. Assumes nothing.
-use mathlib.Core.Path.{◌≡◌, refl}
+use mathlib.Core.Path.{refl}
 use mathlib.Core.List.{List, [], ◌∷◌}
 use Prim.Native.Nat.{ℕ, ◌<◌}
-use native.Mathlib.Omega.{arith}
 use lib.ListN.{get_or}
 use Rattle.names.specs.Lists.{gather}
 use Rattle.names.specs.Names.{same}
@@ -24,21 +23,21 @@ at : (n : ℕ) → n < 29 → Entry table starts (λ k. get_or pieces k []) n
 unfolding pieces parts gather right right_below same text
 at n h = entry table starts (λ k. get_or pieces k []) 29 refl n h
 
-part-put-end : tie.Need-slice-bounds-put-end
+part-put-end : tie.Need-slice_bounds-put-end
 unfolding text
-part-put-end c = (at c.before.before.before.args.n c.before.before.before.requires.0).end
+part-put-end c = (at c.args.n c.requires.0).end
 
 put_requires : tie.Need-put-requires
 unfolding text
 put_requires c κs =
-    let s = c.before.before.before.before in
+    let s = c.before in
     rw (at s.args.n s.requires.0).is s.requires.1
 
 returns : tie.Need-returns
 unfolding text
 returns c =
-    let s = c.before.before.before.before.before.before.before in
-    rw (← (at s.args.n s.requires.0).is) c.before.before.put.ensures
+    let s = c.before in
+    rw (← (at s.args.n s.requires.0).is) c.put.ensures
 
 pub put_text_spec : {M : Type 1} → statement M
 put_text_spec =
@@ -49,8 +48,8 @@ put_text_spec =
     (λ c. search rules)
     (λ c. search rules)
     (λ c. search rules)
-    (λ c. (at c.before.before.args.n c.before.before.requires.0).start)
-    (λ c. (at c.before.before.before.args.n c.before.before.before.requires.0).start)
+    (λ c. (at c.args.n c.requires.0).start)
+    (λ c. (at c.args.n c.requires.0).start)
     part-put-end
     put_requires
     (λ c. search rules)

@@ -42,18 +42,18 @@ module _ (table : List ℕ) (at : ℕ) (inv : Cleared table at) where
 
 ruleset steps = (rules, keeps_length, begins, goes_on, ends)
 
-abbrev invariant-loop : tie.invariant-loop
-invariant-loop table₀ at₀ table at = (length table ≡ length table₀) × Cleared table at
+abbrev invariant-loop-at : tie.invariant-loop-at
+invariant-loop-at table₀ at₀ table at = (length table ≡ length table₀) × Cleared table at
 
-abbrev decreases-loop : tie.decreases-loop
-decreases-loop table₀ at₀ table at = length table₀ - at
+abbrev decreases-loop-at : tie.decreases-loop-at
+decreases-loop-at table₀ at₀ table at = length table₀ - at
 
 pub clear_spec : {M : Type 1} → statement M
 clear_spec =
     tie.close
     (tie.spec
-    invariant-loop
-    decreases-loop
+    invariant-loop-at
+    decreases-loop-at
     (λ c. search steps)
     (λ c. search steps)
     (λ c. search steps)

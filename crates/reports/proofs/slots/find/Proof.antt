@@ -1,5 +1,5 @@
 -- `reports::slots::find` meets its contract. The loop's invariant: the slots passed have reports, and none of them is the one that is looked for. Assumes nothing.
-use mathlib.Core.Path.{◌≡◌, refl, sym, ap, ◌∙◌}
+use mathlib.Core.Path.{◌≡◌, sym, ap, ◌∙◌}
 use mathlib.Core.Bool.{Bool, true, false}
 use mathlib.Core.List.{List}
 use Prim.Native.Nat.{ℕ, ◌+◌, ◌-◌, ◌%◌, ◌≤◌, ◌<◌}
@@ -86,18 +86,18 @@ module _ (s : List ℕ) (st : State) (table : List ℕ) (start : ℕ) (message :
 
 ruleset steps = (rules, some_entry, some_slot, begins, over, inside, free, whole, seen, goes_on)
 
-abbrev invariant-loop : tie.invariant-loop
-invariant-loop buf table start message size first k₀ k = Finding buf table start message size first k
+abbrev invariant-loop-k : tie.invariant-loop-k
+invariant-loop-k buf table start message size first k₀ k = Finding buf table start message size first k
 
-abbrev decreases-loop : tie.decreases-loop
-decreases-loop buf table start message size first k₀ k = size - k
+abbrev decreases-loop-k : tie.decreases-loop-k
+decreases-loop-k buf table start message size first k₀ k = size - k
 
 pub find_spec : {M : Type 1} → statement M
 find_spec =
     tie.close
     (tie.spec
-    invariant-loop
-    decreases-loop
+    invariant-loop-k
+    decreases-loop-k
     (λ c κs. search steps)
     (λ c. search steps)
     (λ c κs. search steps)

@@ -1,5 +1,5 @@
 -- `reports::slots::hash_message` meets its contract. The loop's invariant: `left` words from `at` on, mixed into the two numbers, and the bytes behind them make the whole. Assumes nothing.
-use mathlib.Core.Path.{◌≡◌, refl, sym, ap, ◌∙◌}
+use mathlib.Core.Path.{◌≡◌, refl, ◌∙◌}
 use mathlib.Core.List.{List}
 use Prim.Native.Nat.{ℕ, zero, suc, ◌+◌, ◌-◌, ◌*◌, ◌/◌, ◌≤◌, ◌<◌}
 use native.Mathlib.Numerals.{sub-one}
@@ -55,18 +55,18 @@ module _ {by : ℕ} {s : List ℕ} {one two at left : ℕ} (inv : Mixing by s on
 
 ruleset steps = (rules, begins, first_inside, second_inside, goes_on, rest_inside, ends)
 
-abbrev invariant-loop : tie.invariant-loop
-invariant-loop by message one₀ two₀ at₀ left₀ one two at left = Mixing by message one two at left
+abbrev invariant-loop-left : tie.invariant-loop-left
+invariant-loop-left by message one₀ two₀ at₀ left₀ one two at left = Mixing by message one two at left
 
-abbrev decreases-loop : tie.decreases-loop
-decreases-loop by message one₀ two₀ at₀ left₀ one two at left = left
+abbrev decreases-loop-left : tie.decreases-loop-left
+decreases-loop-left by message one₀ two₀ at₀ left₀ one two at left = left
 
 pub hash_message_spec : {M : Type 1} → statement M
 hash_message_spec =
     tie.close
     (tie.spec
-    invariant-loop
-    decreases-loop
+    invariant-loop-left
+    decreases-loop-left
     (λ c. search steps)
     (λ c κs. search steps)
     (λ c. search steps)

@@ -1,6 +1,6 @@
 -- `reports::slots::mix_bytes` meets its contract. The loop's invariant: the bytes from `at` on, mixed in, make the whole. Assumes nothing.
-use mathlib.Core.Path.{◌≡◌, refl, sym, ◌∙◌}
-use mathlib.Core.List.{List, ◌∷◌}
+use mathlib.Core.Path.{◌≡◌, refl}
+use mathlib.Core.List.{List}
 use Prim.Native.Nat.{ℕ, ◌+◌, ◌-◌, ◌≤◌, ◌<◌}
 use native.Mathlib.Omega.{arith}
 use lib.ListN.{length, get_or, drop}
@@ -29,18 +29,18 @@ module _ {by h : ℕ} {s : List ℕ} {from m at : ℕ} (inv : Mixing by h s from
 
 ruleset steps = (rules, begins, goes_on, ends)
 
-abbrev invariant-loop : tie.invariant-loop
-invariant-loop by h message from mixed₀ at₀ mixed at = Mixing by h message from mixed at
+abbrev invariant-loop-at : tie.invariant-loop-at
+invariant-loop-at by h message from mixed₀ at₀ mixed at = Mixing by h message from mixed at
 
-abbrev decreases-loop : tie.decreases-loop
-decreases-loop by h message from mixed₀ at₀ mixed at = length message - at
+abbrev decreases-loop-at : tie.decreases-loop-at
+decreases-loop-at by h message from mixed₀ at₀ mixed at = length message - at
 
 pub mix_bytes_spec : {M : Type 1} → statement M
 mix_bytes_spec =
     tie.close
     (tie.spec
-    invariant-loop
-    decreases-loop
+    invariant-loop-at
+    decreases-loop-at
     (λ c. search steps)
     (λ c. search steps)
     (λ c κs. search steps)

@@ -1,6 +1,6 @@
 -- `reports::standing::refile` meets its contract. The loop's invariant: the first reports of the buffer are in the table. Assumes nothing.
 use mathlib.Core.Path.{◌≡◌, refl, sym, ap, ◌∙◌}
-use mathlib.Core.Bool.{Bool, true, false, not, true≢false, false≢true}
+use mathlib.Core.Bool.{Bool, true, false, true≢false, false≢true}
 use mathlib.Core.List.{List, ◌∷◌, ◌++◌}
 use Prim.Native.Nat.{ℕ, zero, suc, ◌+◌, ◌-◌, ◌≤◌, ◌<◌}
 use native.Mathlib.Omega.{arith}
@@ -32,9 +32,8 @@ behind_first (suc k) (suc n) s h =
     record { here = b.here; after = b.after; split = ap (λ (bs : List Breach). report s ∷ bs) b.split }
 
 -- what the test says where it holds, t being the code's answer
-takes_more : (x t : Bool) → t ≡ x → not t ≡ false → x ≡ true
-takes_more x true is e = sym is
-takes_more x false is e = absurd (true≢false e)
+takes_more : (x t : Bool) → t ≡ x → t ≡ true → x ≡ true
+takes_more x t is e = sym is ∙ e
 
 record SoFar (s : List ℕ) (st : State) (table : List ℕ) (first : State) : Type 0 where
   sound : Sound (sink s first)
@@ -64,8 +63,8 @@ module _ (s : List ℕ) (st : State) (p : Sound (sink s st)) (table : List ℕ) 
 
   module _ (h : first.count < st.count) where
     -- the table takes no more, and there are more
-    shut : (t : Bool) → t ≡ is_open (sink s first) table → not t ≡ true → Filed (sink s st) table
-    shut true is e = absurd (false≢true e)
+    shut : (t : Bool) → t ≡ is_open (sink s first) table → t ≡ false → Filed (sink s st) table
+    shut true is e = absurd (true≢false e)
     shut false is e = record {
       tabled = λ few short.
           let open_yet : first.count < room (length (slots_of table)) = omega (arith, held_count (sink s st) p) in
@@ -86,24 +85,24 @@ module _ (s : List ℕ) (st : State) (p : Sound (sink s st)) (table : List ℕ) 
 
 ruleset steps = (rules, begins, first_sound, first_yet, first_filed, ends, shut, next_whole, goes_on, less)
 
-abbrev invariant-loop : tie.invariant-loop
-invariant-loop buf state table₀ filed₀ table filed = (length table ≡ length table₀) × SoFar buf state table filed
+abbrev invariant-loop-filed : tie.invariant-loop-filed
+invariant-loop-filed buf state table₀ filed₀ table filed = (length table ≡ length table₀) × SoFar buf state table filed
 
-abbrev decreases-loop : tie.decreases-loop
-decreases-loop buf state table₀ filed₀ table filed = state.count - filed.count
+abbrev decreases-loop-filed : tie.decreases-loop-filed
+decreases-loop-filed buf state table₀ filed₀ table filed = state.count - filed.count
 
 pub refile_spec : {M : Type 1} → statement M
 refile_spec =
     tie.close
     (tie.spec
-    invariant-loop
-    decreases-loop
+    invariant-loop-filed
+    decreases-loop-filed
     (λ c κs. search steps)
     (λ c. search steps)
     (λ c κs. search steps)
     (λ c. search steps)
     (λ c. search steps)
-    (λ c κs. ((search steps, search steps), (search steps, (takes_more _ _ c.before.before.is_open.ensures c.before.if2.false, search steps))))
+    (λ c κs. ((search steps, search steps), (search steps, (takes_more _ _ c.is_open.ensures c.if-not-is_open.false, search steps))))
     (λ c. search steps)
     (λ c. search steps)
     (λ c. search steps)

@@ -49,18 +49,18 @@ module _ (s : List ℕ) (st : State) (inv : SoFar s st) where
 
 ruleset steps = (rules, begins, inside, holds, over, counts, goes_on, less)
 
-abbrev invariant-loop : tie.invariant-loop
-invariant-loop bytes state₀ state = SoFar bytes state
+abbrev invariant-loop-next : tie.invariant-loop-next
+invariant-loop-next bytes state₀ state = SoFar bytes state
 
-abbrev decreases-loop : tie.decreases-loop
-decreases-loop bytes state₀ state = length bytes - state.used
+abbrev decreases-loop-next : tie.decreases-loop-next
+decreases-loop-next bytes state₀ state = length bytes - state.used
 
 pub standing_state_spec : {M : Type 1} → statement M
 standing_state_spec =
     tie.close
     (tie.spec
-    invariant-loop
-    decreases-loop
+    invariant-loop-next
+    decreases-loop-next
     (λ c. search steps)
     (λ c κs. search steps)
     (λ c. search steps)

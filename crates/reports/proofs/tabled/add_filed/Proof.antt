@@ -2,12 +2,12 @@
 use mathlib.Core.Path.{◌≡◌, refl, sym}
 use mathlib.Core.Bool.{true, false}
 use mathlib.Core.List.{List}
-use Prim.Native.Nat.{ℕ, ◌+◌, ◌<◌}
-use lib.ListN.{length, set}
+use Prim.Native.Nat.{ℕ, ◌+◌}
+use lib.ListN.{set}
 use borrow.Author.Rules.{rules}
 use Rattle.reports.specs.declared.State.{State}
 use Rattle.reports.specs.Reports.{Breach}
-use Rattle.reports.specs.Sink.{Sink, sink, held, append, push, Sound}
+use Rattle.reports.specs.Sink.{Sink, sink, append, push, Sound}
 use Rattle.reports.specs.Laws.Sinks.{push_new}
 use Rattle.reports.specs.Slots.{Filed, FreeIn}
 use Rattle.reports.specs.Laws.Slots.{filed_more, filed_still}

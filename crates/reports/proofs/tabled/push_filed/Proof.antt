@@ -1,6 +1,6 @@
 -- `reports::tabled::push_filed` meets its contract: a pair that the table has is a repeat, and any other has a free slot. Assumes nothing.
 use mathlib.Core.Path.{◌≡◌, refl, sym}
-use mathlib.Core.Bool.{true, false}
+use mathlib.Core.Bool.{true}
 use mathlib.Core.List.{List}
 use Prim.Native.Nat.{ℕ, ◌<◌}
 use lib.ListN.{length}

@@ -25,11 +25,11 @@ push_tabled_spec =
     (tie.spec
     (λ c. search steps)
     (λ c κs. search steps)
-    (λ c κs. (search steps, (search steps, sym c.before.before.before.is_open.ensures ∙ c.before.before.if2.true)))
+    (λ c κs. (search steps, (search steps, sym c.is_open.ensures ∙ c.if-is_open.true)))
     (λ c. search steps)
     (λ c. search steps)
     (λ c. search steps)
-    (λ c κs. (search steps, (search steps, sym c.before.before.before.is_open.ensures ∙ c.before.before.if2.false)))
+    (λ c κs. (search steps, (search steps, sym c.is_open.ensures ∙ c.if-is_open.false)))
     (λ c. search steps)
     (λ c. search steps)
     (λ c. search steps))
