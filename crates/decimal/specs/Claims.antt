@@ -1,6 +1,6 @@
 -- What is claimed of decimals beyond each function's contract. Assumes nothing.
-use Rattle.std.specs.Prelude.{ℕ, ◌+◌, ◌≤◌, ◌≡◌, true, List, length, ℤ}
-use Rattle.std.proofs.Common.{ap, ◌∙◌}
+use Rattle.std.specs.Prelude.{ℕ, ◌≤◌, ◌≡◌, true, List, length, ℤ}
+use Rattle.std.proofs.Common.{ap}
 use Rattle.decimal.specs.Decimal.{well_formed, value_of, in_range, held, decimal_of, written, after_point}
 use Rattle.decimal.specs.Laws.Written.{value_written, written_formed, written_four}
 use Rattle.decimal.specs.Laws.Shortest.{written_least}

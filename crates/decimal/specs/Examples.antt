@@ -1,10 +1,10 @@
 -- Texts of decimals with what reading them gives, and numbers with how they are written: computed from the definitions.
-use Rattle.std.specs.Prelude.{ℕ, ◌+◌, ◌≡◌, refl, List, [], ◌∷◌, ◌++◌, length, ℤ, pos, negsuc}
+use Rattle.std.specs.Prelude.{ℕ, ◌+◌, ◌≡◌, refl, List, [], ◌∷◌, length, ℤ, pos, negsuc}
 use Rattle.names.specs.Text.{text}
 use Rattle.names.specs.Lists.{every, gather}
 use Rattle.names.specs.Names.{plain, plain_byte}
 use Rattle.names.specs.Fields.{Got, got, bad, u8, bytes, string_of}
-use Rattle.reports.specs.Reports.{Outcome, refusal}
+use Rattle.reports.specs.Reports.{refusal}
 use Rattle.reports.specs.Placed.{placed}
 use Rattle.decimal.specs.Decimal.{digit, minus, unsigned, fraction, behind_digit, begins_with_digit, well_formed, with_fraction, ten_thousandths, value_of, in_range, held, decimal_of, judged, decimal_text, last_digits, count_digits, numeral, sign, shown, written}
 

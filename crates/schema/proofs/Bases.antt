@@ -17,9 +17,7 @@ use Rattle.types.specs.Types.{Ty, dated, entity, array}
 use Rattle.types.specs.Meaning.{scalar_of, tag_of, base_of, layered}
 use Rattle.types.specs.declared.Source.TheVariants as Source
 use Rattle.types.specs.declared.Scalar.{Scalar}
-use Rattle.types.specs.declared.Scalar.TheVariants as Scalar
 use Rattle.types.specs.declared.Base.{Base}
-use Rattle.types.specs.declared.Base.TheVariants as Base
 use Rattle.types.specs.declared.Tag.{Tag}
 use Rattle.schema.specs.Schema.{Declared, never, set, extension, kinds, type_at, attributes}
 use Rattle.schema.specs.Schema as schema

@@ -7,22 +7,20 @@ use Prim.Native.Nat.{ℕ, zero, suc, ◌-◌, ◌≤◌, ◌<◌}
 use native.Mathlib.Numerals.{sub-one}
 use native.Mathlib.Omega.{arith}
 use lib.ListN.{take, drop}
-use lib.Dec.{eqb}
 use borrow.Author.Rules.{rules}
-use borrow.Author.Tests.{eq-eqb, ne_eqb}
+use borrow.Author.Tests.{ne_eqb}
 use Rattle.names.specs.Lists.{first}
-use Rattle.names.specs.Fields.{got, number, many, string_of, counted, levels}
+use Rattle.names.specs.Fields.{got, number, many, string_of}
 use Rattle.names.specs.Names.{same, below, path_name}
 use Rattle.names.specs.Read.{ending, value_or, word_at}
 use Rattle.names.specs.Laws.Names.{same_eq, order_refl, below_order, below_trans}
 use Rattle.names.specs.Laws.Readers.{Keeps, accept, is_accepted, has_value, got_value, arrives, split, held, next_wider}
 use Rattle.names.specs.declared.Read.TheVariants.{Next}
 use Rattle.names.specs.declared.Found.{Found}
-use Rattle.names.specs.declared.Found.TheVariants as Found
 use Rattle.names.specs.declared.Row.{Row}
 use Rattle.schema.specs.Schema.{EntityType, Schema, after, ascending, entity_type}
 use Rattle.schema.specs.Find.{find_entity}
-use Rattle.schema.specs.Places.{no_entity, schema_in, is_schema, entity_in, is_entity, entities_at, are_entities, entities_in, EntitiesOf, serves, Nearby, Serving, found_here, Near, FindsEntity}
+use Rattle.schema.specs.Places.{no_entity, schema_in, is_schema, is_entity, entities_at, are_entities, entities_in, EntitiesOf, serves, Nearby, Serving, Near, FindsEntity}
 use Rattle.schema.specs.Laws.ByKind.{ascending_word}
 use Rattle.schema.specs.Laws.Nearby.{is_named, all_serve, nearby_all}
 use Rattle.schema.proofs.Rows.{entity_word}

@@ -1,6 +1,6 @@
 -- The place behind what is accepted, by lengths and counts alone. Assumes nothing.
 use mathlib.Core.Path.{◌≡◌, refl, sym, ap, ◌∙◌}
-use mathlib.Core.Bool.{Bool, true, false}
+use mathlib.Core.Bool.{true}
 use mathlib.Core.List.{List, [], ◌∷◌}
 use mathlib.Core.Option.{Option, none, some}
 use Prim.Native.Nat.{ℕ, zero, suc, ◌+◌, ◌-◌, ◌≤◌, ◌<◌}
@@ -13,7 +13,7 @@ use Rattle.names.specs.Names.{path_name, plain}
 use Rattle.names.specs.Read.{ending, accepted, row, is_row}
 use Rattle.names.specs.declared.Read.{Read}
 use Rattle.names.specs.declared.Read.TheVariants.{Next}
-use Rattle.names.specs.Laws.Readers.{Keeps, next_wider, u8_view, string_view, StringView, split, accept, Accepted, is_accepted, arrives, passes, got_place}
+use Rattle.names.specs.Laws.Readers.{u8_view, string_view, StringView, split, accept, Accepted, is_accepted, arrives, passes, got_place}
 use Rattle.names.specs.Laws.Rows.{Opens, opens, each_done, row_cons, row_append}
 use Rattle.names.specs.declared.Row.{Row}
 use Rattle.schema.specs.Schema.{Declared, Attributes, ascending, type_at, attributes, attributes_of, entity_type, action}

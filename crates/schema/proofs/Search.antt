@@ -9,7 +9,6 @@ use Rattle.names.specs.Read.{ending, accepted, value_or}
 use Rattle.names.specs.declared.Read.TheVariants.{Next}
 use Rattle.names.specs.Laws.Readers.{Keeps, is_accepted, has_value, arrives, RowLeft, RowFirst, row_first, row_over}
 use Rattle.names.specs.declared.Found.{Found}
-use Rattle.names.specs.declared.Found.TheVariants as Found
 use Rattle.schema.specs.Places.{Answers}
 
 module _ {A K : Type 0} (key : A → K) (f : Option K → Reader A) (test : A → Bool) (other : A) (s : List ℕ) (o : Option A) where

@@ -15,12 +15,10 @@ use Rattle.names.specs.Read.{word_at, row, is_row, row_in}
 use Rattle.names.specs.Laws.Readers.{accept, has_value}
 use Rattle.names.specs.Laws.Rows.{Remaining, remaining_over, strings_left, opens, row_empty, string_class}
 use Rattle.names.specs.declared.Found.{Found}
-use Rattle.names.specs.declared.Found.TheVariants as Found
 use Rattle.schema.specs.Find.{action_type}
 use Rattle.schema.specs.Places.{goes_on, place_of, is_namespace, namespace_in}
 use Rattle.names.specs.declared.Row.{Row}
 use Rattle.schema.specs.declared.Namespace.{Namespace}
-use Rattle.schema.specs.declared.Namespace.TheVariants as Namespace
 
 -- a string against two parts one after another
 same_append : (t a b : List ℕ) → length a ≤ length t → same t (a ++ b) ≡ (same (take (length a) t) a && same (drop (length a) t) b)

@@ -10,10 +10,8 @@ use Rattle.names.specs.declared.Before.TheVariants.{Nothing, At}
 use Rattle.schema.specs.Schema.{Key, Declared, Attributes, EntityType, Action, Schema, never, nothing, ascending, type_at, attributes, entity_type, action, key_of, schema_record}
 use Rattle.schema.specs.Find.{action_type, find_entity}
 use Rattle.names.specs.declared.Found.{Found}
-use Rattle.names.specs.declared.Found.TheVariants as Found
 use Rattle.names.specs.declared.Row.{Row}
 use Rattle.schema.specs.declared.Namespace.{Namespace}
-use Rattle.schema.specs.declared.Namespace.TheVariants as Namespace
 
 -- where the byte after the string at a position stands
 abbrev pub past_word : List ℕ → ℕ → ℕ

@@ -1,12 +1,9 @@
 -- Each exit and each turn of the two records' readers. Assumes nothing.
 use mathlib.Core.Path.{◌≡◌, refl, ◌∙◌}
-use mathlib.Core.Bool.{false}
 use mathlib.Core.List.{List, [], ◌∷◌}
 use Prim.Native.Nat.{ℕ, ◌+◌, ◌≤◌, ◌<◌}
 use native.Mathlib.Omega.{arith}
 use borrow.Author.Rules.{rules}
-use borrow.Author.Tests.{ne_eqb}
-use lib.Dec.{eqb}
 use lib.ListN.{length, get_or}
 use Rattle.names.specs.declared.Read.{Read}
 use Rattle.names.specs.declared.Read.TheVariants.{Next, Refused}

@@ -1,5 +1,5 @@
 -- No text with four digits after the point and the same value is shorter than the one that is written. Assumes nothing.
-use Rattle.std.specs.Prelude.{◌≡◌, refl, List, [], ◌∷◌, Bool, cond, ◌&&◌, leb, pos, neg_ℤ}
+use Rattle.std.specs.Prelude.{◌≡◌, refl, List, [], ◌∷◌, Bool, ◌&&◌, leb, pos, neg_ℤ}
 use Rattle.std.proofs.Common.{ap, ◌∙◌, arith, pow-suc, mul_assoc, mul-le-mul_right, one-mul}
 use Rattle.std.proofs.Math.Bool.{true, false}
 use Rattle.std.proofs.lemmas.Bool.{false≢true}

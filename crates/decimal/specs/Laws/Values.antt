@@ -1,5 +1,5 @@
 -- The number that a text stands for. Assumes nothing.
-use Rattle.std.specs.Prelude.{◌≡◌, refl, List, [], ◌∷◌, Bool, true, false, cond, ℕ, ◌+◌, ◌*◌, ◌≤◌, ◌-◌, eqb}
+use Rattle.std.specs.Prelude.{List, [], ◌∷◌, Bool, true, false, cond, ℕ, ◌+◌, ◌*◌, ◌≤◌, ◌-◌, eqb}
 use Rattle.std.proofs.Common.{arith}
 use Rattle.decimal.specs.Decimal.{with_fraction, ten_thousandths}
 

@@ -1,9 +1,9 @@
 -- What is written, read: it is well formed and has the number's value. Assumes nothing.
-use Rattle.std.specs.Prelude.{◌≡◌, refl, List, [], ◌∷◌, ◌++◌, Bool, true, false, cond, ◌&&◌, ℕ, zero, suc, ◌+◌, ◌*◌, ◌-◌, ◌/◌, ◌%◌, ◌^◌, ◌≤◌, ◌<◌, eqb, leb, length, ℤ, pos, negsuc}
+use Rattle.std.specs.Prelude.{◌≡◌, refl, List, [], ◌∷◌, ◌++◌, Bool, true, false, cond, ◌&&◌, ℕ, zero, suc, ◌+◌, ◌*◌, ◌-◌, ◌/◌, ◌%◌, ◌^◌, ◌<◌, eqb, length, ℤ, pos, negsuc}
 use Rattle.std.proofs.Common.{sym, ap, ap₂, ◌∙◌, append_assoc, pow-suc}
 use Rattle.std.proofs.lemmas.Bool.{false≢true}
 use native.Mathlib.Omega.{arith}
-use borrow.Author.Tests.{le-leb, lt-leb, ne_eqb, leb-true, eqb-true}
+use borrow.Author.Tests.{le-leb, ne_eqb, eqb-true}
 use Rattle.names.specs.Lists.{every}
 use Rattle.decimal.specs.Decimal.{digit, minus, unsigned, fraction, behind_digit, begins_with_digit, well_formed, with_fraction, ten_thousandths, signed, value_of, last_digits, places, numeral, sign, shown, written, after_point}
 use Rattle.decimal.specs.Laws.Digits.{length_last, places_some, places_hold}

@@ -1,13 +1,13 @@
 -- The whole row of entity types serves every name, and so may begin each search. Assumes nothing.
 use Rattle.std.specs.Prelude.{◌≡◌, Bool, List, ℕ}
-use Rattle.std.proofs.Common.{ap, ◌∙◌}
+use Rattle.std.proofs.Common.{ap}
 use Rattle.names.specs.Lists.{first}
 use Rattle.names.specs.Names.{same}
 use Rattle.names.specs.Read.{word_at}
 use Rattle.names.specs.declared.Row.{Row}
 use Rattle.schema.specs.Schema.{EntityType}
 use Rattle.schema.specs.Find.{find_entity}
-use Rattle.schema.specs.Places.{schema_in, EntitiesOf, serves, Nearby, Near}
+use Rattle.schema.specs.Places.{EntitiesOf, serves, Nearby, Near}
 
 -- an entity type has a name
 abbrev pub is_named : List ℕ → EntityType → Bool

@@ -521,5 +521,5 @@ read_unary_met t =
     (λ c κs. search unaries)
     (λ c. search unaries)
 
-pub +read-aggregate-read-arguments-read-arith-read-binary-read-comparison-read-count-read-elements-read-exists-read-predicate-read-subcondition-read-sum-read-term-read-unary-spec : {M : Type 1} → statement M
-+read-aggregate-read-arguments-read-arith-read-binary-read-comparison-read-count-read-elements-read-exists-read-predicate-read-subcondition-read-sum-read-term-read-unary-spec = close μ-read-aggregate μ-read-arguments μ-read-arith μ-read-binary μ-read-comparison μ-read-count μ-read-elements μ-read-exists μ-read-predicate μ-read-subcondition μ-read-sum μ-read-term μ-read-unary read_aggregate_met read_arguments_met read_arith_met read_binary_met read_comparison_met read_count_met read_elements_met read_exists_met read_predicate_met read_subcondition_met read_sum_met read_term_met read_unary_met
+pub +read_aggregate_read_arguments_read_arith_read_binary_read_comparison_read_count_read_elements_read_exists_read_predicate_read_subcondition_read_sum_read_term_read_unary_spec : {M : Type 1} → statement M
++read_aggregate_read_arguments_read_arith_read_binary_read_comparison_read_count_read_elements_read_exists_read_predicate_read_subcondition_read_sum_read_term_read_unary_spec = close μ-read-aggregate μ-read-arguments μ-read-arith μ-read-binary μ-read-comparison μ-read-count μ-read-elements μ-read-exists μ-read-predicate μ-read-subcondition μ-read-sum μ-read-term μ-read-unary read_aggregate_met read_arguments_met read_arith_met read_binary_met read_comparison_met read_count_met read_elements_met read_exists_met read_predicate_met read_subcondition_met read_sum_met read_term_met read_unary_met

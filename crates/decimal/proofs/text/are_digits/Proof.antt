@@ -28,18 +28,18 @@ module _ (s : List ℕ) (i : ℕ) (inv : every digit (drop i s) ≡ every digit 
 
 ruleset steps = (rules, all, wrong, right)
 
-abbrev invariant-loop : tie.invariant-loop
-invariant-loop w i₀ i = (i ≤ length w) × (every digit (drop i w) ≡ every digit w)
+abbrev invariant-loop-i : tie.invariant-loop-i
+invariant-loop-i w i₀ i = (i ≤ length w) × (every digit (drop i w) ≡ every digit w)
 
-abbrev decreases-loop : tie.decreases-loop
-decreases-loop w i₀ i = length w - i
+abbrev decreases-loop-i : tie.decreases-loop-i
+decreases-loop-i w i₀ i = length w - i
 
 pub are_digits_spec : {M : Type 1} → statement M
 are_digits_spec =
     tie.close
     (tie.spec
-    invariant-loop
-    decreases-loop
+    invariant-loop-i
+    decreases-loop-i
     (λ c. search steps)
     (λ c. search steps)
     (λ c κs. search steps)

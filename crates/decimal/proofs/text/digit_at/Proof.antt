@@ -1,9 +1,9 @@
 -- `decimal::text::digit_at` meets its contract. Assumes nothing.
 use mathlib.Core.Path.{◌≡◌}
 use mathlib.Core.List.{List}
-use Prim.Native.Nat.{ℕ, ◌-◌, ◌≤◌, ◌<◌}
+use Prim.Native.Nat.{ℕ, ◌≤◌, ◌<◌}
 use native.Mathlib.Omega.{arith}
-use lib.ListN.{length, get_or}
+use lib.ListN.{length}
 use Rattle.names.specs.Laws.Walks.{past_end}
 use Rattle.decimal.specs.Decimal.{digit_at}
 use borrow.Author.Rules.{rules}

@@ -33,18 +33,18 @@ module _ (s : List ℕ) (i : ℕ) (inv : behind_digit (drop i s) ≡ behind_digi
 
 ruleset steps = (rules, ended, point, wrong, right)
 
-abbrev invariant-loop : tie.invariant-loop
-invariant-loop w i₀ i = (i ≤ length w) × (behind_digit (drop i w) ≡ behind_digit w)
+abbrev invariant-loop-i : tie.invariant-loop-i
+invariant-loop-i w i₀ i = (i ≤ length w) × (behind_digit (drop i w) ≡ behind_digit w)
 
-abbrev decreases-loop : tie.decreases-loop
-decreases-loop w i₀ i = length w - i
+abbrev decreases-loop-i : tie.decreases-loop-i
+decreases-loop-i w i₀ i = length w - i
 
 pub is_unsigned_spec : {M : Type 1} → statement M
 is_unsigned_spec =
     tie.close
     (tie.spec
-    invariant-loop
-    decreases-loop
+    invariant-loop-i
+    decreases-loop-i
     (λ c. search steps)
     (λ c. search steps)
     (λ c. search steps)

@@ -1,11 +1,10 @@
 -- `decimal::text::value_behind_sign` meets its contract: at `i`, the digits before it as `n` and what is left decide the value. Assumes nothing.
 use mathlib.Core.Path.{◌≡◌}
-use mathlib.Core.List.{List, [], ◌∷◌}
-use mathlib.Core.Bool.{Bool, cond}
+use mathlib.Core.List.{List, []}
+use mathlib.Core.Bool.{Bool}
 use Prim.Native.Nat.{ℕ, ◌+◌, ◌*◌, ◌≤◌, ◌<◌, ◌-◌}
 use native.Mathlib.Omega.{arith}
 use lib.ListN.{length, take, drop, get_or}
-use lib.Dec.{eqb}
 use borrow.Author.Tests.{eq-eqb, ne_eqb}
 use Rattle.names.specs.Laws.Walks.{here, done}
 use Rattle.decimal.specs.Decimal.{with_fraction, ten_thousandths, signed, held}
@@ -40,18 +39,18 @@ module _ (neg : Bool) (s : List ℕ) (i n : ℕ) (inv : ten_thousandths n (drop 
 
 ruleset steps = (rules, ended, point, turn, far)
 
-abbrev invariant-loop : tie.invariant-loop
-invariant-loop negative w n₀ i₀ n i = (i ≤ length w) × (n < 1000000000000000) × (ten_thousandths n (drop i w) ≡ ten_thousandths 0 w)
+abbrev invariant-loop-i : tie.invariant-loop-i
+invariant-loop-i negative w n₀ i₀ n i = (i ≤ length w) × (n < 1000000000000000) × (ten_thousandths n (drop i w) ≡ ten_thousandths 0 w)
 
-abbrev decreases-loop : tie.decreases-loop
-decreases-loop negative w n₀ i₀ n i = length w - i
+abbrev decreases-loop-i : tie.decreases-loop-i
+decreases-loop-i negative w n₀ i₀ n i = length w - i
 
 pub value_behind_sign_spec : {M : Type 1} → statement M
 value_behind_sign_spec =
     tie.close
     (tie.spec
-    invariant-loop
-    decreases-loop
+    invariant-loop-i
+    decreases-loop-i
     (λ c. search steps)
     (λ c. search steps)
     (λ c. search steps)

@@ -18,8 +18,8 @@ put_digits_at t = and 1 put-digits-kinds.ps (is 1 put-digits-kinds.ps μ-put-dig
 abbrev put_digits_below : ℕ → In 1 put-digits-kinds.ps
 put_digits_below t = and 1 put-digits-kinds.ps (falls 1 put-digits-kinds.ps ◌<◌ μ-put-digits t) put-digits.Pre
 
-pub +put-digits-spec : {M : Type 1} → statement M
-+put-digits-spec = close μ-put-digits λ t. put-digits-lts.spec (put_digits_below t, put-digits.Post) (put_digits_at t) put-digits.Post
+pub +put_digits_spec : {M : Type 1} → statement M
++put_digits_spec = close μ-put-digits λ t. put-digits-lts.spec (put_digits_below t, put-digits.Post) (put_digits_at t) put-digits.Post
     (λ c. search digits)
     (λ c. search digits)
     (λ c κs. (search digits, search digits))

@@ -12,8 +12,8 @@ magnitude_spec =
     (tie.spec
     (λ c κs. search steps)
     (λ c. search steps)
-    (λ c. less_cast _ c.before.before.ranges.value _ c.before.is_negative.ensures c.if1.true)
-    (λ c. one_more _ c.before.before.ranges.value _ c.before.is_negative.ensures c.if1.true)
-    (λ c. magnitude_down _ c.before.before.ranges.value _ c.before.is_negative.ensures c.if1.true)
-    (λ c. up_cast _ c.before.before.ranges.value _ c.before.is_negative.ensures c.if1.false)
+    (λ c. less_cast _ c.before.before.ranges.value _ c.before.is_negative.ensures c.if-is_negative.true)
+    (λ c. one_more _ c.before.before.ranges.value _ c.before.is_negative.ensures c.if-is_negative.true)
+    (λ c. magnitude_down _ c.before.before.ranges.value _ c.before.is_negative.ensures c.if-is_negative.true)
+    (λ c. up_cast _ c.before.before.ranges.value _ c.before.is_negative.ensures c.if-is_negative.false)
     (λ c. search steps))

@@ -27,22 +27,22 @@ first n = record { all = omega arith; few = omega arith }
 
 ruleset steps = (rules, first, ended, counted, turn)
 
-abbrev invariant-loop : tie.invariant-loop
-invariant-loop n count₀ rest₀ count rest = Counts n count rest
+abbrev invariant-loop-rest : tie.invariant-loop-rest
+invariant-loop-rest n count₀ rest₀ count rest = Counts n count rest
 
-abbrev decreases-loop : tie.decreases-loop
-decreases-loop n count₀ rest₀ count rest = rest
+abbrev decreases-loop-rest : tie.decreases-loop-rest
+decreases-loop-rest n count₀ rest₀ count rest = rest
 
-returns : tie.Need-returns invariant-loop decreases-loop
+returns : tie.Need-returns invariant-loop-rest decreases-loop-rest
 returns c =
-    ended _ _ _ c.before.loop.invariant c.loop-test.false
+    ended _ _ _ c.before.loop-rest.invariant c.loop-rest-test.false
 
 pub places_spec : {M : Type 1} → statement M
 places_spec =
     tie.close
     (tie.spec
-    invariant-loop
-    decreases-loop
+    invariant-loop-rest
+    decreases-loop-rest
     (λ c. search steps)
     (λ c. search steps)
     (λ c. search steps)

@@ -5,18 +5,18 @@ use Rattle.schema.proofs.ActionRow.{Actions, action_search}
 use Rattle.schema.proofs.find.action_among.Statement.{statement}
 use Rattle.schema.proofs.find.action_among.Tie as tie
 
-abbrev invariant-loop : tie.invariant-loop
-invariant-loop s n namespace id rest₀ at₀ rest at = Actions s (namespace_in n namespace) id (find_action (schema_in s) (namespace_in n namespace) id) rest at
+abbrev invariant-loop-rest : tie.invariant-loop-rest
+invariant-loop-rest s n namespace id rest₀ at₀ rest at = Actions s (namespace_in n namespace) id (find_action (schema_in s) (namespace_in n namespace) id) rest at
 
-abbrev decreases-loop : tie.decreases-loop
-decreases-loop s n namespace id rest₀ at₀ rest at = rest
+abbrev decreases-loop-rest : tie.decreases-loop-rest
+decreases-loop-rest s n namespace id rest₀ at₀ rest at = rest
 
 pub action_among_spec : {M : Type 1} → statement M
 action_among_spec =
     tie.close
     (tie.spec
-    invariant-loop
-    decreases-loop
+    invariant-loop-rest
+    decreases-loop-rest
     (λ c. search action_search)
     (λ c κs. search action_search)
     (λ c. search action_search)

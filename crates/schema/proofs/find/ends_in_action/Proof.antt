@@ -4,4 +4,4 @@ use Rattle.schema.proofs.find.ends_in_action.Statement.{statement}
 use Rattle.schema.proofs.find.ends_in_action.Tie as tie
 
 pub ends_in_action_spec : {M : Type 1} → statement M
-ends_in_action_spec = tie.close (tie.spec (λ c. search lefts) (λ c. search lefts) (λ c. search lefts) (λ c. search lefts) (λ c κs. search lefts) (λ c. search lefts))
+ends_in_action_spec = tie.close (tie.spec (λ c. search lefts) (λ c. search lefts) (λ c. search lefts) (λ c. search lefts) (λ c. search lefts))

@@ -9,18 +9,18 @@ use Rattle.schema.proofs.TypeNames.{PartsLeft, parts_left}
 use Rattle.schema.proofs.find.is_type_of_parts.Statement.{statement}
 use Rattle.schema.proofs.find.is_type_of_parts.Tie as tie
 
-abbrev invariant-loop : tie.invariant-loop
-invariant-loop t c rest₀ at₀ from₀ rest at from = (from ≤ length t) × PartsLeft t c (same t (action_type (joined (row_in (string_of path_name) c rest₀ at₀)))) rest at from
+abbrev invariant-loop-rest : tie.invariant-loop-rest
+invariant-loop-rest t c rest₀ at₀ from₀ rest at from = (from ≤ length t) × PartsLeft t c (same t (action_type (joined (row_in (string_of path_name) c rest₀ at₀)))) rest at from
 
-abbrev decreases-loop : tie.decreases-loop
-decreases-loop t c rest₀ at₀ from₀ rest at from = rest
+abbrev decreases-loop-rest : tie.decreases-loop-rest
+decreases-loop-rest t c rest₀ at₀ from₀ rest at from = rest
 
 pub is_type_of_parts_spec : {M : Type 1} → statement M
 is_type_of_parts_spec =
     tie.close
     (tie.spec
-    invariant-loop
-    decreases-loop
+    invariant-loop-rest
+    decreases-loop-rest
     (λ c. search parts_left)
     (λ c κs. search parts_left)
     (λ c κs. search parts_left)

@@ -17,7 +17,6 @@ past_part_spec =
     (λ c. search parts)
     (λ c. search parts)
     (λ c. search parts)
-    (λ c κs. search parts)
     (λ c. search parts)
     (λ c. search parts)
     (λ c. search parts)

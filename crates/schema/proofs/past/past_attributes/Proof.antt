@@ -7,18 +7,18 @@ use Rattle.schema.proofs.Passing.{FieldsLeft, along_fields}
 use Rattle.schema.proofs.past.past_attributes.Statement.{statement}
 use Rattle.schema.proofs.past.past_attributes.Tie as tie
 
-abbrev invariant-loop : tie.invariant-loop
-invariant-loop s left₀ at₀ left at = FieldsLeft s (ending (row attribute_at left₀ s at₀)) left at
+abbrev invariant-loop-left : tie.invariant-loop-left
+invariant-loop-left s left₀ at₀ left at = FieldsLeft s (ending (row attribute_at left₀ s at₀)) left at
 
-abbrev decreases-loop : tie.decreases-loop
-decreases-loop s left₀ at₀ left at = length s - at
+abbrev decreases-loop-left : tie.decreases-loop-left
+decreases-loop-left s left₀ at₀ left at = length s - at
 
 pub past_attributes_spec : {M : Type 1} → statement M
 past_attributes_spec =
     tie.close
     (tie.spec
-    invariant-loop
-    decreases-loop
+    invariant-loop-left
+    decreases-loop-left
     (λ c. search along_fields)
     (λ c κs. search along_fields)
     (λ c κs. search along_fields)

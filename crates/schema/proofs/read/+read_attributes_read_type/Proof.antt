@@ -42,10 +42,10 @@ read_type_below t = and 1 read-type-kinds.ps (falls 1 read-type-kinds.ps ◌<◌
 abbrev read_attributes_given : ℕ → read-attributes-lts.Claims
 read_attributes_given t = (wide-reads.Asked, wide-reads.Learnt, read-name-reads.Asked, read-name-reads.Learnt, read_type_below t, read-type.Post)
 
-abbrev read-attributes-Inv-loop : read-attributes-lts.invariant-loop
+abbrev read-attributes-Inv-loop : read-attributes-lts.invariant-loop-rest
 read-attributes-Inv-loop s start left rest₀ at₀ before₀ rest at before = ending (attributes (type_at left) s start) ≡ ending (attributes_of (type_at left) rest (earlier s before) s at)
 
-abbrev read_attributes_μ_loop : read-attributes-lts.decreases-loop
+abbrev read_attributes_μ_loop : read-attributes-lts.decreases-loop-rest
 read_attributes_μ_loop s start left rest₀ at₀ before₀ rest at before = rest
 
 read_attributes_met : {M : Type 1} (t : ℕ) → read-attributes-lts.Closed (read_attributes_given t) (read_attributes_at t) read-attributes.Post M
@@ -97,5 +97,5 @@ read_type_met t =
     (λ c. search types)
     (λ c. search types)
 
-pub +read-attributes-read-type-spec : {M : Type 1} → statement M
-+read-attributes-read-type-spec = close μ-read-attributes μ-read-type read_attributes_met read_type_met
+pub +read_attributes_read_type_spec : {M : Type 1} → statement M
++read_attributes_read_type_spec = close μ-read-attributes μ-read-type read_attributes_met read_type_met

@@ -9,18 +9,18 @@ use Rattle.schema.proofs.Rows.{actions}
 use Rattle.schema.proofs.read.read_actions.Statement.{statement}
 use Rattle.schema.proofs.read.read_actions.Tie as tie
 
-abbrev invariant-loop : tie.invariant-loop
-invariant-loop s start count rest₀ at₀ before₀ rest at before = ending (many key_of action count none s start) ≡ ending (many key_of action rest (earlier_key s before) s at)
+abbrev invariant-loop-rest : tie.invariant-loop-rest
+invariant-loop-rest s start count rest₀ at₀ before₀ rest at before = ending (many key_of action count none s start) ≡ ending (many key_of action rest (earlier_key s before) s at)
 
-abbrev decreases-loop : tie.decreases-loop
-decreases-loop s start count rest₀ at₀ before₀ rest at before = rest
+abbrev decreases-loop-rest : tie.decreases-loop-rest
+decreases-loop-rest s start count rest₀ at₀ before₀ rest at before = rest
 
 pub read_actions_spec : {M : Type 1} → statement M
 read_actions_spec =
     tie.close
     (tie.spec
-    invariant-loop
-    decreases-loop
+    invariant-loop-rest
+    decreases-loop-rest
     (λ c. search actions)
     (λ c κs. search actions)
     (λ c. search actions)

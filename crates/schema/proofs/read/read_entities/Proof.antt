@@ -8,18 +8,18 @@ use Rattle.schema.proofs.Rows.{rows}
 use Rattle.schema.proofs.read.read_entities.Statement.{statement}
 use Rattle.schema.proofs.read.read_entities.Tie as tie
 
-abbrev invariant-loop : tie.invariant-loop
-invariant-loop s start count rest₀ at₀ before₀ rest at before = ending (many (λ e. e.name) entity_type count none s start) ≡ ending (many (λ e. e.name) entity_type rest (earlier s before) s at)
+abbrev invariant-loop-rest : tie.invariant-loop-rest
+invariant-loop-rest s start count rest₀ at₀ before₀ rest at before = ending (many (λ e. e.name) entity_type count none s start) ≡ ending (many (λ e. e.name) entity_type rest (earlier s before) s at)
 
-abbrev decreases-loop : tie.decreases-loop
-decreases-loop s start count rest₀ at₀ before₀ rest at before = rest
+abbrev decreases-loop-rest : tie.decreases-loop-rest
+decreases-loop-rest s start count rest₀ at₀ before₀ rest at before = rest
 
 pub read_entities_spec : {M : Type 1} → statement M
 read_entities_spec =
     tie.close
     (tie.spec
-    invariant-loop
-    decreases-loop
+    invariant-loop-rest
+    decreases-loop-rest
     (λ c. search rows)
     (λ c κs. search rows)
     (λ c. search rows)

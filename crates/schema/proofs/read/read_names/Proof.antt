@@ -8,18 +8,18 @@ use Rattle.schema.proofs.Rows.{rows}
 use Rattle.schema.proofs.read.read_names.Statement.{statement}
 use Rattle.schema.proofs.read.read_names.Tie as tie
 
-abbrev invariant-loop : tie.invariant-loop
-invariant-loop s start rest₀ at₀ before₀ rest at before = ending (counted (ascending path_name) s start) ≡ ending (many (λ w. w) (ascending path_name) rest (earlier s before) s at)
+abbrev invariant-loop-rest : tie.invariant-loop-rest
+invariant-loop-rest s start rest₀ at₀ before₀ rest at before = ending (counted (ascending path_name) s start) ≡ ending (many (λ w. w) (ascending path_name) rest (earlier s before) s at)
 
-abbrev decreases-loop : tie.decreases-loop
-decreases-loop s start rest₀ at₀ before₀ rest at before = rest
+abbrev decreases-loop-rest : tie.decreases-loop-rest
+decreases-loop-rest s start rest₀ at₀ before₀ rest at before = rest
 
 pub read_names_spec : {M : Type 1} → statement M
 read_names_spec =
     tie.close
     (tie.spec
-    invariant-loop
-    decreases-loop
+    invariant-loop-rest
+    decreases-loop-rest
     (λ c. search rows)
     (λ c. search rows)
     (λ c κs. search rows)

@@ -58,7 +58,6 @@ read_schema_spec =
     tie.close
     (tie.spec
     (λ c. search steps)
-    (λ c κs. search steps)
     (λ c. search steps)
     (λ c. search steps)
     (λ c. search steps)

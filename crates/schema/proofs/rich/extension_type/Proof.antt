@@ -9,9 +9,7 @@ use Rattle.names.specs.Text.{text}
 use Rattle.types.specs.Types.{dated, time_type}
 use Rattle.types.specs.Meaning.{scalar_of, time_of}
 use Rattle.types.specs.declared.Scalar.{Scalar}
-use Rattle.types.specs.declared.Scalar.TheVariants as Scalar
 use Rattle.types.specs.declared.TimeType.{TimeType}
-use Rattle.types.specs.declared.TimeType.TheVariants as TimeType
 use Rattle.schema.specs.Find.{extension_type}
 use Rattle.schema.proofs.rich.extension_type.Statement.{statement}
 use Rattle.schema.proofs.rich.extension_type.Tie as tie
@@ -37,7 +35,6 @@ extension_type_spec =
     tie.close
     (tie.spec
     (λ c. search steps)
-    (λ c κs. search steps)
     (λ c. search steps)
     (λ c κs. search steps)
     (λ c. search steps)

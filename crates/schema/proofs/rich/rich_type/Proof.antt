@@ -10,18 +10,18 @@ use Rattle.schema.proofs.Bases.{riches}
 use Rattle.schema.proofs.rich.rich_type.Statement.{statement}
 use Rattle.schema.proofs.rich.rich_type.Tie as tie
 
-abbrev invariant-loop : tie.invariant-loop
-invariant-loop s at t₀ layers₀ kind₀ t layers kind = (is_type s t ≡ true) × (layers ≤ t) × KindHere s t kind × (layered layers (rich_type (type_in s t)) ≡ rich_type (type_in s at))
+abbrev invariant-loop-kind : tie.invariant-loop-kind
+invariant-loop-kind s at t₀ layers₀ kind₀ t layers kind = (is_type s t ≡ true) × (layers ≤ t) × KindHere s t kind × (layered layers (rich_type (type_in s t)) ≡ rich_type (type_in s at))
 
-abbrev decreases-loop : tie.decreases-loop
-decreases-loop s at t₀ layers₀ kind₀ t layers kind = length s - t
+abbrev decreases-loop-kind : tie.decreases-loop-kind
+decreases-loop-kind s at t₀ layers₀ kind₀ t layers kind = length s - t
 
 pub rich_type_spec : {M : Type 1} → statement M
 rich_type_spec =
     tie.close
     (tie.spec
-    invariant-loop
-    decreases-loop
+    invariant-loop-kind
+    decreases-loop-kind
     (λ c κs. search riches)
     (λ c. search riches)
     (λ c. search riches)

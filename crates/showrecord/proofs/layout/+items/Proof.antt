@@ -65,5 +65,5 @@ items_met t =
     (λ c. search rules)
     (λ c. search rules)
 
-pub +items-spec : {M : Type 1} → statement M
-+items-spec = close μ-items items_met
+pub +items_spec : {M : Type 1} → statement M
++items_spec = close μ-items items_met

@@ -5,18 +5,18 @@ use Rattle.targets.proofs.Accepted.{Ahead, positions}
 use Rattle.targets.proofs.list.target_at.Statement.{statement}
 use Rattle.targets.proofs.list.target_at.Tie as tie
 
-abbrev invariant-loop : tie.invariant-loop
-invariant-loop s position at₀ rest₀ at rest = Ahead s (target_at position (targets_in s).list) rest at
+abbrev invariant-loop-rest : tie.invariant-loop-rest
+invariant-loop-rest s position at₀ rest₀ at rest = Ahead s (target_at position (targets_in s).list) rest at
 
-abbrev decreases-loop : tie.decreases-loop
-decreases-loop s position at₀ rest₀ at rest = rest
+abbrev decreases-loop-rest : tie.decreases-loop-rest
+decreases-loop-rest s position at₀ rest₀ at rest = rest
 
 pub target_at_spec : {M : Type 1} → statement M
 target_at_spec =
     tie.close
     (tie.spec
-    invariant-loop
-    decreases-loop
+    invariant-loop-rest
+    decreases-loop-rest
     (λ c κs. search positions)
     (λ c. search positions)
     (λ c κs. search positions)

@@ -8,7 +8,6 @@ read_path_spec =
     tie.close
     (tie.spec
     (λ c. search path_whole)
-    (λ c κs. search path_whole)
     (λ c. search path_whole)
     (λ c. search path_whole)
     (λ c. search path_whole)

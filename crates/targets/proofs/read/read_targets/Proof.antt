@@ -8,7 +8,6 @@ read_targets_spec =
     tie.close
     (tie.spec
     (λ c. search targets_whole)
-    (λ c κs. search targets_whole)
     (λ c. search targets_whole)
     (λ c. search targets_whole)
     (λ c. search targets_whole)

@@ -78,5 +78,5 @@ element_type_met t =
     (λ c κs. search of_elements)
     (λ c. search of_elements)
 
-pub +array-type-element-type-spec : {M : Type 1} → statement M
-+array-type-element-type-spec = close μ-array-type μ-element-type array_type_met element_type_met
+pub +array_type_element_type_spec : {M : Type 1} → statement M
++array_type_element_type_spec = close μ-array-type μ-element-type array_type_met element_type_met

@@ -115,5 +115,5 @@ index_operand_met t =
     (λ c κs. search rules)
     (λ c. search steps)
 
-pub +index-index-operand-spec : {M : Type 1} → statement M
-+index-index-operand-spec = close μ-index μ-index-operand index_met index_operand_met
+pub +index_index_operand_spec : {M : Type 1} → statement M
++index_index_operand_spec = close μ-index μ-index-operand index_met index_operand_met
