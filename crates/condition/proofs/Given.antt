@@ -1,14 +1,14 @@
 -- What version 3 brought: each exit of its readers. Assumes nothing.
-use mathlib.Core.Path.{◌≡◌, refl, ap, ◌∙◌}
-use mathlib.Core.Bool.{Bool, true, false}
+use mathlib.Core.Path.{◌≡◌, ◌∙◌}
+use mathlib.Core.Bool.{Bool}
 use mathlib.Core.List.{List}
 use Prim.Native.Nat.{ℕ, ◌+◌, ◌-◌, ◌≤◌, ◌<◌}
 use native.Mathlib.Omega.{arith}
 use borrow.Author.Rules.{rules}
 use borrow.Author.Tests.{le-leb, lt-leb}
 use lib.ListN.{length}
-use Rattle.names.specs.Fields.{Reader, u64, i64, bytes, string_of, choose}
-use Rattle.names.specs.Names.{plain, path_name}
+use Rattle.names.specs.Fields.{Reader, u64, i64, string_of, choose}
+use Rattle.names.specs.Names.{plain}
 use Rattle.names.specs.Class.{class_of}
 use Rattle.names.specs.declared.Class.TheVariants.{Plain, PathName}
 use Rattle.names.specs.Read.{ending}

@@ -1,24 +1,24 @@
 -- Spans, slots, annotations, binders, operators, timepoints: each exit of their readers. Assumes nothing.
-use mathlib.Core.Path.{◌≡◌, refl, sym, ap, ◌∙◌}
+use mathlib.Core.Path.{◌≡◌, refl, ◌∙◌}
 use mathlib.Core.Bool.{Bool, true, false, cond}
-use mathlib.Core.List.{List, [], ◌∷◌}
-use mathlib.Core.Option.{Option, none, some}
+use mathlib.Core.List.{List}
+use mathlib.Core.Option.{none}
 use Prim.Native.Nat.{ℕ, zero, suc, ◌+◌, ◌-◌, ◌≤◌, ◌<◌}
 use native.Mathlib.Omega.{arith}
 use borrow.Author.Rules.{rules}
 use borrow.Author.Tests.{leb-true, leb-false, ne_eqb}
 use lib.Dec.{leb, eqb}
 use lib.ListN.{length, get_or, take, drop}
-use Rattle.names.specs.Fields.{Got, got, bad, Reader, next, pure, u8, u32, number, bytes, string_of, each, many, counted, choose}
-use Rattle.names.specs.Names.{plain, identifier}
+use Rattle.names.specs.Fields.{got, bad, next, pure, u8, u32, number, string_of, each, many, counted, choose}
+use Rattle.names.specs.Names.{identifier}
 use Rattle.names.specs.Class.{class_of}
 use Rattle.names.specs.declared.Class.TheVariants.{Plain, Identifier}
 use Rattle.names.specs.Read.{ending}
 use Rattle.names.specs.declared.Read.{Read}
 use Rattle.names.specs.declared.Read.TheVariants.{Next, Refused}
-use Rattle.names.specs.Laws.Readers.{u8-end, u8_got, bytes-end, bytes_got, via, last, stops, goes, alike, choice, choose_beyond, keys_up_to, Each, each_in}
+use Rattle.names.specs.Laws.Readers.{u8-end, bytes-end, bytes_got, via, last, stops, goes, alike, choice, choose_beyond, keys_up_to, Each, each_in}
 use Rattle.names.specs.Laws.Rows.{counted-end, counted_start, each_done, each_stops, each_turn}
-use Rattle.condition.specs.Condition.{Slot, timepoint, path, span, slot_kinds, slot, annotation, binder, timepoint_of}
+use Rattle.condition.specs.Condition.{timepoint, path, span, slot_kinds, slot, annotation, binder, timepoint_of}
 
 module _ (s : List ℕ) (at : ℕ) where
   u32-end : length s < at + 4 → u32 s at ≡ bad 2

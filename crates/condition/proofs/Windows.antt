@@ -8,7 +8,7 @@ use native.Mathlib.Omega.{arith}
 use borrow.Author.Rules.{rules}
 use borrow.Author.Tests.{le-leb, lt-leb, lt-ltb, le-ltb, ne_eqb}
 use lib.ListN.{length, get_or, take, drop}
-use Rattle.names.specs.Fields.{got, bad, u8, u64, bytes, number, choose}
+use Rattle.names.specs.Fields.{got, u64, number, choose}
 use Rattle.names.specs.Read.{ending}
 use Rattle.names.specs.declared.Read.{Read}
 use Rattle.names.specs.declared.Read.TheVariants.{Next, Refused}

@@ -21,7 +21,7 @@ use Rattle.nodes.specs.Offsets.{term_part}
 use Rattle.nodes.specs.Laws.Inside.{term_place, same_end}
 use Rattle.nodes.specs.Looked.{Skipped, TermKindHere}
 use Rattle.nodes.specs.Parts.{strings_at}
-use Rattle.condition.specs.Condition.{Entity, entity, given, entity_fields}
+use Rattle.condition.specs.Condition.{entity, entity_fields}
 use Rattle.condition.specs.Laws.ByKind.{var_read, path_read}
 use Rattle.nodes.specs.Laws.Views.{PartView, entity_view}
 use Rattle.nodes.specs.Laws.Given.{not_given, Said, is_given, EntityView, entity_parts}

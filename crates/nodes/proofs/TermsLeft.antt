@@ -1,6 +1,6 @@
 -- The aggregates and the leaves of terms in a row, one after another, and the aggregates of a comparison's operands. Assumes nothing.
 use mathlib.Core.Path.{◌≡◌, refl, sym, ap, ◌∙◌}
-use mathlib.Core.Bool.{true, false}
+use mathlib.Core.Bool.{true}
 use mathlib.Core.List.{List, [], ◌∷◌, ◌++◌, append_assoc, append-nil}
 use mathlib.Core.Option.{Option}
 use Prim.Native.Nat.{ℕ, zero, suc, ◌+◌, ◌-◌, ◌≤◌, ◌<◌}
@@ -16,7 +16,7 @@ use Rattle.names.specs.Laws.Rows.{Opens, opens, row_cons, row_empty}
 use Rattle.condition.specs.Condition.{Span, Operator, Condition, Term, ArithOp, Aggregate, comparison, entity, literal, context_field, scope_field, var, wildcard, array, aggregate, sigil}
 use Rattle.condition.specs.Condition as tree
 use Rattle.condition.specs.Walk.{operand_aggregates}
-use Rattle.condition.specs.Places.{term_here, is_condition, condition_in, is_term, term_in, aggregate_in}
+use Rattle.condition.specs.Places.{term_here, is_condition, condition_in, is_term, term_in}
 use Rattle.nodes.specs.Kinds.{kind_of, span_of, term_kind_of}
 use Rattle.nodes.specs.Offsets.{first_part, term_part, left_part}
 use Rattle.nodes.specs.Laws.Inside.{place_compared, left_place, aggregate_inside}

@@ -5,18 +5,18 @@ use mathlib.Core.List.{List}
 use Prim.Native.Nat.{ℕ, ◌+◌, ◌*◌, ◌≤◌, ◌<◌}
 use native.Mathlib.Omega.{arith}
 use borrow.Author.Rules.{rules}
-use borrow.Author.Tests.{le-leb, lt-leb, eq-eqb, ne_eqb, ltb-true, eqb-true, eqb-false}
+use borrow.Author.Tests.{le-leb, lt-leb, ne_eqb, ltb-true, eqb-true, eqb-false}
 use lib.Dec.{ltb, leb, eqb}
 use lib.ListN.{length, get_or, take, drop}
 use Rattle.names.specs.Fields.{got, number}
 use Rattle.names.specs.Read.{accepted, value_or}
 use Rattle.names.specs.Laws.Readers.{Accepted, accept, is_accepted, has_value}
 use Rattle.names.specs.Laws.Words.{WordAt}
-use Rattle.condition.specs.Condition.{Window, unsaid, seconds, parameter, signed_bound, fits, seconds_of, window, Condition, One, negation, formerly, previous, refine, Two, and, or, since, one, two, predicate, comparison, exists, tp, opaque}
+use Rattle.condition.specs.Condition.{unsaid, seconds, signed_bound, fits, seconds_of, window, Condition, negation, formerly, previous, refine, and, or, since, one, two, predicate, comparison, exists, tp, opaque}
 use Rattle.condition.specs.Places.{version_in, is_condition, condition_in, is_window, window_in, UnitOf}
 use Rattle.nodes.specs.declared.WindowAt.TheVariants.{Unsaid, Parameter, Seconds}
 use Rattle.nodes.specs.declared.WindowAt.{WindowAt}
-use Rattle.nodes.specs.Kinds.{kind_of, window_of, one_window, two_window, one_kind, two_kind, window_kind}
+use Rattle.nodes.specs.Kinds.{kind_of, window_of, one_kind, two_kind, window_kind}
 use Rattle.nodes.specs.Offsets.{window_length, behind_span}
 use Rattle.nodes.specs.Parts.{window_from, WindowHere}
 use Rattle.nodes.specs.Laws.Windows.{SecondsView, seconds_view, window_none, WindowView, window_view, Said, window_said}

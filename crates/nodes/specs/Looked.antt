@@ -1,5 +1,5 @@
 -- What is known at a position of an accepted record once the code has looked there.
-use Rattle.std.specs.Prelude.{◌≡◌, true, false, List, [], ◌∷◌, ◌++◌, ℕ, ◌+◌, ◌≤◌, ◌<◌, length}
+use Rattle.std.specs.Prelude.{◌≡◌, true, List, [], ◌∷◌, ◌++◌, ℕ, ◌+◌, ◌≤◌, ◌<◌, length}
 use Rattle.std.proofs.Math.Option.{Option}
 use Rattle.names.specs.Fields.{Got}
 use Rattle.names.specs.Read.{ending}

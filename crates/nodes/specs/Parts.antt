@@ -1,5 +1,5 @@
 -- The parts of what stands at a position of an accepted record, as the code hands them out.
-use Rattle.std.specs.Prelude.{◌≡◌, Bool, true, false, List, [], ◌∷◌, ◌++◌, ℕ, ◌+◌, ◌-◌, ◌≤◌, ◌<◌, get_or, take, drop}
+use Rattle.std.specs.Prelude.{◌≡◌, Bool, true, List, [], ◌∷◌, ◌++◌, ℕ, ◌+◌, ◌-◌, ◌≤◌, ◌<◌, get_or, take, drop}
 use Rattle.std.proofs.Math.Option.{Option, none, some}
 use Rattle.names.specs.Lists.{gather}
 use Rattle.names.specs.Fields.{Reader, number, string_of, each, counted}
@@ -21,7 +21,6 @@ use Rattle.nodes.specs.declared.Bound.TheVariants.{Segments, Timepoint, Nothing}
 use Rattle.nodes.specs.declared.NextAggregate.{NextAggregate}
 use Rattle.nodes.specs.declared.NextAggregate.TheVariants.{At, Done}
 use Rattle.nodes.specs.declared.NextLeaf.{NextLeaf}
-use Rattle.nodes.specs.declared.NextLeaf.TheVariants as NextLeaf
 use Rattle.condition.specs.Condition.{Span, ArithOp, Window, unsaid, seconds, parameter, Slot, named, param_ref, binder_ref, Annotation, timepoint, path, Binder, Operator, Condition, Term, Aggregate, predicate, comparison, tp, argument, entity, literal, context_field, scope_field, var, wildcard, array, aggregate, arith, sigil, cons, sum, binder}
 use Rattle.condition.specs.Walk.{reached, reached_body, operand_aggregates, declared_by}
 use Rattle.condition.specs.Places.{condition_here, term_here, is_condition, condition_in, is_term, term_in, aggregate_at, is_aggregate, aggregate_in, is_arguments, arguments_in, is_elements, elements_in, is_path, path_in, is_slot, slot_in}

@@ -1,13 +1,13 @@
 -- What a narrowing admits, and the passes over the entity types of a side. Assumes nothing.
 use mathlib.Core.Path.{◌≡◌, refl, sym, ap, ◌∙◌}
-use mathlib.Core.Bool.{Bool, true, false, cond, ◌&&◌, ◌||◌}
+use mathlib.Core.Bool.{Bool, true, false, cond, ◌||◌}
 use mathlib.Core.List.{List, [], ◌∷◌}
 use mathlib.Core.Option.{Option, none, some}
 use Prim.Native.Nat.{ℕ, ◌+◌, ◌-◌, ◌≤◌, ◌<◌}
 use native.Mathlib.Omega.{arith}
 use lib.ListN.{length, get_or}
 use borrow.Author.Rules.{rules}
-use Rattle.names.specs.Lists.{maybe, any_of, select}
+use Rattle.names.specs.Lists.{any_of, select}
 use Rattle.names.specs.Fields.{string_of}
 use Rattle.names.specs.Names.{path_name, same, simple_name}
 use Rattle.names.specs.Read.{word_at, Listed}
@@ -16,26 +16,21 @@ use Rattle.types.specs.Meaning.{tag_of, layered, rich_of}
 use Rattle.types.specs.Laws.Texts.{layers_in, tag_in, Small}
 use Rattle.types.specs.declared.Tag.{Tag}
 use Rattle.types.specs.declared.Base.TheVariants as Base
-use Rattle.schema.specs.Schema.{Schema, EntityType, Action}
+use Rattle.schema.specs.Schema.{Schema}
 use Rattle.schema.specs.Find.{find_entity}
 use Rattle.schema.specs.Places.{schema_in, is_entity, entity_in, action_in, FindsEntity, Nearby, Near}
 use Rattle.schema.specs.Laws.Nearby.{nearby_all, near_word}
 use Rattle.names.specs.declared.Found.{Found}
-use Rattle.names.specs.declared.Found.TheVariants as Found
 use Rattle.names.specs.declared.Row.{Row}
-use Rattle.targets.specs.Targets.{Narrowing, Scope}
+use Rattle.targets.specs.Targets.{Narrowing}
 use Rattle.targets.specs.Places.{narrowed, targets_in}
 use Rattle.targets.specs.declared.Narrowed.{Narrowed}
-use Rattle.targets.specs.declared.Narrowed.TheVariants as Narrowed
 use Rattle.resolution.specs.Resolution.{ancestors_of, admits, admitted_by, side_admits, admitted, admits_any_env, entity_of, scope_type}
-use Rattle.resolution.specs.Places.{are_types, types_in, is_absent, Nearer, next_in, Follows, next_follows, NextOf, NextNearOf, NextPlaced, typed_of, small_type}
+use Rattle.resolution.specs.Places.{are_types, types_in, is_absent, Nearer, Follows, NextOf, NextNearOf, NextPlaced, typed_of, small_type}
 use Rattle.resolution.specs.Laws.Sizes.{Bytes, simple_short, word_short}
 use Rattle.resolution.specs.declared.Next.{Next}
-use Rattle.resolution.specs.declared.Next.TheVariants as Next
 use Rattle.resolution.specs.declared.NextNear.{NextNear}
-use Rattle.resolution.specs.declared.NextNear.TheVariants as NextNear
 use Rattle.resolution.specs.declared.Typed.{Typed}
-use Rattle.resolution.specs.declared.Typed.TheVariants as Typed
 
 -- A type is the one named, or lists it among its ancestors.
 module _ (s name group : List ℕ) (b : Bool) (is_b : b ≡ same name group) where

@@ -16,19 +16,15 @@ use Rattle.schema.specs.Find.{find_entity}
 use Rattle.schema.specs.Places.{schema_in, is_entity, entity_in, FindsEntity}
 use Rattle.schema.specs.Laws.Nearby.{nearby_all}
 use Rattle.names.specs.declared.Found.{Found}
-use Rattle.names.specs.declared.Found.TheVariants as Found
 use Rattle.names.specs.declared.Row.{Row}
 use Rattle.targets.specs.Targets.{Narrowing}
 use Rattle.resolution.specs.Resolution as Resolution
 use Rattle.resolution.specs.Resolution.{OnType, ambiguous, unknown, typed, types_of, failed, agreed, failure, verdict, on_entity, on_types_by, on_types, declared_all, admitted_by, admitted, scope_path_by, scope_path, renderings}
-use Rattle.resolution.specs.Places.{are_segments, segments_in, Behind, are_types, types_in, next_in, Follows, next_follows, NextOf, next_of, NextPlaced, end_of, small_end, small_path}
+use Rattle.resolution.specs.Places.{are_segments, segments_in, Behind, are_types, types_in, Follows, NextPlaced, end_of, small_end, small_path}
 use Rattle.resolution.specs.Passes.{scope_of, briefly, end_alone, end_beside, end_among, with_end, alone_of, among_of}
 use Rattle.resolution.specs.declared.NextNear.{NextNear}
-use Rattle.resolution.specs.declared.NextNear.TheVariants as NextNear
 use Rattle.resolution.specs.declared.PathEnd.{PathEnd}
-use Rattle.resolution.specs.declared.PathEnd.TheVariants as PathEnd
 use Rattle.resolution.specs.declared.ScopePath.{ScopePath}
-use Rattle.resolution.specs.declared.ScopePath.TheVariants as ScopePath
 use Rattle.resolution.specs.Laws.Segments.{no_segments}
 
 -- One more entity type, in the code's answers.

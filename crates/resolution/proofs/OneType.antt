@@ -23,9 +23,7 @@ use Rattle.resolution.specs.Resolution as Resolution
 use Rattle.resolution.specs.Resolution.{head_missing, nested_missing, nested, descend, resolve_in_by, resolve_in, projection, unattributed, on_entity_by, on_entity}
 use Rattle.resolution.specs.Places.{are_segments, segments_in, resolution_of, end_of, small_resolution, small_end}
 use Rattle.resolution.specs.declared.PathResolution.{PathResolution}
-use Rattle.resolution.specs.declared.PathResolution.TheVariants as PathResolution
 use Rattle.resolution.specs.declared.PathEnd.{PathEnd}
-use Rattle.resolution.specs.declared.PathEnd.TheVariants as PathEnd
 use Rattle.resolution.specs.Laws.Segments.{first_segment, no_segments}
 
 -- `id` and `type`

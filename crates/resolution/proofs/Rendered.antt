@@ -1,17 +1,17 @@
 -- The pass that finds the type whose text is the next, and what it lists. Assumes nothing.
 use mathlib.Core.Path.{◌≡◌, refl, sym, ap, ◌∙◌}
-use mathlib.Core.Bool.{Bool, true, false, cond, ◌&&◌}
+use mathlib.Core.Bool.{Bool, true, false}
 use mathlib.Core.List.{List, [], ◌∷◌}
 use mathlib.Core.Option.{Option, none, some}
 use Prim.Native.Nat.{ℕ, ◌+◌, ◌≤◌, ◌<◌}
 use native.Mathlib.Omega.{arith}
 use lib.ListN.{length, take}
 use borrow.Author.Rules.{rules}
-use Rattle.names.specs.Lists.{maybe, select}
+use Rattle.names.specs.Lists.{select}
 use Rattle.names.specs.Names.{below}
 use Rattle.names.specs.Read.{word_at}
 use Rattle.names.specs.Writer.{Stored}
-use Rattle.names.specs.Laws.Writers.{stored_text, stored_length}
+use Rattle.names.specs.Laws.Writers.{stored_text}
 use Rattle.types.specs.Types.{Ty, render}
 use Rattle.types.specs.Laws.Texts.{Small, text_bound}
 use Rattle.types.specs.Meaning.{rich_of}
@@ -21,19 +21,14 @@ use Rattle.schema.specs.Schema.{Schema}
 use Rattle.schema.specs.Find.{find_entity}
 use Rattle.schema.specs.Places.{schema_in, is_entity, entity_in, FindsEntity}
 use Rattle.names.specs.declared.Found.{Found}
-use Rattle.names.specs.declared.Found.TheVariants as Found
 use Rattle.names.specs.declared.Row.{Row}
 use Rattle.targets.specs.Targets.{Narrowing}
-use Rattle.resolution.specs.Resolution as Resolution
 use Rattle.resolution.specs.Resolution.{typed, on_entity, admitted_by, renderings}
-use Rattle.resolution.specs.Places.{are_segments, segments_in, Behind, are_types, types_in, next_in, Follows, next_follows, NextOf, next_of, NextPlaced, end_of, typed_of, small_end, small_type}
+use Rattle.resolution.specs.Places.{are_segments, segments_in, Behind, are_types, types_in, Follows, NextPlaced, end_of, typed_of, small_end, small_type}
 use Rattle.resolution.specs.Passes.{rendered, above, under, closest, type_on, types_on, renderings_on, next_rendered, end_type}
 use Rattle.resolution.specs.declared.NextNear.{NextNear}
-use Rattle.resolution.specs.declared.NextNear.TheVariants as NextNear
 use Rattle.resolution.specs.declared.PathEnd.{PathEnd}
-use Rattle.resolution.specs.declared.PathEnd.TheVariants as PathEnd
 use Rattle.resolution.specs.declared.Typed.{Typed}
-use Rattle.resolution.specs.declared.Typed.TheVariants as Typed
 use Rattle.resolution.specs.Laws.Segments.{no_segments}
 use Rattle.resolution.proofs.Texts.{picked, picked_next}
 

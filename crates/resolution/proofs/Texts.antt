@@ -3,16 +3,15 @@ use mathlib.Core.Path.{◌≡◌, refl, sym, ap, ◌∙◌}
 use mathlib.Core.Bool.{Bool, true, false, cond, ◌&&◌, false≢true}
 use mathlib.Core.List.{List, [], ◌∷◌}
 use mathlib.Core.Option.{Option, none, some}
-use Prim.Native.Nat.{ℕ, ◌-◌}
+use Prim.Native.Nat.{ℕ}
 use native.Mathlib.Omega.{arith}
-use lib.Dec.{eqb}
 use Rattle.names.specs.Lists.{maybe, first, every, select}
 use Rattle.names.specs.Names.{same, below, order}
 use Rattle.names.specs.Laws.Names.{and_left, and_right, same_eq, below_order, order_refl, order_flip, below_trans}
 use Rattle.types.specs.Types.{Ty, render}
 use Rattle.schema.specs.Schema.{Schema}
 use Rattle.resolution.specs.Resolution.{insert, renderings}
-use Rattle.resolution.specs.Passes.{rendered, above, under, closest, type_on, types_on, next_rendered}
+use Rattle.resolution.specs.Passes.{rendered, above, closest, type_on, types_on, next_rendered}
 
 -- The order of texts.
 module _ (x y : List ℕ) where

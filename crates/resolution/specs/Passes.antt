@@ -12,10 +12,8 @@ use Rattle.targets.specs.Targets.{Narrowing}
 use Rattle.resolution.specs.Resolution as Resolution
 use Rattle.resolution.specs.Resolution.{PathEnd, missing_at, typed, on_entity, admitted_by, renderings}
 use Rattle.resolution.specs.declared.ScopePath.{ScopePath}
-use Rattle.resolution.specs.declared.ScopePath.TheVariants as ScopePath
 use Rattle.resolution.specs.declared.PathEnd as declared
 use Rattle.resolution.specs.declared.Typed.{Typed}
-use Rattle.resolution.specs.declared.Typed.TheVariants as Typed
 use Rattle.resolution.specs.declared.PathEnd.TheVariants as End
 
 -- document 01's numbers of the answers

@@ -11,18 +11,12 @@ use Rattle.types.specs.Meaning.{rich_of}
 use Rattle.names.specs.declared.Row.{Row}
 use Rattle.schema.specs.Places.{Nearby, Near}
 use Rattle.targets.specs.declared.Narrowed.{Narrowed}
-use Rattle.targets.specs.declared.Narrowed.TheVariants as Narrowed
 use Rattle.resolution.specs.Resolution as Resolution
 use Rattle.resolution.specs.declared.Next.{Next}
-use Rattle.resolution.specs.declared.Next.TheVariants as Next
 use Rattle.resolution.specs.declared.NextNear.{NextNear}
-use Rattle.resolution.specs.declared.NextNear.TheVariants as NextNear
 use Rattle.resolution.specs.declared.Typed.{Typed}
-use Rattle.resolution.specs.declared.Typed.TheVariants as Typed
 use Rattle.resolution.specs.declared.PathResolution.{PathResolution}
-use Rattle.resolution.specs.declared.PathResolution.TheVariants as PathResolution
 use Rattle.resolution.specs.declared.PathEnd.{PathEnd}
-use Rattle.resolution.specs.declared.PathEnd.TheVariants as PathEnd
 
 -- the segments of a path, so many plain strings from a position
 abbrev pub are_segments : List ℕ → Row → Bool

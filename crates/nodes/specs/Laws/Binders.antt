@@ -1,5 +1,5 @@
 -- A binder is a slot and an annotation; what an annotation binds. Assumes nothing.
-use Rattle.std.specs.Prelude.{◌≡◌, refl, Bool, true, false, cond, List, ℕ, ◌+◌, ◌-◌, ◌<◌, eqb, length, get_or}
+use Rattle.std.specs.Prelude.{◌≡◌, refl, Bool, true, false, cond, List, ℕ, ◌+◌, ◌<◌, eqb, length, get_or}
 use Rattle.std.proofs.Math.Path.{sym, ap}
 use Rattle.std.proofs.Common.{◌∙◌, rules, eq-eqb, ne_eqb, eqb-true}
 use Rattle.std.proofs.lemmas.Bool.{false≢true, eqb-false}
@@ -10,8 +10,7 @@ use Rattle.names.specs.Names.{identifier}
 use Rattle.names.specs.Read.{word_at}
 use Rattle.names.specs.Laws.Readers.{split, u8_view, u8_got, is_accepted, has_value, got_value}
 use Rattle.nodes.specs.declared.Bound.TheVariants.{Segments, Timepoint, Nothing}
-use Rattle.condition.specs.Condition.{Slot, named, Annotation, timepoint, path, Binder, Condition, slot, annotation, binder}
-use Rattle.condition.specs.Condition as tree
+use Rattle.condition.specs.Condition.{Slot, named, Annotation, timepoint, path, Binder, slot, annotation, binder}
 use Rattle.condition.specs.Walk.{has_name}
 use Rattle.condition.specs.Places.{is_slot, slot_in, is_annotation, annotation_in, is_binder, binder_in}
 use Rattle.nodes.specs.Looked.{Skipped}

@@ -3,7 +3,7 @@
 --     leaves-gather            what an Arith has of its left, then of its right, its leaves have one after the other
 --     one-term, one-leaves     a term by itself is a row of one, and has its leaves
 --     leaf-next ..             what a walk over the leaves learns of the next one
-use Rattle.std.specs.Prelude.{◌≡◌, refl, true, false, ℕ, ◌<◌, length}
+use Rattle.std.specs.Prelude.{◌≡◌, refl, true, ℕ, ◌<◌, length}
 use Rattle.std.proofs.Math.Path.{sym, ap, ap₂}
 use Rattle.std.proofs.Common.{◌∙◌, arith}
 use mathlib.Core.List.{List, [], ◌∷◌, ◌++◌, append-nil}
@@ -19,7 +19,6 @@ use Rattle.condition.specs.Places.{term_here, is_term, term_in}
 use Rattle.nodes.specs.Kinds.{term_kind_of}
 use Rattle.nodes.specs.declared.Several.{Several}
 use Rattle.nodes.specs.declared.NextLeaf.{NextLeaf}
-use Rattle.nodes.specs.declared.NextLeaf.TheVariants as NextLeaf
 use Rattle.nodes.specs.Parts.{is_terms, operand_leaves, leaves_in, LeafNext, NextLeafIs}
 use Rattle.nodes.specs.Laws.Opens.{term_stands}
 

@@ -5,24 +5,22 @@ use Rattle.std.proofs.Common.{◌∙◌, sub-one, rules}
 use native.Mathlib.Omega.{arith}
 use Rattle.std.proofs.Math.ListN.{get_or}
 use Rattle.names.specs.declared.Read.{Read}
-use Rattle.names.specs.Fields.{got, Reader, u8, number, string_of, each, counted, choose, levels}
+use Rattle.names.specs.Fields.{got, Reader, u8, string_of, each, counted, choose, levels}
 use Rattle.names.specs.Names.{plain, path_name, identifier, last_of}
 use Rattle.names.specs.Paths.{path_of}
 use Rattle.names.specs.Read.{ending, accepted, value_or, word_at, row, Listed}
 use Rattle.names.specs.Laws.Readers.{split, u8_view, accept, is_accepted, has_value, got_value, got_place, string_view, Each, keys_up_to}
 use Rattle.names.specs.Laws.Rows.{counted_view, listed, Opens, opens, Remaining, row_empty}
-use Rattle.names.specs.Laws.Walks.{here}
 use Rattle.nodes.specs.declared.Ends.{Ends}
 use Rattle.nodes.specs.declared.SlotAt.{SlotAt}
 use Rattle.nodes.specs.declared.SlotAt.TheVariants.{Named, ParamRef, BinderRef}
-use Rattle.condition.specs.Condition.{Span, Slot, named, binder_ref, Binder, Condition, Term, Terms, Arguments, Aggregate, predicate, tp, no_argument, argument, context_field, scope_field, var, array, nil, cons, sum, slot_kinds, slot, binder, span, operator, arguments, argument_list, elements, element_list, condition_at, term_at}
-use Rattle.condition.specs.Condition as tree
+use Rattle.condition.specs.Condition.{Span, Slot, named, binder_ref, Binder, Condition, Term, Terms, Arguments, Aggregate, predicate, tp, no_argument, argument, context_field, scope_field, var, array, nil, cons, sum, slot_kinds, slot, binder, span, arguments, argument_list, elements, element_list, condition_at, term_at}
 use Rattle.condition.specs.Walk.{reached, reached_body, declared_by}
 use Rattle.condition.specs.Places.{version_in, term_here, is_condition, condition_in, is_term, term_in, is_aggregate, aggregate_in, is_arguments, arguments_in, is_elements, elements_in, is_path, path_in, is_slot, slot_in, arguments_at, elements_at}
 use Rattle.nodes.specs.Offsets.{first_part, term_part, left_part, aggregate_part}
 use Rattle.nodes.specs.Laws.Inside.{same_end, ended, place_other, place_compared, compared_inside, added_inside}
 use Rattle.nodes.specs.Kinds.{kind_of, span_of, own_span_of, term_kind_of, aggregate_kind_of, aggregate_span_of}
-use Rattle.nodes.specs.Looked.{place_of, Skipped, KindHere, TermKindHere, AggregateKindHere, ComparedHere, BodyHere}
+use Rattle.nodes.specs.Looked.{place_of, Skipped, TermKindHere, AggregateKindHere, ComparedHere, BodyHere}
 use Rattle.nodes.specs.Parts.{EndsHere, Spans, ComparisonHere, ArithHere, PredicateHere, ArgumentHere, TimepointHere, ElementsHere, ElementHere, PathHere, SummandHere, binders_in, BindersHere, slot_of, segments_in, SegmentsHere, SlotHere}
 use Rattle.condition.specs.Laws.Sizes.{forward_counted, forward_string, forward_path, one_term}
 use Rattle.condition.specs.Laws.Levels.{term_anywhere}

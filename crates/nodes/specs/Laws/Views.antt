@@ -1,6 +1,6 @@
 -- Accepted bytes taken apart: what stands at the parts of a condition, a term, an aggregate, a list, by the byte of its kind. A part is read with all
 -- 32 levels, as a position denotes it, and in the version of the whole. Assumes nothing.
-use Rattle.std.specs.Prelude.{◌≡◌, Bool, cond, List, ℕ, ◌+◌, ◌-◌, ◌≤◌, ◌<◌, eqb, length, get_or, take, drop}
+use Rattle.std.specs.Prelude.{◌≡◌, Bool, cond, List, ℕ, ◌+◌, ◌≤◌, ◌<◌, eqb, length, get_or, take, drop}
 use Rattle.std.proofs.Math.Path.{refl, sym, ap}
 use Rattle.std.proofs.Common.{◌∙◌}
 use Rattle.std.proofs.Math.Bool.{true, false}
@@ -15,7 +15,7 @@ use Rattle.names.specs.Laws.Readers.{split, u8_view, bytes_view, got_value, got_
 use Rattle.condition.specs.Condition.{Span, Slot, Condition, Term, Arguments, Aggregate, Operator, Binder, Window, One, Two, one, two, predicate, comparison, exists, tp, opaque, negation, formerly, previous, refine, and, or, since, le, lt, ge, gt, eq, not_eq, integer, decimal, string, bool, entity, literal, context_field, scope_field, var, wildcard, array, aggregate, sigil, sum, count, call, span, slot, operators, operator, binder, window, ArithOp, given, truth, arith_op, entity_fields, timepoint_of, argument_list, element_list, unary, binary, predicate_of, comparison_of, exists_of, condition_kinds, sum_of, count_of, aggregate_kinds, aggregate_of, arith_of, term_kinds, condition_at, term_at}
 use Rattle.condition.specs.Condition as tree
 use Rattle.nodes.specs.Kinds.{kind_of, span_of, term_kind_of, aggregate_kind_of, aggregate_span_of, operator_number, one_number, two_number, one_window, two_window, two_kind, one_kind, window_kind}
-use Rattle.nodes.specs.Offsets.{window_length, behind_span, op_length}
+use Rattle.nodes.specs.Offsets.{behind_span, op_length}
 use Rattle.nodes.specs.Laws.Choices.{by_kind, no_value}
 use Rattle.nodes.specs.Laws.Windows.{window_place}
 use Rattle.nodes.specs.Laws.Given.{op_place}

@@ -2,7 +2,7 @@
 use Rattle.std.specs.Prelude.{◌≡◌, refl, Bool, true, false, cond, List, ℕ, ◌+◌, ◌*◌, ◌≤◌, ◌<◌, leb, eqb, length, get_or, take, drop}
 use Rattle.std.proofs.Math.Path.{sym}
 use Rattle.std.proofs.Common.{ap, ◌∙◌, arith}
-use Rattle.names.specs.Fields.{Got, got, next, pure, u8, u64, bytes, number, choose}
+use Rattle.names.specs.Fields.{got, next, u8, u64, bytes, number, choose}
 use Rattle.names.specs.Laws.Readers.{split, held, u8_view, bytes_view, got_value, got_place, Each, keys_up_to}
 use Rattle.condition.specs.Condition.{Window, unsaid, seconds, parameter, units, fits, amount_of, seconds_of, window_kinds, window}
 use Rattle.condition.specs.Places.{UnitOf}

@@ -6,29 +6,22 @@ use Rattle.std.proofs.Math.Bool.{true, false, cond}
 use mathlib.Core.List.{List, [], ◌∷◌}
 use Rattle.std.proofs.Math.Option.{Option, none, some}
 use native.Mathlib.Omega.{arith}
-use Rattle.names.specs.Lists.{maybe, first, every, select}
+use Rattle.names.specs.Lists.{select}
 use Rattle.names.specs.Names.{same}
-use Rattle.names.specs.Laws.Names.{same_eq}
 use Rattle.names.specs.Read.{word_at}
-use Rattle.types.specs.Types.{Ty, same_type}
 use Rattle.types.specs.declared.Rich.{Rich}
-use Rattle.schema.specs.Schema.{Schema, EntityType}
+use Rattle.schema.specs.Schema.{Schema}
 use Rattle.schema.specs.Find.{find_entity}
 use Rattle.schema.specs.Places.{schema_in, is_entity, entity_in, FindsEntity}
 use Rattle.names.specs.declared.Found.{Found}
-use Rattle.names.specs.declared.Found.TheVariants as Found
 use Rattle.names.specs.declared.Row.{Row}
 use Rattle.targets.specs.Targets.{Narrowing}
-use Rattle.resolution.specs.Resolution as Resolution
-use Rattle.resolution.specs.Resolution.{OnType, ambiguous, unknown, failed, missing_at, names_of, types_of, agreed, failure, verdict, on_entity, on_types, declared_all, admitted_by, admitted, scope_path, renderings}
-use Rattle.resolution.specs.Places.{are_segments, segments_in, Behind, are_types, types_in, next_in, Follows, next_follows, NextOf, next_of, NextPlaced, end_of}
-use Rattle.resolution.specs.Passes.{briefly, listed, fails_at, failing}
+use Rattle.resolution.specs.Resolution.{missing_at, on_entity, admitted_by}
+use Rattle.resolution.specs.Places.{are_segments, segments_in, Behind, are_types, types_in, next_in, Follows, NextOf, next_of, NextPlaced, end_of}
+use Rattle.resolution.specs.Passes.{fails_at, failing}
 use Rattle.resolution.specs.declared.Next.{Next}
-use Rattle.resolution.specs.declared.Next.TheVariants as Next
 use Rattle.resolution.specs.declared.NextNear.{NextNear}
-use Rattle.resolution.specs.declared.NextNear.TheVariants as NextNear
 use Rattle.resolution.specs.declared.PathEnd.{PathEnd}
-use Rattle.resolution.specs.declared.PathEnd.TheVariants as PathEnd
 use Rattle.resolution.specs.Laws.Segments.{no_segments}
 
 -- the test on one end

@@ -6,25 +6,22 @@ use Rattle.std.proofs.Math.Option.{Option, none, some}
 use Rattle.names.specs.Lists.{maybe}
 use Rattle.names.specs.Fields.{string_of}
 use Rattle.names.specs.Names.{plain}
-use Rattle.names.specs.Read.{word_at, Listed, row_in}
+use Rattle.names.specs.Read.{word_at}
 use Rattle.names.specs.Laws.Rows.{Remaining, remaining_all, remaining_over, StringsLeft, strings_left}
 use Rattle.types.specs.Meaning.{rich_of}
 use Rattle.types.specs.Laws.Texts.{Small}
 use Rattle.types.specs.declared.Rich.{Rich}
-use Rattle.schema.specs.Schema.{Declared, Attributes, Action}
+use Rattle.schema.specs.Schema.{Declared}
 use Rattle.schema.specs.Find.{find_attribute, fields_of, rich_type}
 use Rattle.schema.specs.Places.{type_in, is_type, fields_in, are_fields, action_in, Finds, FindsFields, Standing}
 use Rattle.names.specs.declared.Found.{Found}
-use Rattle.names.specs.declared.Found.TheVariants as Found
 use Rattle.names.specs.declared.Row.{Row}
 use Rattle.resolution.specs.Resolution as Resolution
 use Rattle.resolution.specs.Resolution.{nested, descend_by, descend, resolve_in_by, resolve_in, context_path_by, context_path, context_type_by, context_type, type_at_end}
 use Rattle.resolution.specs.Places.{are_segments, segments_in, Behind, resolution_of, typed_of, leaf_of, small_resolution, small_type}
 use Rattle.resolution.specs.Laws.Sizes.{Bytes, type_small}
 use Rattle.resolution.specs.declared.PathResolution.{PathResolution}
-use Rattle.resolution.specs.declared.PathResolution.TheVariants as PathResolution
 use Rattle.resolution.specs.declared.Typed.{Typed}
-use Rattle.resolution.specs.declared.Typed.TheVariants as Typed
 
 -- what is left of a path, n segments from `at` and on from the type at `t`, ends as the whole does
 pub record Left (s c : List ℕ) (o : Resolution.PathResolution) (n at t : ℕ) : Type 0 where

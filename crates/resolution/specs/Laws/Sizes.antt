@@ -1,13 +1,13 @@
 -- The types of a schema are small: at most so many layers as levels, and tags of at most 255 bytes. Assumes nothing.
 use Rattle.std.proofs.Math.Path.{◌≡◌, refl}
-use Rattle.std.proofs.Common.{sym, ap, ◌∙◌, arith, length-append, Fits}
-use Rattle.std.specs.Prelude.{Bool, List, [], ◌∷◌, ◌++◌, length, get_or, drop}
+use Rattle.std.proofs.Common.{ap, arith, length-append, Fits}
+use Rattle.std.specs.Prelude.{Bool, List, [], length, get_or, drop}
 use Rattle.std.proofs.Math.Bool.{true, false, cond}
 use Prim.Native.Nat.{ℕ, zero, suc, ◌+◌, ◌≤◌, ◌<◌}
 use borrow.Author.Tests.{leb-true, leb-false}
 use Rattle.std.proofs.Math.Dec.{leb}
 use Rattle.std.specs.Int.{w8}
-use Rattle.names.specs.Fields.{Got, got, bad, u8, choose, refuse, string_of, levels}
+use Rattle.names.specs.Fields.{got, u8, choose, refuse, string_of, levels}
 use Rattle.names.specs.Names.{path_name, simple_name}
 use Rattle.names.specs.Laws.Joined.{simple-end}
 use Rattle.names.specs.Read.{word_at}

@@ -209,10 +209,10 @@ read_aggregate_met t =
 abbrev read_arguments_given : ℕ → read-arguments-lts.Claims
 read_arguments_given t = (wide-reads.Asked, wide-reads.Learnt, read-string-reads.Asked, read-string-reads.Learnt, read-path-reads.Asked, read-path-reads.Learnt, read_term_below t, read-term.Post)
 
-abbrev read-arguments-Inv-loop : read-arguments-lts.invariant-loop
+abbrev read-arguments-Inv-loop : read-arguments-lts.invariant-loop-rest
 read-arguments-Inv-loop s start version left rest₀ at₀ rest at = ending (argument_list version (condition_at version left) (term_at version left) s start) ≡ ending (arguments version (condition_at version left) (term_at version left) rest s at)
 
-abbrev read_arguments_μ_loop : read-arguments-lts.decreases-loop
+abbrev read_arguments_μ_loop : read-arguments-lts.decreases-loop-rest
 read_arguments_μ_loop s start version left rest₀ at₀ rest at = rest
 
 read_arguments_met : {M : Type 1} (t : ℕ) → read-arguments-lts.Closed (read_arguments_given t) (read_arguments_at t) read-arguments.Post M
@@ -324,10 +324,10 @@ read_count_met t =
 abbrev read_elements_given : ℕ → read-elements-lts.Claims
 read_elements_given t = (wide-reads.Asked, wide-reads.Learnt, read_term_below t, read-term.Post)
 
-abbrev read-elements-Inv-loop : read-elements-lts.invariant-loop
+abbrev read-elements-Inv-loop : read-elements-lts.invariant-loop-rest
 read-elements-Inv-loop s start version left rest₀ at₀ rest at = ending (element_list version (condition_at version left) (term_at version left) s start) ≡ ending (elements version (condition_at version left) (term_at version left) rest s at)
 
-abbrev read_elements_μ_loop : read-elements-lts.decreases-loop
+abbrev read_elements_μ_loop : read-elements-lts.decreases-loop-rest
 read_elements_μ_loop s start version left rest₀ at₀ rest at = rest
 
 read_elements_met : {M : Type 1} (t : ℕ) → read-elements-lts.Closed (read_elements_given t) (read_elements_at t) read-elements.Post M

@@ -40,7 +40,6 @@ read_condition_spec =
     tie.close
     (tie.spec
     (λ c. search steps)
-    (λ c κs. search steps)
     (λ c. search steps)
     (λ c. search steps)
     (λ c. search steps)

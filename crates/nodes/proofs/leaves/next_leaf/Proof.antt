@@ -8,18 +8,18 @@ use Rattle.nodes.proofs.leaves.next_leaf.Tie as tie
 
 ruleset steps = (along_leaves)
 
-abbrev invariant-loop : tie.invariant-loop
-invariant-loop s count first at₀ rest₀ at rest = TermsLeft operand_leaves s (leaves_in s count first) rest at
+abbrev invariant-loop-rest : tie.invariant-loop-rest
+invariant-loop-rest s count first at₀ rest₀ at rest = TermsLeft operand_leaves s (leaves_in s count first) rest at
 
-abbrev decreases-loop : tie.decreases-loop
-decreases-loop s count first at₀ rest₀ at rest = length s - at + (length s - at) + rest
+abbrev decreases-loop-rest : tie.decreases-loop-rest
+decreases-loop-rest s count first at₀ rest₀ at rest = length s - at + (length s - at) + rest
 
 pub next_leaf_spec : {M : Type 1} → statement M
 next_leaf_spec =
     tie.close
     (tie.spec
-    invariant-loop
-    decreases-loop
+    invariant-loop-rest
+    decreases-loop-rest
     (λ c. search steps)
     (λ c κs. search steps)
     (λ c κs. search steps)

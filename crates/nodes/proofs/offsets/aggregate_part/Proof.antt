@@ -1,6 +1,5 @@
 -- `nodes::offsets::aggregate_part` meets its contract. Assumes nothing.
 use native.Mathlib.Omega.{arith}
-use borrow.Author.Rules.{rules}
 use Rattle.nodes.specs.Laws.Opens.{aggregate_room}
 use Rattle.nodes.specs.Laws.Inside.{inside_room}
 use Rattle.nodes.proofs.offsets.aggregate_part.Statement.{statement}

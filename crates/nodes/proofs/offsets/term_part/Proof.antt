@@ -1,7 +1,5 @@
 -- `nodes::offsets::term_part` meets its contract. Assumes nothing.
 use native.Mathlib.Omega.{arith}
-use borrow.Author.Rules.{rules}
-use Rattle.nodes.specs.Offsets.{term_part}
 use Rattle.nodes.specs.Laws.Opens.{term_index}
 use Rattle.nodes.specs.Laws.Inside.{inside_room}
 use Rattle.nodes.proofs.offsets.term_part.Statement.{statement}

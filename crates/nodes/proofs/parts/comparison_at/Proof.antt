@@ -1,7 +1,7 @@
 -- `nodes::parts::comparison_at` meets its contract. Assumes nothing.
 use native.Mathlib.Omega.{arith}
 use Rattle.nodes.specs.Laws.Opens.{condition_room}
-use Rattle.nodes.specs.Laws.Pieces.{pieces, comparison_index}
+use Rattle.nodes.specs.Laws.Pieces.{pieces}
 use Rattle.nodes.proofs.parts.comparison_at.Statement.{statement}
 use Rattle.nodes.proofs.parts.comparison_at.Tie as tie
 

@@ -11,5 +11,5 @@ elements_at_spec =
     (λ c κs. search pieces)
     (λ c. search pieces)
     (λ c κs. search pieces)
-    (λ c. omega (arith, elements_index _ _ c.before.before.before.before.requires.0 c.before.before.before.before.requires.1 _ c.before.before.term-part.ensures.0))
+    (λ c. omega (arith, elements_index _ _ c.before.before.before.before.requires.0 c.before.before.before.before.requires.1 _ c.before.before.term_part-list.ensures.0))
     (λ c. search pieces))

@@ -16,5 +16,5 @@ predicate_at_spec =
     (λ c. search predicates_parts)
     (λ c κs. search predicates_parts)
     (λ c. search predicates_parts)
-    (λ c. omega (arith, arguments_index _ _ c.before.before.before.before.before.before.before.requires.0 c.before.before.before.before.before.before.before.requires.1 _ c.before.before.before.past-names.ensures _ c.before.before.past_word.ensures))
+    (λ c. omega (arith, arguments_index _ _ c.before.before.before.before.before.before.before.requires.0 c.before.before.before.before.before.before.before.requires.1 _ c.before.before.before.past_names-action.ensures _ c.before.before.past_word-list.ensures))
     (λ c. search predicates_parts))

@@ -11,7 +11,7 @@ said_at_spec =
     (λ c κs. search sayings)
     (λ c. search sayings)
     (λ c. search sayings)
-    (λ c. omega (arith, window_index _ _ c.before.before.before.before.before.requires _ c.before.before.before.version.ensures c.before.before.if1.false))
+    (λ c. omega (arith, window_index _ _ c.before.before.before.before.before.requires _ c.before.before.before.version.ensures c.before.before.if-version-le1.false))
     (λ c κs. search sayings)
     (λ c. search sayings)
     (λ c. search sayings))

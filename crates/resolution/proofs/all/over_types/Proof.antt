@@ -13,18 +13,18 @@ use Rattle.resolution.proofs.all.over_types.Tie as tie
 
 ruleset steps = (passing, alongside)
 
-abbrev invariant-loop : tie.invariant-loop
-invariant-loop s n narrowing c head rest left₀ known₀ near₀ left known near = Along (Passing s c (narrowed n narrowing) head rest (briefly (scope_path (schema_in s) (narrowed n narrowing) (types_in s left₀) (word_at c head ∷ segments_in c rest))) left known) s near
+abbrev invariant-loop-p : tie.invariant-loop-p
+invariant-loop-p s n narrowing c head rest left₀ known₀ near₀ left known near = Along (Passing s c (narrowed n narrowing) head rest (briefly (scope_path (schema_in s) (narrowed n narrowing) (types_in s left₀) (word_at c head ∷ segments_in c rest))) left known) s near
 
-abbrev decreases-loop : tie.decreases-loop
-decreases-loop s n narrowing c head rest left₀ known₀ near₀ left known near = left.count
+abbrev decreases-loop-p : tie.decreases-loop-p
+decreases-loop-p s n narrowing c head rest left₀ known₀ near₀ left known near = left.count
 
 pub over_types_spec : {M : Type 1} → statement M
 over_types_spec =
     tie.close
     (tie.spec
-    invariant-loop
-    decreases-loop
+    invariant-loop-p
+    decreases-loop-p
     (λ c. search steps)
     (λ c κs. search steps)
     (λ c. search steps)

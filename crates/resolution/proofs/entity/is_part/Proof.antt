@@ -4,4 +4,4 @@ use Rattle.resolution.proofs.entity.is_part.Statement.{statement}
 use Rattle.resolution.proofs.entity.is_part.Tie as tie
 
 pub is_part_spec : {M : Type 1} → statement M
-is_part_spec = tie.close (tie.spec (λ c. search own) (λ c κs. search own) (λ c. search own) (λ c. search own) (λ c κs. search own) (λ c. search own))
+is_part_spec = tie.close (tie.spec (λ c. search own) (λ c. search own) (λ c. search own) (λ c. search own))

@@ -16,18 +16,18 @@ use Rattle.resolution.proofs.ordering.rendering_from.Tie as tie
 
 ruleset steps = (picking, alongside)
 
-abbrev invariant-loop : tie.invariant-loop
-invariant-loop s n narrowing c head rest last left₀ best₀ near₀ left best near = Along (Picking s c (schema_in s) (narrowed n narrowing) (word_at c head ∷ segments_in c rest) (rendered (typed_of s c last)) (picked (schema_in s) (word_at c head ∷ segments_in c rest) (rendered (typed_of s c last)) none (select (admitted_by (schema_in s) (narrowed n narrowing)) (types_in s left₀))) left best) s near
+abbrev invariant-loop-p : tie.invariant-loop-p
+invariant-loop-p s n narrowing c head rest last left₀ best₀ near₀ left best near = Along (Picking s c (schema_in s) (narrowed n narrowing) (word_at c head ∷ segments_in c rest) (rendered (typed_of s c last)) (picked (schema_in s) (word_at c head ∷ segments_in c rest) (rendered (typed_of s c last)) none (select (admitted_by (schema_in s) (narrowed n narrowing)) (types_in s left₀))) left best) s near
 
-abbrev decreases-loop : tie.decreases-loop
-decreases-loop s n narrowing c head rest last left₀ best₀ near₀ left best near = left.count
+abbrev decreases-loop-p : tie.decreases-loop-p
+decreases-loop-p s n narrowing c head rest last left₀ best₀ near₀ left best near = left.count
 
 pub rendering_from_spec : {M : Type 1} → statement M
 rendering_from_spec =
     tie.close
     (tie.spec
-    invariant-loop
-    decreases-loop
+    invariant-loop-p
+    decreases-loop-p
     (λ c κs. search steps)
     (λ c. search steps)
     (λ c κs. search steps)

@@ -7,18 +7,18 @@ use Rattle.resolution.proofs.Namespaces.{NamesLeft, last_of_names}
 use Rattle.resolution.proofs.predicates.last_name.Statement.{statement}
 use Rattle.resolution.proofs.predicates.last_name.Tie as tie
 
-abbrev invariant-loop : tie.invariant-loop
-invariant-loop c count start at₀ left₀ at left = (0 < left) × NamesLeft c (last_of (row_in (string_of path_name) c count start)) left at
+abbrev invariant-loop-left : tie.invariant-loop-left
+invariant-loop-left c count start at₀ left₀ at left = (0 < left) × NamesLeft c (last_of (row_in (string_of path_name) c count start)) left at
 
-abbrev decreases-loop : tie.decreases-loop
-decreases-loop c count start at₀ left₀ at left = left
+abbrev decreases-loop-left : tie.decreases-loop-left
+decreases-loop-left c count start at₀ left₀ at left = left
 
 pub last_name_spec : {M : Type 1} → statement M
 last_name_spec =
     tie.close
     (tie.spec
-    invariant-loop
-    decreases-loop
+    invariant-loop-left
+    decreases-loop-left
     (λ c. search last_of_names)
     (λ c κs. search last_of_names)
     (λ c. search last_of_names)

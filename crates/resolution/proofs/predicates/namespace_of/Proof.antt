@@ -11,6 +11,5 @@ namespace_of_spec =
     (λ c κs. search namespaces)
     (λ c κs. search namespaces)
     (λ c. search namespaces)
-    (λ c κs. search namespaces)
     (λ c. search namespaces)
     (λ c. search namespaces))

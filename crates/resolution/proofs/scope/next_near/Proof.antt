@@ -9,18 +9,18 @@ use Rattle.resolution.proofs.scope.next_near.Tie as tie
 
 ruleset steps = (scanning)
 
-abbrev invariant-loop : tie.invariant-loop
-invariant-loop s n narrowing at₀ left₀ near₀ at left near = Along (Scanning s (admitted_by (schema_in s) (narrowed n narrowing)) (record { count = left₀; at = at₀ }) left at) s near
+abbrev invariant-loop-left : tie.invariant-loop-left
+invariant-loop-left s n narrowing at₀ left₀ near₀ at left near = Along (Scanning s (admitted_by (schema_in s) (narrowed n narrowing)) (record { count = left₀; at = at₀ }) left at) s near
 
-abbrev decreases-loop : tie.decreases-loop
-decreases-loop s n narrowing at₀ left₀ near₀ at left near = left
+abbrev decreases-loop-left : tie.decreases-loop-left
+decreases-loop-left s n narrowing at₀ left₀ near₀ at left near = left
 
 pub next_near_spec : {M : Type 1} → statement M
 next_near_spec =
     tie.close
     (tie.spec
-    invariant-loop
-    decreases-loop
+    invariant-loop-left
+    decreases-loop-left
     (λ c. search steps)
     (λ c κs. search steps)
     (λ c. search steps)
@@ -30,4 +30,4 @@ next_near_spec =
     (λ c. search steps)
     (λ c. search steps)
     (λ c. search steps)
-    (λ c. record { next = scan_over _ _ _ _ _ c.before.loop.invariant.own c.loop-test.false; near = omega arith }))
+    (λ c. record { next = scan_over _ _ _ _ _ c.before.loop-left.invariant.own c.loop-left-test.false; near = omega arith }))
