@@ -4,7 +4,7 @@ use mathlib.Core.Bool.{Bool, true, false, ◌&&◌}
 use mathlib.Core.Option.{none}
 use Prim.Native.Nat.{ℕ, zero, suc, ◌*◌}
 use lib.Dec.{leb, eqb}
-use Rattle.names.specs.Fields.{Reader, ◌<$>◌, pure, i64, twos_complement, choose, counted, each, levels}
+use Rattle.names.specs.Fields.{Reader, ◌<$>◌, i64, twos_complement, choose, counted, each, levels}
 use Rattle.names.specs.Names.{identifier, path_name, plain}
 use Rattle.decimal.specs.Decimal.{decimal_of, judged, decimal_text}
 use Rattle.decimal.specs.declared.Decimal.{Decimal}

@@ -11,7 +11,7 @@ use borrow.Author.Tests.{le-leb, lt-leb, leb-true, leb-false, eqb-false, eq-eqb}
 use lib.Dec.{leb, eqb}
 use lib.ListN.{length, get_or, take, drop, take-append-drop, length-append, length-drop, get_or-append}
 use lib.Seq.{take-append-le, drop-append-le, take-take, length-take-le}
-use Rattle.names.specs.Fields.{Got, got, bad, Reader, next, ◌>>=◌, ◌<$>◌, pure, refuse, holds, bytes, u8, u16, u32, u64, number, string_of, each, many, counted, heading, finished, whole}
+use Rattle.names.specs.Fields.{Got, got, bad, Reader, next, ◌>>=◌, ◌<$>◌, pure, refuse, holds, bytes, u8, u16, u32, u64, string_of, each, many, counted, heading, finished, whole}
 use Rattle.names.specs.Names.{same, plain}
 use Rattle.names.specs.Paths.{path_of}
 use Rattle.names.specs.Read.{refusal_number}

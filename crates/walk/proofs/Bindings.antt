@@ -2,11 +2,10 @@
 use mathlib.Core.Path.{◌≡◌, refl}
 use mathlib.Core.Bool.{true}
 use mathlib.Core.List.{List, []}
-use Prim.Native.Nat.{ℕ, ◌+◌, ◌-◌, ◌<◌}
+use Prim.Native.Nat.{ℕ, ◌<◌}
 use native.Mathlib.Omega.{arith}
 use lib.ListN.{length}
-use Rattle.condition.specs.Condition.{Binder, Condition, Aggregate, one, two, predicate, comparison, exists, tp, opaque, sum, count, call, slot, annotation, binder}
-use Rattle.condition.specs.Condition as tree
+use Rattle.condition.specs.Condition.{Condition, Aggregate, one, two, predicate, comparison, exists, tp, opaque, sum, count, call, binder}
 use Rattle.condition.specs.Walk.{declared_by, declares}
 use Rattle.nodes.specs.Kinds.{kind_of, aggregate_kind_of}
 use Rattle.nodes.specs.Parts.{is_binders}

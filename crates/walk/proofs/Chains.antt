@@ -1,5 +1,5 @@
 -- Rows of a table stay what they say while the rows before and at them stay; a row is put; a holder is put around. Assumes nothing.
-use mathlib.Core.Path.{◌≡◌, refl, sym, ap, ◌∙◌}
+use mathlib.Core.Path.{◌≡◌, refl, ap}
 use mathlib.Core.Bool.{Bool, true, false}
 use mathlib.Core.List.{List, [], ◌∷◌, ◌++◌}
 use Prim.Native.Nat.{ℕ, ◌+◌, ◌*◌, ◌≤◌, ◌<◌}
@@ -10,8 +10,7 @@ use Rattle.walk.specs.declared.Row.TheVariants.{Place, Around}
 use Rattle.condition.specs.Condition.{Binder}
 use Rattle.condition.specs.Places.{is_condition, condition_in}
 use Rattle.walk.specs.Scopes.{Scoped, under}
-use Rattle.walk.specs.Index.{StandsAt}
-use Rattle.walk.specs.Enclosing.{IsHolder, held_in, Holding, Chain, joined, Encloses, RowEncloses}
+use Rattle.walk.specs.Enclosing.{IsHolder, held_in, Chain, joined, Encloses, RowEncloses}
 use Rattle.walk.specs.Rows.{scopes, row_at, row_of, below, held_by, InScope, InRow, Says, Rows}
 
 -- the same rows in two tables

@@ -2,7 +2,7 @@
 use mathlib.Core.Path.{◌≡◌, refl, sym, ap, ◌∙◌, subst}
 use mathlib.Core.Bool.{Bool, true, false}
 use mathlib.Core.List.{List, [], ◌∷◌, ◌++◌}
-use Prim.Native.Nat.{ℕ, ◌+◌, ◌*◌, ◌-◌, ◌≤◌, ◌<◌}
+use Prim.Native.Nat.{ℕ, ◌+◌, ◌≤◌}
 use native.Mathlib.Omega.{arith}
 use lib.ListN.{length, get_or, length-append}
 use Rattle.names.specs.declared.Read.{Read}
@@ -12,15 +12,14 @@ use Rattle.names.specs.Read.{ending}
 use Rattle.walk.specs.declared.Indexed.{Indexed}
 use Rattle.walk.specs.declared.Row.{Row}
 use Rattle.condition.specs.Condition.{Binder, binder}
-use Rattle.condition.specs.Walk.{declares, declared_by}
-use Rattle.condition.specs.Places.{condition_here, term_here, is_condition, condition_in, is_term, term_in, is_aggregate, aggregate_in, is_binder}
-use Rattle.nodes.specs.Kinds.{kind_of, one_kind, two_kind, term_kind_of, aggregate_kind_of, span_of}
+use Rattle.condition.specs.Places.{condition_here, term_here, is_condition, condition_in, is_term, term_in, aggregate_in, is_binder}
+use Rattle.nodes.specs.Kinds.{kind_of, one_kind, two_kind, aggregate_kind_of}
 use Rattle.nodes.specs.Offsets.{first_part, term_part, left_part}
 use Rattle.nodes.specs.Looked.{Skipped, KindHere, TermKindHere, AggregateKindHere, OneHere, TwoHere, ComparedHere, QuantifiedHere, AddedHere, AggregateHere, BodyHere}
 use Rattle.nodes.specs.Parts.{ComparisonHere}
 use Rattle.walk.specs.Scopes.{Scoped, under, scoped, scoped_in}
-use Rattle.walk.specs.Enclosing.{IsHolder, quantifies, aggregates, held_in}
-use Rattle.walk.specs.Rows.{scopes, row_at, below, held_by, Handed, InScope, InRow, Rows, reached_from, reached_within, Room, Put, Filled}
+use Rattle.walk.specs.Enclosing.{quantifies, aggregates, held_in}
+use Rattle.walk.specs.Rows.{scopes, below, held_by, Handed, InScope, InRow, Rows, reached_from, reached_within, Room, Put, Filled}
 use Rattle.nodes.specs.Laws.Opens.{condition_ahead}
 use Rattle.nodes.specs.Laws.Pieces.{comparison_parts}
 use Rattle.nodes.specs.Laws.Inside.{two_inside, one_inside, compared_inside, quantified_inside, added_inside, aggregate_inside}

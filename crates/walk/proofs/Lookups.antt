@@ -20,17 +20,16 @@ use Rattle.nodes.specs.declared.Bound.{Bound}
 use Rattle.nodes.specs.declared.Bound.TheVariants.{Segments, Timepoint, Nothing}
 use Rattle.condition.specs.Condition.{Slot, named, param_ref, binder_ref, Annotation, timepoint, Binder, slot, binder}
 use Rattle.condition.specs.Walk.{named_here, last_named}
-use Rattle.condition.specs.Places.{is_slot, is_condition, condition_in, is_aggregate, aggregate_in, is_annotation, annotation_in, is_binder, binder_in}
-use Rattle.nodes.specs.Kinds.{kind_of, aggregate_kind_of}
+use Rattle.condition.specs.Places.{is_slot, is_annotation, annotation_in, is_binder, binder_in}
 use Rattle.nodes.specs.Offsets.{first_part}
 use Rattle.nodes.specs.Looked.{Skipped, QuantifiedHere}
 use Rattle.nodes.specs.Parts.{is_binders, binders_in, BindersHere, slot_of, SlotHere, bound_in, BoundBy}
 use Rattle.nodes.specs.Laws.Inside.{quantified_inside}
-use Rattle.nodes.specs.Laws.Pieces.{counted_here, counted_index}
+use Rattle.nodes.specs.Laws.Pieces.{counted_here}
 use Rattle.nodes.specs.Laws.Binders.{says_nothing, binder_slot, binder_annotation, slot_is, annotation-is}
 use Rattle.walk.specs.Scopes.{own}
 use Rattle.walk.specs.Index.{nodes_of}
-use Rattle.walk.specs.Enclosing.{IsHolder, held_in, Chain, joined, Encloses, RowEncloses, around_at, list_count, Bodies, is_bound, later_of}
+use Rattle.walk.specs.Enclosing.{IsHolder, held_in, Chain, joined, RowEncloses, around_at, list_count, Bodies, is_bound, later_of}
 use Rattle.walk.specs.Rows.{row_at}
 use Rattle.walk.specs.Lists.{IsEntry, EntryOf}
 use Rattle.walk.specs.Laws.Named.{last_append}

@@ -1,14 +1,13 @@
 -- The conditions reached below a node, with the binders around them, by those reached at its parts. Assumes nothing.
 use mathlib.Core.Path.{◌≡◌, refl, sym, ap, ◌∙◌}
 use mathlib.Core.Bool.{true, false, false≢true}
-use mathlib.Core.List.{List, [], ◌∷◌, ◌++◌, append_cancel_left, append-nil}
-use Prim.Native.Nat.{ℕ}
+use mathlib.Core.List.{List, [], ◌∷◌, ◌++◌, append_cancel_left}
 use native.Mathlib.Omega.{arith}
 use Rattle.condition.specs.Condition.{Condition, Term, Aggregate, Binder, One, negation, formerly, previous, refine, Two, and, or, since, one, two, predicate, comparison, exists, tp, opaque, entity, literal, context_field, scope_field, var, wildcard, array, aggregate, sigil, sum, count, call}
 use Rattle.condition.specs.Condition as tree
 use Rattle.condition.specs.Walk.{reached, reached_body, declares, declared_by}
 use Rattle.nodes.specs.Kinds.{kind_of, one_number, two_number, one_kind, two_kind, term_kind_of, aggregate_kind_of}
-use Rattle.walk.specs.Scopes.{Scoped, under, scoped, scoped_in, scoped_body}
+use Rattle.walk.specs.Scopes.{under, scoped, scoped_in, scoped_body}
 
 -- the first condition that is reached is the whole, so that it is known by those that are reached
 first : (x y : Condition) (xs ys : List Condition) → reached x ++ xs ≡ reached y ++ ys → x ≡ y

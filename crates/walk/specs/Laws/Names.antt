@@ -1,6 +1,6 @@
 -- The table that names are looked up in, and what is looked up, by how a name is bound. Assumes nothing.
-use Rattle.std.specs.Prelude.{◌≡◌, refl, List, ℕ, ◌/◌, ◌%◌}
-use Rattle.std.proofs.Common.{sym, ap, ◌∙◌, ne_eqb}
+use Rattle.std.specs.Prelude.{◌≡◌, List, ℕ, ◌/◌, ◌%◌}
+use Rattle.std.proofs.Common.{ne_eqb}
 use Rattle.walk.specs.declared.Binding as declared
 use Rattle.walk.specs.declared.Binding.TheVariants as code
 use Rattle.nodes.specs.declared.Bound.{Bound}

@@ -9,18 +9,18 @@ use Rattle.messages.specs.Laws.Segments.{Behind, segments}
 use Rattle.messages.proofs.joined.put_segments.Statement.{statement}
 use Rattle.messages.proofs.joined.put_segments.Tie as tie
 
-abbrev invariant-loop : tie.invariant-loop
-invariant-loop out₀ start s count first next₀ at₀ rest₀ out next at rest = (length out ≡ length out₀) × Behind s out₀ start (behind (row_in (string_of identifier) s count first)) out next at rest
+abbrev invariant-loop-rest : tie.invariant-loop-rest
+invariant-loop-rest out₀ start s count first next₀ at₀ rest₀ out next at rest = (length out ≡ length out₀) × Behind s out₀ start (behind (row_in (string_of identifier) s count first)) out next at rest
 
-abbrev decreases-loop : tie.decreases-loop
-decreases-loop out₀ start s count first next₀ at₀ rest₀ out next at rest = rest
+abbrev decreases-loop-rest : tie.decreases-loop-rest
+decreases-loop-rest out₀ start s count first next₀ at₀ rest₀ out next at rest = rest
 
 pub put_segments_spec : {M : Type 1} → statement M
 put_segments_spec =
     tie.close
     (tie.spec
-    invariant-loop
-    decreases-loop
+    invariant-loop-rest
+    decreases-loop-rest
     (λ c. search segments)
     (λ c κs. search segments)
     (λ c κs. search segments)

@@ -8,18 +8,18 @@ use Rattle.messages.proofs.Wording.{writing}
 use Rattle.messages.proofs.whole.put_message.Statement.{statement}
 use Rattle.messages.proofs.whole.put_message.Tie as tie
 
-abbrev invariant-loop : tie.invariant-loop
-invariant-loop out₀ start schema condition m which count at₀ i₀ out at i = (length out ≡ length out₀) × Composing m.which (quoted schema condition m) out₀ start out at i
+abbrev invariant-loop-i : tie.invariant-loop-i
+invariant-loop-i out₀ start schema condition m which count at₀ i₀ out at i = (length out ≡ length out₀) × Composing m.which (quoted schema condition m) out₀ start out at i
 
-abbrev decreases-loop : tie.decreases-loop
-decreases-loop out₀ start schema condition m which count at₀ i₀ out at i = count - i
+abbrev decreases-loop-i : tie.decreases-loop-i
+decreases-loop-i out₀ start schema condition m which count at₀ i₀ out at i = count - i
 
 pub put_message_spec : {M : Type 1} → statement M
 put_message_spec =
     tie.close
     (tie.spec
-    invariant-loop
-    decreases-loop
+    invariant-loop-i
+    decreases-loop-i
     (λ c κs. search writing)
     (λ c. search writing)
     (λ c κs. search writing)

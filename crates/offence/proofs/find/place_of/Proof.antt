@@ -18,11 +18,11 @@ pub record Between (k : Kind) (s : List ℕ) (low high : ℕ) : Type 0 where
   pub upto : place (number_of k) s ≤ high
   pub within : high ≤ length s
 
-abbrev invariant-loop : tie.invariant-loop
-invariant-loop kind bytes low₀ high₀ low high = Between kind bytes low high
+abbrev invariant-loop-low : tie.invariant-loop-low
+invariant-loop-low kind bytes low₀ high₀ low high = Between kind bytes low high
 
-abbrev decreases-loop : tie.decreases-loop
-decreases-loop kind bytes low₀ high₀ low high = high - low
+abbrev decreases-loop-low : tie.decreases-loop-low
+decreases-loop-low kind bytes low₀ high₀ low high = high - low
 
 module _ (k : Kind) (s : List ℕ) where
   start : Between k s 0 (length s)
@@ -49,8 +49,8 @@ pub place_of_spec : {M : Type 1} → statement M
 place_of_spec =
     tie.close
     (tie.spec
-    invariant-loop
-    decreases-loop
+    invariant-loop-low
+    decreases-loop-low
     (λ c. search steps)
     (λ c. search steps)
     (λ c. search steps)

@@ -5,19 +5,19 @@ use Rattle.walk.proofs.Lookups.{Among, among}
 use Rattle.walk.proofs.around.bound_among.Statement.{statement}
 use Rattle.walk.proofs.around.bound_among.Tie as tie
 
-abbrev invariant-loop : tie.invariant-loop
-invariant-loop s start name found₀ at₀ rest₀ found at rest = Among s start name rest at found
+abbrev invariant-loop-rest : tie.invariant-loop-rest
+invariant-loop-rest s start name found₀ at₀ rest₀ found at rest = Among s start name rest at found
 
-abbrev decreases-loop : tie.decreases-loop
-decreases-loop s start name found₀ at₀ rest₀ found at rest = rest
+abbrev decreases-loop-rest : tie.decreases-loop-rest
+decreases-loop-rest s start name found₀ at₀ rest₀ found at rest = rest
 
 pub bound_among_spec : {M : Type 1} → statement M
 bound_among_spec =
     tie.close
     (tie.spec
-    invariant-loop
-    decreases-loop
-    (λ c. omega (arith, binders_index _ _ c.before.before.requires))
+    invariant-loop-rest
+    decreases-loop-rest
+    (λ c. omega (arith, binders_index _ _ c.requires))
     (λ c. search among)
     (λ c κs. search among)
     (λ c. search among)

@@ -3,18 +3,18 @@ use Rattle.walk.proofs.Lookups.{Outward, outward}
 use Rattle.walk.proofs.around.bound_around.Statement.{statement}
 use Rattle.walk.proofs.around.bound_around.Tie as tie
 
-abbrev invariant-loop : tie.invariant-loop
-invariant-loop s table node name row₀ row = Outward s table name node row
+abbrev invariant-loop-node : tie.invariant-loop-node
+invariant-loop-node s table node name row₀ row = Outward s table name node row
 
-abbrev decreases-loop : tie.decreases-loop
-decreases-loop s table node name row₀ row = row
+abbrev decreases-loop-node : tie.decreases-loop-node
+decreases-loop-node s table node name row₀ row = row
 
 pub bound_around_spec : {M : Type 1} → statement M
 bound_around_spec =
     tie.close
     (tie.spec
-    invariant-loop
-    decreases-loop
+    invariant-loop-node
+    decreases-loop-node
     (λ c. search outward)
     (λ c. search outward)
     (λ c. search outward)

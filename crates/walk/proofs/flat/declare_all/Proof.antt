@@ -5,19 +5,19 @@ use Rattle.walk.proofs.Declarations.{BindersOn, declaring_row}
 use Rattle.walk.proofs.flat.declare_all.Statement.{statement}
 use Rattle.walk.proofs.flat.declare_all.Tie as tie
 
-abbrev invariant-loop : tie.invariant-loop
-invariant-loop s table₀ n start so_far₀ at₀ rest₀ table so_far at rest = BindersOn s start table₀ so_far₀ rest at table so_far
+abbrev invariant-loop-rest : tie.invariant-loop-rest
+invariant-loop-rest s table₀ n start so_far₀ at₀ rest₀ table so_far at rest = BindersOn s start table₀ so_far₀ rest at table so_far
 
-abbrev decreases-loop : tie.decreases-loop
-decreases-loop s table₀ n start so_far₀ at₀ rest₀ table so_far at rest = rest
+abbrev decreases-loop-rest : tie.decreases-loop-rest
+decreases-loop-rest s table₀ n start so_far₀ at₀ rest₀ table so_far at rest = rest
 
 pub declare_all_spec : {M : Type 1} → statement M
 declare_all_spec =
     tie.close
     (tie.spec
-    invariant-loop
-    decreases-loop
-    (λ c. omega (arith, binders_index _ _ c.before.before.requires.0))
+    invariant-loop-rest
+    decreases-loop-rest
+    (λ c. omega (arith, binders_index _ _ c.requires.0))
     (λ c. search declaring_row)
     (λ c κs. search declaring_row)
     (λ c. search declaring_row)

@@ -7,18 +7,18 @@ use Rattle.walk.proofs.Declarations.{AggregatesOn, declaring_operands}
 use Rattle.walk.proofs.flat.declare_operands.Statement.{statement}
 use Rattle.walk.proofs.flat.declare_operands.Tie as tie
 
-abbrev invariant-loop : tie.invariant-loop
-invariant-loop s table₀ n at so_far₀ left₀ table so_far left = AggregatesOn s (declares (condition_in s at)) table₀ so_far₀ left table so_far
+abbrev invariant-loop-aggregate : tie.invariant-loop-aggregate
+invariant-loop-aggregate s table₀ n at so_far₀ left₀ table so_far left = AggregatesOn s (declares (condition_in s at)) table₀ so_far₀ left table so_far
 
-abbrev decreases-loop : tie.decreases-loop
-decreases-loop s table₀ n at so_far₀ left₀ table so_far left = length (aggregates_in s left.count left.first)
+abbrev decreases-loop-aggregate : tie.decreases-loop-aggregate
+decreases-loop-aggregate s table₀ n at so_far₀ left₀ table so_far left = length (aggregates_in s left.count left.first)
 
 pub declare_operands_spec : {M : Type 1} → statement M
 declare_operands_spec =
     tie.close
     (tie.spec
-    invariant-loop
-    decreases-loop
+    invariant-loop-aggregate
+    decreases-loop-aggregate
     (λ c κs. search declaring_operands)
     (λ c. search declaring_operands)
     (λ c κs. search declaring_operands)

@@ -3,18 +3,18 @@ use Rattle.walk.proofs.Spots.{Shifting, shifting}
 use Rattle.walk.proofs.sorted.insert.Statement.{statement}
 use Rattle.walk.proofs.sorted.insert.Tie as tie
 
-abbrev invariant-loop : tie.invariant-loop
-invariant-loop table₀ n at place i₀ table i = Shifting table₀ n at i table
+abbrev invariant-loop-i : tie.invariant-loop-i
+invariant-loop-i table₀ n at place i₀ table i = Shifting table₀ n at i table
 
-abbrev decreases-loop : tie.decreases-loop
-decreases-loop table₀ n at place i₀ table i = i
+abbrev decreases-loop-i : tie.decreases-loop-i
+decreases-loop-i table₀ n at place i₀ table i = i
 
 pub insert_spec : {M : Type 1} → statement M
 insert_spec =
     tie.close
     (tie.spec
-    invariant-loop
-    decreases-loop
+    invariant-loop-i
+    decreases-loop-i
     (λ c. search shifting)
     (λ c. search shifting)
     (λ c. search shifting)

@@ -4,18 +4,18 @@ use Rattle.walk.proofs.Spots.{Between, halving}
 use Rattle.walk.proofs.sorted.spot.Statement.{statement}
 use Rattle.walk.proofs.sorted.spot.Tie as tie
 
-abbrev invariant-loop : tie.invariant-loop
-invariant-loop s table name low₀ high₀ low high = Between s table name low high
+abbrev invariant-loop-low : tie.invariant-loop-low
+invariant-loop-low s table name low₀ high₀ low high = Between s table name low high
 
-abbrev decreases-loop : tie.decreases-loop
-decreases-loop s table name low₀ high₀ low high = high - low
+abbrev decreases-loop-low : tie.decreases-loop-low
+decreases-loop-low s table name low₀ high₀ low high = high - low
 
 pub spot_spec : {M : Type 1} → statement M
 spot_spec =
     tie.close
     (tie.spec
-    invariant-loop
-    decreases-loop
+    invariant-loop-low
+    decreases-loop-low
     (λ c. search halving)
     (λ c κs. search halving)
     (λ c κs. search halving)
