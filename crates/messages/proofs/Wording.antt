@@ -1,32 +1,29 @@
 -- A message with its words, measured and written: what each function asks, and what it has done in the end. Assumes nothing.
 use mathlib.Core.Path.{◌≡◌, refl, sym, ap, ◌∙◌}
-use mathlib.Core.Bool.{true}
-use mathlib.Core.List.{List, [], ◌∷◌, ◌++◌, map}
-use Prim.Native.Nat.{ℕ, zero, suc, ◌+◌, ◌*◌, ◌-◌, ◌≤◌, ◌<◌}
+use mathlib.Core.List.{List, [], ◌++◌}
+use Prim.Native.Nat.{ℕ, zero, suc, ◌+◌, ◌*◌, ◌≤◌, ◌<◌}
 use native.Mathlib.Omega.{arith}
 use native.Mathlib.Numerals.{add-one}
-use mir.Syntax.{w8, w64}
+use mir.Syntax.{w64}
 use mir.Val.{Fits}
 use borrow.Author.Rules.{rules, Fits-under}
-use lib.ListN.{length, get_or, take, drop, length-append, length-take, length-map, drop_of_length-le, get_or-map}
-use lib.Seq.{drop-cons, get_or-take, length-take-le}
-use lib.Dec.{lit≤}
+use lib.ListN.{length, get_or, drop, length-append, drop_of_length-le}
+use lib.Seq.{drop-cons}
 use Rattle.names.specs.Names.{joined}
 use Rattle.names.specs.Read.{word_at}
 use Rattle.names.specs.Writer.{Stored}
 use Rattle.names.specs.Laws.Writers.{stored_none, stored_more, stored_length}
-use Rattle.names.specs.Laws.Walks.{take_at_most}
 use Rattle.types.specs.Types.{display}
-use Rattle.types.specs.Laws.Texts.{Small, text_bound, text_counted}
+use Rattle.types.specs.Laws.Texts.{Small, text_counted}
 use Rattle.types.specs.Meaning.{rich_of}
 use Rattle.types.specs.declared.Rich.{Rich}
 use Rattle.types.specs.declared.Form.TheVariants as Form
 use Rattle.nodes.specs.Parts.{segments_in, SegmentsHere}
-use Rattle.reports.specs.Messages.{part, words, text_size, message}
+use Rattle.reports.specs.Messages.{part, words, text_size}
 use Rattle.reports.specs.Laws.Messages.{Composing, composing_begins, composing_room, composing_turn, last_room, composing_over, words_few, text_most, message_length}
 use Rattle.reports.specs.Pairs.{sum_of}
 use Rattle.messages.specs.Joined.{Sized}
-use Rattle.messages.specs.Words.{word_text, words_of, word_of, quoted, text_of, WordStands, Stands}
+use Rattle.messages.specs.Words.{word_text, word_of, quoted, text_of, WordStands, Stands}
 use Rattle.messages.specs.Laws.Lengths.{quoted_count, quoted_word, Bytes, word_short, shown_short}
 use Rattle.messages.specs.declared.Word.{Word}
 use Rattle.messages.specs.declared.Word.TheVariants.{Nothing, Name, Shown, Joined}

@@ -16,7 +16,6 @@ use Rattle.messages.specs.declared.Word.{Word}
 use Rattle.messages.specs.declared.Word.TheVariants.{Nothing, Name, Shown, Joined}
 use Rattle.messages.specs.declared.Sentence.{Sentence}
 use Rattle.messages.specs.declared.Said.{Said}
-use Rattle.messages.specs.declared.Said.TheVariants as Said
 
 abbrev pub word_text : List ℕ → List ℕ → Word → List ℕ
 word_text s c Nothing = []

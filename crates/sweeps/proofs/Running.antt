@@ -1,6 +1,6 @@
 -- A whole listing: the window of a condition, the reached conditions, the record. Assumes nothing.
-use mathlib.Core.Path.{◌≡◌, refl, sym, ap, ◌∙◌}
-use mathlib.Core.Bool.{true, false, false≢true}
+use mathlib.Core.Path.{◌≡◌, refl, ap, ◌∙◌}
+use mathlib.Core.Bool.{true, false≢true}
 use mathlib.Core.List.{List, [], ◌∷◌, ◌++◌, map}
 use Prim.Native.Nat.{ℕ, ◌+◌, ◌≤◌, ◌<◌}
 use native.Mathlib.Omega.{arith}
@@ -14,25 +14,25 @@ use Rattle.names.specs.declared.Read.TheVariants.{Next, Refused}
 use Rattle.names.specs.Fields.{Got, got, bad, either, whole}
 use Rattle.names.specs.Read.{ending, accepted, value_or}
 use Rattle.names.specs.Laws.Readers.{passes, refused_by}
-use Rattle.condition.specs.Condition.{Condition, Window, opaque, condition_record}
+use Rattle.condition.specs.Condition.{Condition, opaque, condition_record}
 use Rattle.condition.specs.Places.{nowhere, is_record, record_in, condition_in}
 use Rattle.condition.specs.Walk.{reached}
 use Rattle.nodes.specs.declared.Ends.{Ends}
 use Rattle.nodes.specs.declared.WindowAt.{WindowAt}
 use Rattle.nodes.specs.declared.WindowAt.TheVariants.{Unsaid, Parameter, Seconds}
-use Rattle.nodes.specs.Kinds.{span_of, window_of}
-use Rattle.nodes.specs.Parts.{WindowHere, window_from, Spans}
+use Rattle.nodes.specs.Kinds.{span_of}
+use Rattle.nodes.specs.Parts.{WindowHere, Spans}
 use Rattle.walk.specs.Index.{nodes_of, Index, Reached}
 use Rattle.reports.specs.declared.Answer.{Answer}
 use Rattle.reports.specs.declared.State.{State}
 use Rattle.reports.specs.Kept.{fold}
-use Rattle.reports.specs.Reports.{Outcome, refusal}
-use Rattle.reports.specs.Sink.{Sink, sink, none, outcome, Recorded}
+use Rattle.reports.specs.Reports.{refusal}
+use Rattle.reports.specs.Sink.{Sink, sink, none, outcome}
 use Rattle.reports.specs.Answers.{outcome_of, Answers, Refuses}
 use Rattle.reports.specs.Laws.Sinks.{recorded_none, Reporting, reporting_begins, reporting_next, reporting_over}
 use Rattle.sweeps.specs.Entries.{Entry, listed}
 use Rattle.sweeps.specs.Entering.{enter, Fit, Entered}
-use Rattle.sweeps.specs.Windows.{Concrete, concrete_of, concrete_in, concrete_windows, in_sweeps, entries, swept, windows}
+use Rattle.sweeps.specs.Windows.{concrete_of, concrete_in, concrete_windows, in_sweeps, entries, swept, windows}
 use Rattle.sweeps.specs.Laws.Entries.{fit_start, all_listed}
 
 -- ---- the window of one condition

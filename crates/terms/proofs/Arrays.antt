@@ -9,10 +9,10 @@ use native.Mathlib.Omega.{arith}
 use borrow.Author.Rules.{rules}
 use lib.ListN.{length, get_or}
 use Rattle.names.specs.declared.Read.TheVariants.{Next}
-use Rattle.names.specs.Fields.{got, Reader, next, u8, choose, levels}
+use Rattle.names.specs.Fields.{got, Reader, next, u8, choose}
 use Rattle.names.specs.Read.{ending, accepted}
 use Rattle.names.specs.Laws.Readers.{split, u8_view, accept, is_accepted, has_value, got_value, got_place}
-use Rattle.types.specs.Types.{Ty, same_type, array}
+use Rattle.types.specs.Types.{Ty, same_type}
 use Rattle.types.specs.Meaning.{rich_of, layered}
 use Rattle.types.specs.declared.Rich.{Rich}
 use Rattle.condition.specs.Condition.{Condition, Term, Terms, nil, cons, elements, element_list, term_kinds, condition_at, term_at}
@@ -32,7 +32,6 @@ use Rattle.terms.specs.Bounds.{layers_of, Within}
 use Rattle.terms.specs.Literals.{seen_with, array_after, seen_type, array_rich, TypedAt, LeafTyped, list_at, list_in}
 use Rattle.terms.specs.declared.Element.{Element}
 use Rattle.terms.specs.declared.Seen.{Seen}
-use Rattle.terms.specs.declared.Seen.TheVariants as Seen
 
 -- One element more.
 module _ (s c : List ℕ) where

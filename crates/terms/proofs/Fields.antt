@@ -16,9 +16,7 @@ use Rattle.types.specs.Types.{Ty, dated, time_type}
 use Rattle.types.specs.Meaning.{rich_of, time_of, layered}
 use Rattle.types.specs.declared.Source.TheVariants as Source
 use Rattle.types.specs.declared.Scalar.{Scalar}
-use Rattle.types.specs.declared.Scalar.TheVariants as Scalar
 use Rattle.types.specs.declared.TimeType.{TimeType}
-use Rattle.types.specs.declared.TimeType.TheVariants as TimeType
 use Rattle.types.specs.declared.Tag.{Tag}
 use Rattle.types.specs.declared.Base.TheVariants as Base
 use Rattle.types.specs.declared.Rich.{Rich}
@@ -26,7 +24,6 @@ use Rattle.schema.specs.Schema.{Declared}
 use Rattle.schema.specs.Find.{fields_of, find_attribute, rich_type}
 use Rattle.schema.specs.Places.{is_type, type_in, are_fields, fields_in, is_action, action_in, found_in, found_stands, Finds, FindsFields, Standing}
 use Rattle.names.specs.declared.Found.{Found}
-use Rattle.names.specs.declared.Found.TheVariants as Found
 use Rattle.condition.specs.Condition.{path}
 use Rattle.nodes.specs.Parts.{segments_in}
 use Rattle.resolution.specs.Laws.Sizes.{Bytes, type_small}

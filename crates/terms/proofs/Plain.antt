@@ -14,7 +14,6 @@ use Rattle.names.specs.Read.{word_at}
 use Rattle.names.specs.Laws.Readers.{string_view}
 use Rattle.types.specs.Meaning.{bytes_of, tag_of, layered}
 use Rattle.types.specs.declared.Source.{Source}
-use Rattle.types.specs.declared.Source.TheVariants as Source
 use Rattle.types.specs.declared.Scalar.TheVariants as Scalar
 use Rattle.types.specs.declared.Tag.{Tag}
 use Rattle.types.specs.declared.Base.TheVariants as Base

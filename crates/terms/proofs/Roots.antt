@@ -24,7 +24,6 @@ use Rattle.resolution.specs.Laws.Segments.{no_segments, first_segment}
 use Rattle.resolution.specs.declared.Typed.{Typed}
 use Rattle.resolution.specs.declared.Typed.TheVariants.{As, Nothing}
 use Rattle.resolution.specs.declared.ScopePath.{ScopePath}
-use Rattle.resolution.specs.declared.ScopePath.TheVariants as ScopePath
 use Rattle.terms.specs.Terms.{if_resolved, side_type_by, side_type, root_type}
 use Rattle.terms.specs.Facts.{facts_in}
 use Rattle.terms.specs.Answers.{TypeOf, resolved_of}

@@ -1,6 +1,5 @@
 -- The types of terms under the facts of a target. Assumes nothing.
 use mathlib.Core.Path.{◌≡◌, refl, sym, ap, ◌∙◌}
-use mathlib.Core.Bool.{true, false}
 use mathlib.Core.List.{List}
 use mathlib.Core.Option.{Option, none, some}
 use Prim.Native.Nat.{ℕ}
@@ -11,9 +10,8 @@ use Rattle.types.specs.Laws.Texts.{numbers_small}
 use Rattle.types.specs.Meaning.{layered}
 use Rattle.types.specs.declared.Scalar.TheVariants as Scalar
 use Rattle.types.specs.declared.Rich.{Rich}
-use Rattle.schema.specs.Places.{schema_in, action_in, found_in}
+use Rattle.schema.specs.Places.{action_in, found_in}
 use Rattle.names.specs.declared.Found.{Found}
-use Rattle.names.specs.declared.Found.TheVariants as Found
 use Rattle.names.specs.declared.Row.{Row}
 use Rattle.targets.specs.Places.{narrowed, targets_in}
 use Rattle.targets.specs.declared.Narrowed.{Narrowed}
@@ -27,7 +25,6 @@ use Rattle.nodes.specs.Laws.Pieces.{context_path, scope_path, context_inside, sc
 use Rattle.nodes.specs.Looked.{TermKindHere}
 use Rattle.nodes.specs.Parts.{PathHere, segments_in, SegmentsHere, BoundBy}
 use Rattle.nodes.specs.declared.Bound.{Bound}
-use Rattle.nodes.specs.declared.Bound.TheVariants as Bound
 use Rattle.resolution.specs.Resolution.{context_type_by, context_type}
 use Rattle.resolution.specs.Places.{typed_of, small_type}
 use Rattle.resolution.specs.Places as resolution

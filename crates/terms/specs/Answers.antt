@@ -13,7 +13,6 @@ use Rattle.resolution.specs.Places.{are_segments, segments_in, typed_of, small_t
 use Rattle.resolution.specs.declared.Typed.{Typed}
 use Rattle.resolution.specs.declared.Typed.TheVariants.{As, Nothing}
 use Rattle.resolution.specs.declared.ScopePath.{ScopePath}
-use Rattle.resolution.specs.declared.ScopePath.TheVariants as ScopePath
 use Rattle.terms.specs.Terms.{other_type, word_type, annotation_type}
 use Rattle.terms.specs.Bounds.{Within}
 

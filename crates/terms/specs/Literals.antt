@@ -11,7 +11,6 @@ use Rattle.types.specs.declared.Tag.{Tag}
 use Rattle.types.specs.declared.Rich.{Rich}
 use Rattle.types.specs.declared.Base.TheVariants as Base
 use Rattle.types.specs.declared.Scalar.{Scalar}
-use Rattle.types.specs.declared.Scalar.TheVariants as Scalar
 use Rattle.condition.specs.Condition.{Terms, nil, element_list, condition_at, term_at}
 use Rattle.condition.specs.Places.{version_in, term_in}
 use Rattle.resolution.specs.Places.{typed_of}
@@ -21,7 +20,6 @@ use Rattle.terms.specs.Terms.{term_type, all_like, array_of}
 use Rattle.terms.specs.Bounds.{Within}
 use Rattle.terms.specs.declared.Element.{Element}
 use Rattle.terms.specs.declared.Seen.{Seen}
-use Rattle.terms.specs.declared.Seen.TheVariants as Seen
 
 -- the type of a scalar
 abbrev pub plain : Scalar → Typed

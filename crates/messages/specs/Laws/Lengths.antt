@@ -6,7 +6,6 @@ use native.Mathlib.Omega.{arith}
 use Rattle.std.specs.Int.{w8}
 use Rattle.std.proofs.Math.ListN.{get_or-map}
 use Rattle.std.proofs.Math.Seq.{get_or-take, length-take-le}
-use Rattle.names.specs.Names.{joined}
 use Rattle.names.specs.Read.{word_at}
 use Rattle.names.specs.Laws.Walks.{take_at_most}
 use Rattle.types.specs.Types.{display}
@@ -14,7 +13,6 @@ use Rattle.types.specs.Laws.Texts.{Small, text_bound}
 use Rattle.types.specs.Meaning.{rich_of}
 use Rattle.types.specs.declared.Rich.{Rich}
 use Rattle.types.specs.declared.Form.TheVariants as Form
-use Rattle.nodes.specs.Parts.{segments_in, SegmentsHere}
 use Rattle.reports.specs.Messages.{words}
 use Rattle.reports.specs.Laws.Messages.{words_few, message_length}
 use Rattle.reports.specs.Pairs.{sum_of}

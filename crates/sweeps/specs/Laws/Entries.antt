@@ -2,11 +2,11 @@
 --     fit-start           what the first call of a listing requires
 --     entered-one         one entry
 --     all_listed          entries put in one by one, from none, leave and answer what `listed` says
-use Rattle.std.specs.Prelude.{◌≡◌, Bool, cond, not, List, [], ◌∷◌, ◌++◌, ℕ, zero, suc, ◌+◌, ◌-◌, ◌*◌, ◌/◌, ◌≤◌, ◌<◌, length, take, drop, leb, ltb}
+use Rattle.std.specs.Prelude.{◌≡◌, Bool, cond, not, List, [], ◌∷◌, ◌++◌, ℕ, zero, suc, ◌+◌, ◌*◌, ◌≤◌, ◌<◌, length, take, drop, leb}
 use Rattle.std.proofs.Math.Path.{refl, subst}
 use Rattle.std.proofs.Common.{sym, ap, ◌∙◌, append_assoc, append-nil, arith, length-append, length-drop, drop-drop, leb-true, leb-false, le-leb}
 use Rattle.std.proofs.Math.Bool.{true, false}
-use Rattle.std.proofs.Math.Seq.{take-append_seam, drop-append_seam, drop-append-add}
+use Rattle.std.proofs.Math.Seq.{take-append_seam, drop-append-add}
 use Rattle.std.proofs.lemmas.Bool.{lt-leb}
 use Rattle.names.specs.Lists.{gather}
 use Rattle.names.specs.Laws.Lists.{gather_append}
@@ -15,7 +15,7 @@ use Rattle.names.specs.Laws.Writers.{length_store}
 use Rattle.names.specs.Writer.{store}
 use Rattle.reports.specs.declared.State.{State}
 use Rattle.reports.specs.Kept.{fold}
-use Rattle.reports.specs.Sink.{Sink, sink, more, stopped, start, outcome, Recorded}
+use Rattle.reports.specs.Sink.{Sink, sink, start, outcome}
 use Rattle.sweeps.specs.Entries.{Entry, encoded, room, listed}
 use Rattle.sweeps.specs.Entering.{enter, Fit, Entered}
 

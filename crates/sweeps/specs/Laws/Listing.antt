@@ -1,7 +1,6 @@
 -- What is claimed of a listing holds. Assumes nothing.
-use Rattle.std.specs.Prelude.{ℕ, ◌+◌, ◌*◌, ◌/◌, ◌%◌, ◌<◌, ◌≡◌, refl, List, [], ◌∷◌, map}
+use Rattle.std.specs.Prelude.{ℕ, ◌<◌, refl, List, [], ◌∷◌, map}
 use Rattle.std.proofs.Common.{sym, div-add-mod', mod-lt}
-use Rattle.condition.specs.Condition.{Condition}
 use Rattle.sweeps.specs.Windows.{Concrete, concrete_windows, in_sweeps, entries}
 use Rattle.sweeps.specs.Listing.{Swept, Pairwise, Listing}
 

@@ -13,19 +13,19 @@ use Rattle.sweeps.proofs.run.in_places.Tie as tie
 
 ruleset steps = (placing)
 
-abbrev invariant-loop : tie.invariant-loop
-invariant-loop s places period out₀ now₀ i₀ out now i =
+abbrev invariant-loop-i : tie.invariant-loop-i
+invariant-loop-i s places period out₀ now₀ i₀ out now i =
     (length out ≡ length out₀) × PlacesLeft s period (fold enter (sink out₀ now₀) (entries period (record_in s))) (sink out now) i
 
-abbrev decreases-loop : tie.decreases-loop
-decreases-loop s places period out₀ now₀ i₀ out now i = length places - i
+abbrev decreases-loop-i : tie.decreases-loop-i
+decreases-loop-i s places period out₀ now₀ i₀ out now i = length places - i
 
 pub in_places_spec : {M : Type 1} → statement M
 in_places_spec =
     tie.close
     (tie.spec
-    invariant-loop
-    decreases-loop
+    invariant-loop-i
+    decreases-loop-i
     (λ c. search steps)
     (λ c κs. search steps)
     (λ c. search steps)

@@ -12,7 +12,6 @@ input_type_spec =
     (λ c. search fields)
     (λ c. search fields)
     (λ c. search fields)
-    (λ c. search fields)
     (λ c κs. search fields)
     (λ c. search fields)
     (λ c. search fields)

@@ -42,10 +42,10 @@ element_type_below t = and 1 element-type-kinds.ps (falls 1 element-type-kinds.p
 abbrev array_type_given : ℕ → array-type-lts.Claims
 array_type_given t = (byte-at-reads.Asked, byte-at-reads.Learnt, element_type_below t, element-type.Post, seen-with-reads.Asked, seen-with-reads.Learnt, array-of-reads.Asked, array-of-reads.Learnt)
 
-abbrev array-type-Inv-loop : array-type-lts.invariant-loop
+abbrev array-type-Inv-loop : array-type-lts.invariant-loop-rest
 array-type-Inv-loop schema condition start left rest₀ at₀ seen₀ rest at seen = Left schema condition left start rest at seen
 
-abbrev array_type_μ_loop : array-type-lts.decreases-loop
+abbrev array_type_μ_loop : array-type-lts.decreases-loop-rest
 array_type_μ_loop schema condition start left rest₀ at₀ seen₀ rest at seen = rest
 
 array_type_met : {M : Type 1} (t : ℕ) → array-type-lts.Closed (array_type_given t) (array_type_at t) array-type.Post M
