@@ -24,7 +24,6 @@ use Rattle.targets.specs.Places.{narrowed}
 use Rattle.resolution.specs.Places.{are_types, types_in, segments_in, Follows, NextOf}
 use Rattle.resolution.specs.Passes.{failing}
 use Rattle.resolution.specs.declared.Next.{Next}
-use Rattle.resolution.specs.declared.Next.TheVariants as Next
 use Rattle.lookup.specs.Lookup.{sized}
 use Rattle.lookup.specs.Places.{Asks, entities_of, Long, Room, Measures}
 use Rattle.lookup.specs.declared.Question.{Question}

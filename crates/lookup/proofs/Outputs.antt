@@ -1,17 +1,15 @@
 -- An answer's strings by its case, and the output placed in a buffer. Assumes nothing.
 use mathlib.Core.Path.{◌≡◌, refl, sym, ap, ◌∙◌}
-use mathlib.Core.List.{List, [], ◌∷◌, ◌++◌, append-nil}
+use mathlib.Core.List.{List, [], ◌∷◌, append-nil}
 use Prim.Native.Nat.{ℕ, ◌+◌, ◌≤◌, ◌<◌}
-use native.Mathlib.Nat.{zero-add}
 use native.Mathlib.Omega.{arith}
 use borrow.Author.Rules.{rules}
-use borrow.Author.Tests.{le-leb, lt-leb}
-use lib.ListN.{length, drop, length-append}
+use lib.ListN.{length, length-append}
 use Rattle.names.specs.Lists.{gather}
 use Rattle.names.specs.Fields.{digits}
 use Rattle.names.specs.Laws.Fields.{length_digits}
 use Rattle.names.specs.Read.{word_at}
-use Rattle.names.specs.Writer.{store, Stored}
+use Rattle.names.specs.Writer.{Stored}
 use Rattle.names.specs.Laws.Writers.{stored_none, stored_more, stored_length}
 use Rattle.types.specs.Types.{render}
 use Rattle.types.specs.Laws.Texts.{Small}
@@ -26,7 +24,6 @@ use Rattle.resolution.specs.Resolution.{unknown}
 use Rattle.resolution.specs.Places.{types_in, segments_in, small_path}
 use Rattle.resolution.specs.Passes.{scope_number, scope_of, briefly, listed, with_list}
 use Rattle.resolution.specs.declared.ScopePath.{ScopePath}
-use Rattle.resolution.specs.declared.ScopePath.TheVariants as ScopePath
 use Rattle.resolution.specs.Laws.Listed.{with_its_list, missing_listed, ambiguous_listed}
 use Rattle.reports.specs.Placed.{placed, Writes, placed-fits, placed_not}
 use Rattle.lookup.specs.Lookup.{sized, block, output}

@@ -22,7 +22,6 @@ use Rattle.resolution.specs.Resolution.{insert, renderings, admitted_by}
 use Rattle.resolution.specs.Places.{types_in, segments_in, typed_of, small_type}
 use Rattle.resolution.specs.Passes.{rendered, above, type_on, types_on, next_rendered}
 use Rattle.resolution.specs.declared.Typed.{Typed}
-use Rattle.resolution.specs.declared.Typed.TheVariants as Typed
 use Rattle.resolution.specs.Laws.Listed.{all_behind}
 use Rattle.lookup.specs.Lookup.{sized}
 use Rattle.lookup.specs.Places.{Asks, rendered_of, Long, Room, Measures}

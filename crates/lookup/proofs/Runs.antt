@@ -10,7 +10,6 @@ use Rattle.names.specs.Fields.{whole, string_of}
 use Rattle.names.specs.Names.{plain}
 use Rattle.names.specs.Read.{ending, read_number, value_or, Listed}
 use Rattle.names.specs.declared.Read.{Read}
-use Rattle.names.specs.declared.Read.TheVariants as Read
 use Rattle.names.specs.Laws.Readers.{accept, passes, refused_by, refuses}
 use Rattle.names.specs.Laws.Rows.{row_stands, row_value}
 use Rattle.reports.specs.Answers.{outcome_of, Refuses}
@@ -19,14 +18,12 @@ use Rattle.schema.specs.Schema.{schema_record}
 use Rattle.schema.specs.Find.{find_action}
 use Rattle.schema.specs.Places.{schema_in, is_action, action_in, FindsAction}
 use Rattle.names.specs.declared.Found.{Found}
-use Rattle.names.specs.declared.Found.TheVariants as Found
 use Rattle.names.specs.declared.Row.{Row}
 use Rattle.targets.specs.Targets.{Narrowing, target_record}
 use Rattle.targets.specs.PathRecord as PathRecord
 use Rattle.targets.specs.PathRecord.{path_record, target_at}
 use Rattle.targets.specs.Places.{targets_in, is_target, target_in, query_in, side_of, FindsTarget}
 use Rattle.targets.specs.declared.Side.{Side}
-use Rattle.targets.specs.declared.Side.TheVariants as Side
 use Rattle.resolution.specs.Resolution.{scope_path, unknown}
 use Rattle.reports.specs.Placed.{placed}
 use Rattle.lookup.specs.Lookup.{on_side_by, found_by, found, output, answered_by, answered, lookup_by, lookup}

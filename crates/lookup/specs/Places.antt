@@ -16,7 +16,6 @@ use Rattle.resolution.specs.Resolution.{scope_path}
 use Rattle.resolution.specs.Places.{are_types, types_in, are_segments, segments_in}
 use Rattle.resolution.specs.Passes.{failing, renderings_on}
 use Rattle.resolution.specs.declared.ScopePath.{ScopePath}
-use Rattle.resolution.specs.declared.ScopePath.TheVariants as ScopePath
 use Rattle.lookup.specs.Lookup.{on_side, sized}
 use Rattle.lookup.specs.declared.Question.{Question}
 use Rattle.lookup.specs.declared.Measured.{Measured}

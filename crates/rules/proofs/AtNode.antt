@@ -1,14 +1,12 @@
 -- The rules at one reached node, by what stands there. Assumes nothing.
 use mathlib.Core.Path.{◌≡◌, refl, sym, ap, ◌∙◌}
-use mathlib.Core.Bool.{Bool, true, false, cond, ◌||◌}
+use mathlib.Core.Bool.{Bool, true, cond, ◌||◌}
 use mathlib.Core.List.{List, [], ◌++◌}
-use mathlib.Core.Option.{Option, none, some}
-use Prim.Native.Nat.{ℕ, ◌+◌, ◌-◌, ◌≤◌, ◌<◌}
-use native.Mathlib.Omega.{arith}
+use mathlib.Core.Option.{some}
+use Prim.Native.Nat.{ℕ}
 use borrow.Author.Rules.{rules}
 use borrow.Author.Tests.{ne_eqb}
 use lib.Dec.{ltb, eqb, lit<}
-use lib.ListN.{length}
 use Rattle.types.specs.Types.{Profile}
 use Rattle.names.specs.Lists.{gather}
 use Rattle.names.specs.Read.{word_at}
@@ -20,14 +18,12 @@ use Rattle.nodes.specs.Offsets.{first_part}
 use Rattle.nodes.specs.Laws.Pieces.{timepoint_inside}
 use Rattle.nodes.specs.Laws.Leaves.{leaves_gather, one_term, one_leaves, leaf_next, leaf_stands, leaf_plain, fewer_leaves}
 use Rattle.nodes.specs.Looked.{KindHere, TermKindHere}
-use Rattle.nodes.specs.Parts.{Spans, ComparisonHere, TimepointHere, SlotHere, is_terms, leaves_in, LeafNext, NextLeafIs}
+use Rattle.nodes.specs.Parts.{Spans, ComparisonHere, TimepointHere, SlotHere, is_terms, leaves_in, NextLeafIs}
 use Rattle.nodes.specs.declared.Ends.{Ends}
 use Rattle.nodes.specs.declared.ComparisonAt.{ComparisonAt}
 use Rattle.nodes.specs.declared.Several.{Several}
 use Rattle.nodes.specs.declared.NextLeaf.{NextLeaf}
-use Rattle.nodes.specs.declared.NextLeaf.TheVariants as NextLeaf
 use Rattle.nodes.specs.declared.SlotAt.{SlotAt}
-use Rattle.nodes.specs.declared.SlotAt.TheVariants as SlotAt
 use Rattle.resolution.specs.Places.{typed_of}
 use Rattle.resolution.specs.declared.Typed.{Typed}
 use Rattle.reports.specs.declared.State.{State}
@@ -35,7 +31,7 @@ use Rattle.reports.specs.Reports.{Breach}
 use Rattle.reports.specs.Sink.{Sink, sink, push, push_all}
 use Rattle.reports.specs.Slots.{Lent, Pushed}
 use Rattle.reports.specs.Laws.Sinks.{Reporting, reporting_next, reporting_over, recorded_none, recorded_then}
-use Rattle.terms.specs.Terms.{Facts, term_type, var_type}
+use Rattle.terms.specs.Terms.{Facts, term_type}
 use Rattle.terms.specs.Answers.{TypeOf}
 use Rattle.terms.specs.Facts.{facts_in, NameTyped}
 use Rattle.terms.specs.declared.Facts as Code

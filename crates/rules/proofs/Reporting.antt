@@ -18,7 +18,6 @@ use Rattle.messages.specs.Words.{text_of, Stands, most, said_breaches, SaidStand
 use Rattle.messages.specs.Laws.Lengths.{Bytes, text_within}
 use Rattle.messages.specs.declared.Sentence.{Sentence}
 use Rattle.messages.specs.declared.Said.{Said}
-use Rattle.messages.specs.declared.Said.TheVariants as Said
 use Rattle.rules.specs.Findings.{said_of}
 use Rattle.rules.specs.declared.Finding.{Finding}
 use Rattle.rules.specs.declared.Finding.TheVariants.{Clean, Wildcard, NotLong, NotNumeric, Unlike, WrongTimepoint, WrongArgument}

@@ -9,7 +9,6 @@ use Rattle.resolution.specs.declared.Typed.{Typed}
 use Rattle.reports.specs.declared.Message.TheVariants as Message
 use Rattle.messages.specs.declared.Word.TheVariants.{Nothing, Name, Shown}
 use Rattle.messages.specs.declared.Said.{Said}
-use Rattle.messages.specs.declared.Said.TheVariants as Said
 use Rattle.messages.specs.Words.{Rule, Tells, say}
 use Rattle.rules.specs.Rules.{both}
 use Rattle.rules.specs.declared.Finding.{Finding}

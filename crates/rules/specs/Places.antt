@@ -4,10 +4,9 @@ use Rattle.std.proofs.Math.Option.{Option, some}
 use Rattle.names.specs.Read.{word_at}
 use Rattle.types.specs.Types.{Ty}
 use Rattle.types.specs.Meaning.{profile_in}
-use Rattle.schema.specs.Places.{schema_in, is_action, action_in, found_in, found_stands}
+use Rattle.schema.specs.Places.{is_action, action_in, found_in, found_stands}
 use Rattle.resolution.specs.Resolution.{context_type}
-use Rattle.condition.specs.Condition.{Operator, comparison, predicate}
-use Rattle.nodes.specs.Kinds.{span_of}
+use Rattle.condition.specs.Condition.{Operator, comparison}
 use Rattle.condition.specs.Places.{condition_in, is_term, term_in, is_arguments, arguments_in, path_in, slot_in}
 use Rattle.nodes.specs.declared.ArgumentAt.{ArgumentAt}
 use Rattle.terms.specs.Terms.{term_type}

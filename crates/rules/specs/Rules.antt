@@ -1,14 +1,11 @@
 -- The typing rules: what one reached node of a condition breaks, under the facts of a target.
-use Rattle.std.specs.Prelude.{ℕ, Bool, true, false, cond, ◌&&◌, not, List, [], ◌∷◌, ◌++◌}
+use Rattle.std.specs.Prelude.{ℕ, Bool, true, false, not, List, [], ◌∷◌, ◌++◌}
 use Rattle.std.proofs.Math.Option.{Option, none, some}
-use Rattle.names.specs.Names.{same, simple_name, joined}
-use Rattle.names.specs.Text.{text}
 use Rattle.types.specs.Types as types
 use Rattle.types.specs.Types.{Ty, Profile, scalar, is_numeric, are_ordered, accepts, compatible}
-use Rattle.schema.specs.Schema.{Schema, Action}
-use Rattle.schema.specs.Find.{find_action}
+use Rattle.schema.specs.Schema.{Action}
 use Rattle.resolution.specs.Resolution.{context_type_by, predicate_action}
-use Rattle.condition.specs.Condition.{Condition, Term, Arguments, Span, Slot, named, param_ref, binder_ref, Operator, le, lt, ge, gt, eq, not_eq, one, two, predicate, comparison, exists, tp, opaque, no_argument, argument, entity, literal, context_field, scope_field, var, wildcard, array, aggregate, arith, sigil}
+use Rattle.condition.specs.Condition.{Condition, Term, Arguments, Slot, named, param_ref, binder_ref, Operator, le, lt, ge, gt, eq, not_eq, one, two, predicate, comparison, exists, tp, opaque, no_argument, argument, entity, literal, context_field, scope_field, var, wildcard, array, aggregate, arith, sigil}
 use Rattle.terms.specs.Terms.{Facts, term_type, var_type}
 use Rattle.reports.specs.Reports.{Breach}
 use Rattle.messages.specs.Words.{Rule}

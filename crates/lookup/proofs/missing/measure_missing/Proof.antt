@@ -3,18 +3,18 @@ use Rattle.lookup.proofs.Listing.{CountingMissing, counts_missing}
 use Rattle.lookup.proofs.missing.measure_missing.Statement.{statement}
 use Rattle.lookup.proofs.missing.measure_missing.Tie as tie
 
-abbrev invariant-loop : tie.invariant-loop
-invariant-loop s n c segment narrowing path left₀ m₀ left m = CountingMissing s n c (record { narrowing = narrowing; types = left₀; path = path }) segment left m
+abbrev invariant-loop-p : tie.invariant-loop-p
+invariant-loop-p s n c segment narrowing path left₀ m₀ left m = CountingMissing s n c (record { narrowing = narrowing; types = left₀; path = path }) segment left m
 
-abbrev decreases-loop : tie.decreases-loop
-decreases-loop s n c segment narrowing path left₀ m₀ left m = left.count
+abbrev decreases-loop-p : tie.decreases-loop-p
+decreases-loop-p s n c segment narrowing path left₀ m₀ left m = left.count
 
 pub measure_missing_spec : {M : Type 1} → statement M
 measure_missing_spec =
     tie.close
     (tie.spec
-    invariant-loop
-    decreases-loop
+    invariant-loop-p
+    decreases-loop-p
     (λ c κs. search counts_missing)
     (λ c κs. search counts_missing)
     (λ c. search counts_missing)

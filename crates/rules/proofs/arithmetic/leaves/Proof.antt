@@ -12,20 +12,20 @@ use Rattle.rules.proofs.AtNode.{LeavesLeft, each_leaf}
 use Rattle.rules.proofs.arithmetic.leaves.Statement.{statement}
 use Rattle.rules.proofs.arithmetic.leaves.Tie as tie
 
-abbrev invariant-loop : tie.invariant-loop
-invariant-loop buf₀ table₀ schema condition targets env facts span now₀ left₀ buf table now left =
+abbrev invariant-loop-at : tie.invariant-loop-at
+invariant-loop-at buf₀ table₀ schema condition targets env facts span now₀ left₀ buf table now left =
     (length buf ≡ length buf₀) × (length table ≡ length table₀)
     × LeavesLeft (facts_in schema condition targets facts) condition (span_in span) (push_all (sink buf₀ now₀) (leaf_breaches (facts_in schema condition targets facts) (term_in condition left₀.first) (span_in span))) (sink buf now) table left
 
-abbrev decreases-loop : tie.decreases-loop
-decreases-loop buf₀ table₀ schema condition targets env facts span now₀ left₀ buf table now left = length (leaves_in condition left.count left.first)
+abbrev decreases-loop-at : tie.decreases-loop-at
+decreases-loop-at buf₀ table₀ schema condition targets env facts span now₀ left₀ buf table now left = length (leaves_in condition left.count left.first)
 
 pub leaves_spec : {M : Type 1} → statement M
 leaves_spec =
     tie.close
     (tie.spec
-    invariant-loop
-    decreases-loop
+    invariant-loop-at
+    decreases-loop-at
     (λ c. search each_leaf)
     (λ c κs. search each_leaf)
     (λ c. search each_leaf)
@@ -36,4 +36,4 @@ leaves_spec =
     (λ c κs. (search each_leaf, (search each_leaf, search each_leaf)))
     (λ c κs. (search each_leaf, search each_leaf))
     (λ c. search each_leaf)
-    (λ c. (omega (arith, c.before.before.before.before.report.auto.0, c.before.before.before.before.before.before.before.before.before.before.before.before.loop.invariant.0), omega (arith, c.before.before.before.before.report.auto.1, c.before.before.before.before.before.before.before.before.before.before.before.before.loop.invariant.1), search each_leaf)))
+    (λ c. (omega (arith, c.report-now.auto.buf, c.loop-at.invariant.0), omega (arith, c.report-now.auto.table, c.loop-at.invariant.1), search each_leaf)))

@@ -10,19 +10,19 @@ use Rattle.sums.proofs.Visiting.{PlacesLeft, placing}
 use Rattle.sums.proofs.run.in_places.Statement.{statement}
 use Rattle.sums.proofs.run.in_places.Tie as tie
 
-abbrev invariant-loop : tie.invariant-loop
-invariant-loop s places env binding buf₀ now₀ i₀ buf now i =
+abbrev invariant-loop-i : tie.invariant-loop-i
+invariant-loop-i s places env binding buf₀ now₀ i₀ buf now i =
     (length buf ≡ length buf₀) × PlacesLeft (binding_in binding) s (append_all (sink buf₀ now₀) (breaches (binding_in binding) (record_in s))) (sink buf now) i
 
-abbrev decreases-loop : tie.decreases-loop
-decreases-loop s places env binding buf₀ now₀ i₀ buf now i = length places - i
+abbrev decreases-loop-i : tie.decreases-loop-i
+decreases-loop-i s places env binding buf₀ now₀ i₀ buf now i = length places - i
 
 pub in_places_spec : {M : Type 1} → statement M
 in_places_spec =
     tie.close
     (tie.spec
-    invariant-loop
-    decreases-loop
+    invariant-loop-i
+    decreases-loop-i
     (λ c. search placing)
     (λ c κs. search placing)
     (λ c κs. search placing)

@@ -7,9 +7,7 @@ pub is_decimal_spec : {M : Type 1} → statement M
 is_decimal_spec =
     tie.close
     (tie.spec
-    (λ c. search decimals)
     (λ c κs. search decimals)
-    (λ c. search decimals)
     (λ c. search decimals)
     (λ c κs. search decimals)
     (λ c. search decimals))

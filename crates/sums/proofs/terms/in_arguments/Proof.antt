@@ -10,19 +10,19 @@ use Rattle.sums.proofs.Visiting.{ArgumentsLeft, arguing}
 use Rattle.sums.proofs.terms.in_arguments.Statement.{statement}
 use Rattle.sums.proofs.terms.in_arguments.Tie as tie
 
-abbrev invariant-loop : tie.invariant-loop
-invariant-loop s env place count first buf₀ now₀ at₀ rest₀ buf now at rest =
+abbrev invariant-loop-rest : tie.invariant-loop-rest
+invariant-loop-rest s env place count first buf₀ now₀ at₀ rest₀ buf now at rest =
     (length buf ≡ length buf₀) × ArgumentsLeft (binding_in place.binding) (binders_at s place) s (append_all (sink buf₀ now₀) (arguments_breaches (binding_in place.binding) (binders_at s place) (arguments_in s count first))) (sink buf now) rest at
 
-abbrev decreases-loop : tie.decreases-loop
-decreases-loop s env place count first buf₀ now₀ at₀ rest₀ buf now at rest = rest
+abbrev decreases-loop-rest : tie.decreases-loop-rest
+decreases-loop-rest s env place count first buf₀ now₀ at₀ rest₀ buf now at rest = rest
 
 pub in_arguments_spec : {M : Type 1} → statement M
 in_arguments_spec =
     tie.close
     (tie.spec
-    invariant-loop
-    decreases-loop
+    invariant-loop-rest
+    decreases-loop-rest
     (λ c. search arguing)
     (λ c κs. search arguing)
     (λ c κs. search arguing)

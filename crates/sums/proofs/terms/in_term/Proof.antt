@@ -13,19 +13,19 @@ use Rattle.sums.proofs.terms.in_term.Tie as tie
 
 ruleset steps = (leafing)
 
-abbrev invariant-loop : tie.invariant-loop
-invariant-loop s env place at buf₀ now₀ left₀ buf now left =
+abbrev invariant-loop-leaf : tie.invariant-loop-leaf
+invariant-loop-leaf s env place at buf₀ now₀ left₀ buf now left =
     (length buf ≡ length buf₀) × LeavesOn (binding_in place.binding) (binders_at s place) s (append_all (sink buf₀ now₀) (term_breaches (binding_in place.binding) (binders_at s place) (term_in s at))) (sink buf now) left
 
-abbrev decreases-loop : tie.decreases-loop
-decreases-loop s env place at buf₀ now₀ left₀ buf now left = length (leaves_in s left.count left.first)
+abbrev decreases-loop-leaf : tie.decreases-loop-leaf
+decreases-loop-leaf s env place at buf₀ now₀ left₀ buf now left = length (leaves_in s left.count left.first)
 
 pub in_term_spec : {M : Type 1} → statement M
 in_term_spec =
     tie.close
     (tie.spec
-    invariant-loop
-    decreases-loop
+    invariant-loop-leaf
+    decreases-loop-leaf
     (λ c. search steps)
     (λ c κs. search steps)
     (λ c. search steps)
