@@ -9,7 +9,6 @@ use lib.Seq.{length-take-le}
 use Rattle.names.specs.Fields.{whole}
 use Rattle.names.specs.Read.{ending, read_number, value_or}
 use Rattle.names.specs.declared.Read.{Read}
-use Rattle.names.specs.declared.Read.TheVariants as Read
 use Rattle.names.specs.Laws.Readers.{accept, passes, refused_by, refuses}
 use Rattle.types.specs.Types.{dated, plain}
 use Rattle.types.specs.Meaning.{profile_in}
@@ -17,7 +16,6 @@ use Rattle.schema.specs.Schema.{schema_record}
 use Rattle.schema.specs.Find.{find_action}
 use Rattle.schema.specs.Places.{schema_in, is_action, action_in, found_in, found_stands, FindsAction, ActionsOf}
 use Rattle.names.specs.declared.Found.{Found}
-use Rattle.names.specs.declared.Found.TheVariants as Found
 use Rattle.targets.specs.Targets.{target_record}
 use Rattle.targets.specs.PathRecord.{target_at}
 use Rattle.targets.specs.Places.{targets_in, is_target, target_in, FindsTarget}
@@ -42,9 +40,7 @@ use Rattle.terms.specs.Laws.Facts.{facts_mean}
 use Rattle.operands.specs.Operands.{operand_in, shown, answered, under_target, at_position, operand_type}
 use Rattle.operands.specs.Answers.{outcome_of, place_of, Records}
 use Rattle.operands.specs.declared.Operand.{Operand}
-use Rattle.operands.specs.declared.Operand.TheVariants as Operand
 use Rattle.operands.specs.declared.Answer.{Answer}
-use Rattle.operands.specs.declared.Answer.TheVariants as Answer
 
 -- ---- the operand
 

@@ -1,6 +1,6 @@
 -- The definition computes: document 01's whole run, a Bool below an Integer under a target that no action is declared for. Assumes nothing.
 use mathlib.Core.Path.{◌≡◌, refl}
-use mathlib.Core.List.{List, [], ◌∷◌, ◌++◌}
+use mathlib.Core.List.{List, [], ◌∷◌}
 use Prim.Native.Nat.{ℕ}
 use Rattle.names.specs.Fields.{bytes, u8, u16, u32, number, string_of, many, counted, heading, finished, whole, choose}
 use Rattle.names.specs.Lists.{first, every}

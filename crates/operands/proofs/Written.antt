@@ -1,5 +1,5 @@
 -- The text of a type at the front of a buffer. Assumes nothing.
-use mathlib.Core.Path.{◌≡◌, refl, ◌∙◌}
+use mathlib.Core.Path.{◌≡◌, ◌∙◌}
 use mathlib.Core.List.{List, ◌++◌}
 use Prim.Native.Nat.{ℕ, ◌+◌, ◌≤◌, ◌<◌}
 use native.Mathlib.Nat.{zero-add}
@@ -16,11 +16,9 @@ use Rattle.types.specs.declared.Form.TheVariants as Form
 use Rattle.types.specs.declared.Rich.{Rich}
 use Rattle.resolution.specs.Places.{typed_of, small_type}
 use Rattle.resolution.specs.declared.Typed.{Typed}
-use Rattle.resolution.specs.declared.Typed.TheVariants as Typed
 use Rattle.operands.specs.Operands.{placed, shown}
 use Rattle.operands.specs.Answers.{outcome_of}
 use Rattle.operands.specs.declared.Answer.{Answer}
-use Rattle.operands.specs.declared.Answer.TheVariants as Answer
 
 pub type_counted : (t : Ty) → Small t → length (render t) < 18446744073709551616
 type_counted t small = text_counted Form.Render t small

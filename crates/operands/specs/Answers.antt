@@ -7,9 +7,7 @@ use Rattle.targets.specs.Places.{are_targets}
 use Rattle.operands.specs.Operands.{written, untyped, no_comparison, refused, Outcome}
 use Rattle.operands.specs.Operands as Operands
 use Rattle.operands.specs.declared.Operand.{Operand}
-use Rattle.operands.specs.declared.Operand.TheVariants as Operand
 use Rattle.operands.specs.declared.Answer.{Answer}
-use Rattle.operands.specs.declared.Answer.TheVariants as Answer
 
 -- the code's answer
 abbrev pub answer_of : Answer → Operands.Answer

@@ -11,7 +11,6 @@ use Rattle.targets.specs.PathRecord.{target_at}
 use Rattle.condition.specs.Condition.{Condition, Term, one, two, predicate, comparison, exists, tp, opaque, condition_record}
 use Rattle.terms.specs.Terms.{Facts, facts_of, term_type}
 use Rattle.operands.specs.declared.Operand.{Operand}
-use Rattle.operands.specs.declared.Operand.TheVariants as Operand
 
 -- what is answered
 pub data Answer : Type 0 where

@@ -20,8 +20,7 @@ use Rattle.nodes.specs.declared.Ends.{Ends}
 use Rattle.names.specs.Lists.{maybe}
 use Rattle.condition.specs.Condition.{Slot, Binder, Annotation, sum, path}
 use Rattle.nodes.specs.Kinds.{aggregate_kind_of, aggregate_span_of}
-use Rattle.nodes.specs.Offsets.{aggregate_part}
-use Rattle.condition.specs.Places.{is_aggregate, aggregate_in, slot_in}
+use Rattle.condition.specs.Places.{aggregate_in}
 use Rattle.nodes.specs.Laws.Pieces.{summand_inside, summand_slot}
 use Rattle.nodes.specs.Parts.{segments_in, SegmentsHere, is_binders, binders_in, BindersHere, bound_in, BoundStands, BoundBy, slot_of, SummandHere, Spans, SlotHere}
 use Rattle.condition.specs.Walk.{declared_by, last_named}
@@ -39,7 +38,6 @@ use Rattle.messages.specs.declared.Word.TheVariants as Word
 use Rattle.messages.specs.declared.Word.TheVariants.{Name, Joined}
 use Rattle.messages.specs.declared.Sentence.{Sentence}
 use Rattle.messages.specs.declared.Said.{Said}
-use Rattle.messages.specs.declared.Said.TheVariants as Said
 use Rattle.messages.specs.Words.{text_of, quoted, Stands, say, said_breaches, SaidStands, Tells, span_in}
 use Rattle.messages.specs.Laws.Lengths.{Bytes, text_within}
 use Rattle.sums.specs.Summands.{SummandIs}

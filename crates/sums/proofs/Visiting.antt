@@ -2,7 +2,7 @@
 use mathlib.Core.Path.{◌≡◌, refl, sym, ap, ◌∙◌}
 use mathlib.Core.Bool.{Bool, true, false, cond, ◌&&◌}
 use mathlib.Core.List.{List, []}
-use Prim.Native.Nat.{ℕ, zero, suc, ◌+◌, ◌-◌, ◌≤◌, ◌<◌}
+use Prim.Native.Nat.{ℕ, zero, suc, ◌+◌, ◌-◌, ◌≤◌}
 use native.Mathlib.Omega.{arith}
 use borrow.Author.Rules.{rules}
 use lib.Dec.{leb, eqb}
@@ -10,12 +10,11 @@ use borrow.Author.Tests.{eqb-true, eqb-false}
 use lib.ListN.{length, drop, drop_of_length-le}
 use Rattle.names.specs.Fields.{Got, got, Reader, next, u8, refuse, choose, levels, string_of, i64}
 use Rattle.names.specs.Lists.{gather}
-use Rattle.names.specs.Names.{plain, path_name}
+use Rattle.names.specs.Names.{plain}
 use Rattle.names.specs.Paths.{path_of}
 use Rattle.names.specs.Laws.Readers.{split, got_value, Each, keys_up_to}
 use Rattle.nodes.specs.declared.Several.{Several}
 use Rattle.nodes.specs.declared.NextLeaf.{NextLeaf}
-use Rattle.nodes.specs.declared.NextLeaf.TheVariants as NextLeaf
 use Rattle.nodes.specs.declared.ComparisonAt.{ComparisonAt}
 use Rattle.nodes.specs.declared.PredicateAt.{PredicateAt}
 use Rattle.nodes.specs.declared.ArgumentAt.{ArgumentAt}
@@ -26,7 +25,7 @@ use Rattle.nodes.specs.Kinds.{kind_of, term_kind_of, aggregate_kind_of}
 use Rattle.condition.specs.Places.{version_in, record_in, condition_in, is_term, term_in, aggregate_in, is_arguments, arguments_in}
 use Rattle.nodes.specs.Laws.Inside.{aggregate_first, aggregate_inside}
 use Rattle.nodes.specs.Looked.{KindHere, TermKindHere, AggregateKindHere, AggregateHere}
-use Rattle.nodes.specs.Parts.{ComparisonHere, PredicateHere, ArgumentHere, is_terms, leaves_in, LeafNext, NextLeafIs}
+use Rattle.nodes.specs.Parts.{ComparisonHere, PredicateHere, ArgumentHere, is_terms, leaves_in, NextLeafIs}
 use Rattle.nodes.specs.Laws.Leaves.{leaves_gather, one_term, one_leaves, leaf_next, leaf_stands, leaf_plain, fewer_leaves}
 use Rattle.walk.specs.Index.{Index, Reached}
 use Rattle.walk.specs.Scopes.{Scoped, Binding, nodes_by}

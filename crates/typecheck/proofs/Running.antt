@@ -2,7 +2,7 @@
 use mathlib.Core.Path.{◌≡◌, refl, sym, ap, ap₂, ◌∙◌}
 use mathlib.Core.Bool.{Bool, true, false}
 use mathlib.Core.List.{List, [], ◌∷◌, ◌++◌, map, append-nil}
-use mathlib.Core.Option.{Option, none, some}
+use mathlib.Core.Option.{Option}
 use Prim.Native.Nat.{ℕ, ◌+◌, ◌-◌, ◌*◌, ◌%◌, ◌≤◌, ◌<◌}
 use native.Mathlib.Nat.{add_assoc}
 use native.Mathlib.Omega.{arith}
@@ -14,26 +14,23 @@ use Rattle.names.specs.Lists.{maybe, gather}
 use Rattle.names.specs.Fields.{whole}
 use Rattle.names.specs.Read.{ending, read_number, Listed}
 use Rattle.names.specs.declared.Read.{Read}
-use Rattle.names.specs.declared.Read.TheVariants as Read
 use Rattle.names.specs.Laws.Readers.{accept, passes, refused_by, refuses}
 use Rattle.names.specs.Laws.Rows.{listed_first, listed_over}
 use Rattle.types.specs.Types as types
 use Rattle.types.specs.Meaning.{profile_in}
 use Rattle.types.specs.declared.Profile.{Profile}
-use Rattle.types.specs.declared.Profile.TheVariants as Profile
 use Rattle.schema.specs.Schema.{Schema, Action, schema_record}
 use Rattle.schema.specs.Find.{find_action}
 use Rattle.schema.specs.Places.{is_schema, schema_in, is_action, action_in, found_in, found_stands, FindsAction, ActionsOf}
 use Rattle.names.specs.declared.Found.{Found}
 use Rattle.names.specs.declared.Row.{Row}
-use Rattle.names.specs.declared.Found.TheVariants as Found
 use Rattle.targets.specs.Targets.{Scope, Target, Targets, target, target_record}
-use Rattle.targets.specs.Places.{are_targets, targets_in, is_target, target_in}
+use Rattle.targets.specs.Places.{targets_in, is_target, target_in}
 use Rattle.condition.specs.Condition.{Condition, condition_record}
 use Rattle.condition.specs.Places.{is_record, record_in, condition_in}
 use Rattle.condition.specs.Laws.Records.{record_small}
 use Rattle.condition.specs.Laws.Sizes.{record_nodes}
-use Rattle.walk.specs.Index.{nodes_of, Index, Reached}
+use Rattle.walk.specs.Index.{Index, Reached}
 use Rattle.walk.specs.Scopes.{Scoped, under, Binding, binding_of, nodes_by}
 use Rattle.walk.specs.Enclosing.{around_at, binding_in, Names}
 use Rattle.walk.specs.Laws.Nodes.{length_by, reached_index, reached_by}
@@ -54,7 +51,7 @@ use Rattle.terms.specs.declared.Common.{Common}
 use Rattle.terms.specs.declared.Facts.{Facts}
 use Rattle.terms.specs.Facts.{facts_in, scope_in, at_node, Ready, Known, FactsOf}
 use Rattle.rules.specs.Rules.{node_breaches}
-use Rattle.typecheck.specs.Check.{profile_of, Choices, choices_of, breaches_at, breaches_under, is_checked, visits_under_by, visits_under, CheckOutcome, checked_by, checked, check_with, check}
+use Rattle.typecheck.specs.Check.{profile_of, Choices, choices_of, breaches_at, is_checked, visits_under_by, visits_under, CheckOutcome, checked_by, checked, check_with, check}
 use Rattle.typecheck.specs.Answers.{check_outcome_of, WithVisits, Spared}
 use Rattle.typecheck.specs.Run.{Accepted, ReadAs, reading, choices_in, chosen_in, KnownUnder, under_visits, UnderKnown, UnderHere, found_by, begun_from, Visited}
 use Rattle.typecheck.specs.Laws.Visits.{found_all, full_stays, full_begins, found_append, begun_append, begun_few, begun_run}
@@ -62,7 +59,6 @@ use Rattle.typecheck.specs.Laws.Reading.{check_reading, accepted_reading}
 use Rattle.typecheck.specs.declared.CheckAnswer.{CheckAnswer}
 use Rattle.typecheck.specs.declared.Progress.{Progress}
 use Rattle.typecheck.specs.declared.Records.{Records}
-use Rattle.typecheck.specs.declared.Records.TheVariants as Records
 use Rattle.typecheck.specs.declared.Under.{Under}
 use Rattle.typecheck.specs.declared.Under.TheVariants.{Skipped, Checked}
 

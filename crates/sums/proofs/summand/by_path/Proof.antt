@@ -9,7 +9,6 @@ by_path_spec =
     (tie.spec
     (λ c κs. search paths)
     (λ c κs. search paths)
-    (λ c. search paths)
     (λ c κs. search paths)
     (λ c. search paths)
     (λ c κs. search paths)

@@ -1,7 +1,6 @@
 -- `typecheck::run::all_targets` meets its contract. The targets that are left, visited, make the whole. Assumes nothing.
 use mathlib.Core.Path.{◌≡◌}
 use native.Mathlib.Omega.{arith}
-use borrow.Author.Rules.{rules}
 use lib.ListN.{length}
 use Rattle.names.specs.Lists.{gather}
 use Rattle.schema.specs.Places.{schema_in}
@@ -14,21 +13,21 @@ use Rattle.typecheck.proofs.Running.{TargetsLeft, each_target, targets_stand, ta
 use Rattle.typecheck.proofs.run.all_targets.Statement.{statement}
 use Rattle.typecheck.proofs.run.all_targets.Tie as tie
 
-abbrev invariant-loop : tie.invariant-loop
-invariant-loop buf₀ table₀ schema condition targets places env common now₀ visits₀ rest₀ at₀ buf table now visits rest at =
+abbrev invariant-loop-rest : tie.invariant-loop-rest
+invariant-loop-rest buf₀ table₀ schema condition targets places env common now₀ visits₀ rest₀ at₀ buf table now visits rest at =
     let f = visits_under (chosen_in common) (schema_in schema) (record_in condition) (targets_in targets).scope in
     let all = gather f (targets_in targets).list in
     (length buf ≡ length buf₀) × (length table ≡ length table₀) × TargetsLeft f targets (push_all (sink buf₀ now₀) (found_by all)) (begun_from (sink buf₀ now₀) all) (sink buf now) table visits rest at
 
-abbrev decreases-loop : tie.decreases-loop
-decreases-loop buf₀ table₀ schema condition targets places env common now₀ visits₀ rest₀ at₀ buf table now visits rest at = rest
+abbrev decreases-loop-rest : tie.decreases-loop-rest
+decreases-loop-rest buf₀ table₀ schema condition targets places env common now₀ visits₀ rest₀ at₀ buf table now visits rest at = rest
 
 pub all_targets_spec : {M : Type 1} → statement M
 all_targets_spec =
     tie.close
     (tie.spec
-    invariant-loop
-    decreases-loop
+    invariant-loop-rest
+    decreases-loop-rest
     (λ c κs. search each_target)
     (λ c κs. search each_target)
     (λ c. search each_target)
@@ -37,11 +36,11 @@ all_targets_spec =
     (λ c. search each_target)
     (λ c κs. (search each_target, (search each_target, (search each_target, search each_target))))
     (λ c κs. (search each_target, (search each_target, search each_target)))
-    (λ c κs. targets_stand _ _ _ _ _ c.before.before.before.before.before.before.before.before.before.before.loop.invariant.2 c.before.before.before.before.before.before.before.before.before.loop-test.true)
+    (λ c κs. targets_stand _ _ _ _ _ c.loop-rest.invariant.2 c.loop-rest-test.true)
     (λ c. search each_target)
-    (λ c. omega (arith, target_sum _ _ _ _ _ _ c.before.before.before.before.before.before.before.before.before.under-target.ensures c.before.before.before.before.before.before.before.before.before.before.before.before.before.before.before.before.before.before.before.before.before.before.requires.1.0 _ _ c.before.before.before.before.before.before.before.before.before.before.before.before.loop.invariant.2 c.before.before.before.before.before.before.before.before.before.before.before.loop-test.true c.before.before.before.before.before.before.under.ensures))
+    (λ c. omega (arith, target_sum _ _ _ _ _ _ c.under_target-target.ensures c.requires.1.0 _ _ c.loop-rest.invariant.2 c.loop-rest-test.true c.under-done.ensures))
     (λ c. search each_target)
-    (λ c. (omega (arith, c.before.before.before.before.before.before.before.under.auto.0, c.before.before.before.before.before.before.before.before.before.before.before.before.before.loop.invariant.0), omega (arith, c.before.before.before.before.before.before.before.under.auto.1, c.before.before.before.before.before.before.before.before.before.before.before.before.before.loop.invariant.1), target_turn _ _ _ _ _ _ c.before.before.before.before.before.before.before.before.before.before.under-target.ensures c.before.before.before.before.before.before.before.before.before.before.before.before.before.before.before.before.before.before.before.before.before.before.before.requires.1.0 _ _ c.before.before.before.before.before.before.before.before.before.before.before.before.before.loop.invariant.2 c.before.before.before.before.before.before.before.before.before.before.before.before.loop-test.true c.before.before.before.before.before.before.before.under.ensures _ c.before.before.next-target.ensures))
+    (λ c. (omega (arith, c.under-done.auto.buf, c.loop-rest.invariant.0), omega (arith, c.under-done.auto.table, c.loop-rest.invariant.1), target_turn _ _ _ _ _ _ c.under_target-target.ensures c.requires.1.0 _ _ c.loop-rest.invariant.2 c.loop-rest-test.true c.under-done.ensures _ c.next_target-at.ensures))
     (λ c. search each_target)
     (λ c. search each_target)
     (λ c. search each_target))

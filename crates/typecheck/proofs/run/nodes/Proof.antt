@@ -17,22 +17,22 @@ use Rattle.typecheck.proofs.Running.{NodesLeft, each_node}
 use Rattle.typecheck.proofs.run.nodes.Statement.{statement}
 use Rattle.typecheck.proofs.run.nodes.Tie as tie
 
-abbrev invariant-loop : tie.invariant-loop
-invariant-loop buf₀ table₀ schema condition targets places env facts now₀ i₀ buf table now i =
+abbrev invariant-loop-i : tie.invariant-loop-i
+invariant-loop-i buf₀ table₀ schema condition targets places env facts now₀ i₀ buf table now i =
     let f = breaches_at dated (profile_in facts.common.profile) (schema_in schema) (scope_in targets facts) (found_in (action_in schema) facts.action) in
     let b = binding_in facts.common.binding in
     let visits = map f (nodes_by b (record_in condition)) in
     (length buf ≡ length buf₀) × (length table ≡ length table₀) × NodesLeft f b condition (push_all (sink buf₀ now₀) (found_by visits)) (begun_from (sink buf₀ now₀) visits) (sink buf now) table i
 
-abbrev decreases-loop : tie.decreases-loop
-decreases-loop buf₀ table₀ schema condition targets places env facts now₀ i₀ buf table now i = length places - i
+abbrev decreases-loop-i : tie.decreases-loop-i
+decreases-loop-i buf₀ table₀ schema condition targets places env facts now₀ i₀ buf table now i = length places - i
 
 pub nodes_spec : {M : Type 1} → statement M
 nodes_spec =
     tie.close
     (tie.spec
-    invariant-loop
-    decreases-loop
+    invariant-loop-i
+    decreases-loop-i
     (λ c. search each_node)
     (λ c. search each_node)
     (λ c. search each_node)
