@@ -14,7 +14,6 @@ use lib.Seq.{length-take-le, take_all, take-length, get_or-take, set_split, take
 use Rattle.names.specs.Fields.{whole}
 use Rattle.names.specs.Read.{ending, read_number, value_or}
 use Rattle.names.specs.declared.Read.{Read}
-use Rattle.names.specs.declared.Read.TheVariants as Read
 use Rattle.names.specs.Writer.{store, Stored}
 use Rattle.names.specs.Laws.Readers.{accept, passes, refused_by, refuses}
 use Rattle.names.specs.Laws.Rows.{listed_length}

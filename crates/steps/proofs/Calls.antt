@@ -16,7 +16,6 @@ use Rattle.condition.specs.Places.{record_in}
 use Rattle.targets.specs.Targets.{Target, Targets}
 use Rattle.targets.specs.Places.{targets_in, is_target, target_in}
 use Rattle.typecheck.specs.declared.Records.{Records}
-use Rattle.typecheck.specs.declared.Records.TheVariants as Records
 use Rattle.typecheck.specs.declared.CheckAnswer.{CheckAnswer}
 use Rattle.typecheck.specs.Check.{Choices, choices_of}
 use Rattle.typecheck.specs.Answers.{check_outcome_of, Spared}
@@ -25,7 +24,6 @@ use Rattle.typecheck.specs.Laws.Reading.{accepted_reading}
 use Rattle.steps.specs.declared.Steps.{Steps}
 use Rattle.steps.specs.declared.Stepped.{Stepped}
 use Rattle.steps.specs.declared.Pending.{Pending}
-use Rattle.steps.specs.declared.Pending.TheVariants as Pending
 use Rattle.steps.specs.Steps.{SteppedOutcome, first_pending, begins, start, so_far, done_with, doing, step_over, step}
 use Rattle.steps.specs.Answers.{stepped_of}
 use Rattle.steps.specs.Parts.{Answered, FindsPending, PendingStands}

@@ -11,7 +11,6 @@ use Rattle.reports.specs.declared.Answer.{Answer}
 use Rattle.reports.specs.declared.State.{State}
 use Rattle.reports.specs.Reports.{Outcome}
 use Rattle.reports.specs.Answers.{Answers, Refuses}
-use Rattle.reports.specs.Sink.{outcome}
 use Rattle.typecheck.specs.declared.CheckAnswer.{CheckAnswer}
 use Rattle.typecheck.specs.Answers.{WithVisits}
 use Rattle.steps.specs.declared.Steps.{Steps}
