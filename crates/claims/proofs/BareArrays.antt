@@ -5,7 +5,7 @@ use mathlib.Core.List.{List, [], ◌∷◌, ◌++◌}
 use Prim.Native.Nat.{ℕ, zero, suc}
 use lib.Dec.{eqb, leb}
 use Rattle.names.specs.Lists.{every}
-use Rattle.names.specs.Fields.{got, Reader, ◌>>=◌, ◌<$>◌, pure, refuse, u8, i64, string_of, choose, levels, counted, each}
+use Rattle.names.specs.Fields.{got, Reader, ◌>>=◌, ◌<∘>◌, pure, refuse, u8, i64, string_of, choose, levels, counted, each}
 use Rattle.names.specs.Names.{plain, path_name}
 use Rattle.names.specs.Paths.{path_of}
 use Rattle.names.specs.Laws.Names.{and_left, and_right}
@@ -56,7 +56,7 @@ module _ {A B : Type 0} {P : B → Type 0} where
   then : {Q : A → Type 0} {f : Reader A} {g : A → Reader B} → Gives Q f → ((a : A) → Q a → Gives P (g a)) → Gives P (f >>= g)
   then {f = f} p q = record { on = λ s at e. let x = split (f s at) _ e in (q x.value (p.on s at x.first)).on s x.place x.rest }
 
-  made : (f : Reader A) (h : A → B) → ((a : A) → P (h a)) → Gives P (h <$> f)
+  made : (f : Reader A) (h : A → B) → ((a : A) → P (h a)) → Gives P (h <∘> f)
   made f h q = past f (λ a. stay (h a) (q a))
 
 -- ---- conditions whose comparisons are bare; terms with such in them; terms below an array
@@ -122,7 +122,7 @@ module _ (v : ℕ) (f : Reader Condition) (t : Bool → Reader Term) (p : Gives 
   unfolding timepoint_of reached every bare_operands
   timepoint_bare = past span λ at. past slot λ x. stay (tp at x) (record { all = refl })
 
-  opaque_bare : Gives Bare (opaque <$> span)
+  opaque_bare : Gives Bare (opaque <∘> span)
   unfolding reached every bare_operands
   opaque_bare = made span opaque λ at. record { all = refl }
 
@@ -159,7 +159,7 @@ module _ (v : ℕ) (f : Reader Condition) (t : Bool → Reader Term) (p : Gives 
       past (given v arith_op) λ op. then (q false) λ l h. then (q false) λ r i.
       stay (tree.arith op l r) (record { arrays = both_true (bare_arrays l) (bare_arrays r) h.arrays i.arrays; all = every_joined bare_operands (reached_in l) (reached_in r) h.all i.all })
 
-  aggregate_kept : (b : Bool) → Gives (Kept b) (cond b (refuse 9) (aggregate <$> aggregate_of v f t))
+  aggregate_kept : (b : Bool) → Gives (Kept b) (cond b (refuse 9) (aggregate <∘> aggregate_of v f t))
   unfolding bare_arrays reached_in
   aggregate_kept true = never 9
   aggregate_kept false = then aggregate_bare λ a h. stay (aggregate a) (record { arrays = refl; all = h.all })

@@ -7,7 +7,7 @@ use Prim.Native.Nat.{ℕ, zero, suc, ◌≤◌}
 use native.Mathlib.Omega.{arith}
 use borrow.Author.Tests.{le-leb}
 use lib.Dec.{leb, eqb}
-use Rattle.names.specs.Fields.{Got, got, Reader, ◌>>=◌, ◌<$>◌, pure, refuse, u8, i64, string_of, counted, each, choose, levels}
+use Rattle.names.specs.Fields.{Got, got, Reader, ◌>>=◌, ◌<∘>◌, pure, refuse, u8, i64, string_of, counted, each, choose, levels}
 use Rattle.names.specs.Names.{plain, path_name}
 use Rattle.names.specs.Paths.{path_of}
 use Rattle.names.specs.Laws.Readers.{split, got_value}
@@ -133,12 +133,12 @@ module _ (change : Change) (v : ℕ) (leaves : Leaves change v) where
     unfolding timepoint_of changed
     timepoint_bare = after span λ at. after slot λ x. just refl
 
-    opaque_bare : Gives (Bare change) (opaque <$> span)
+    opaque_bare : Gives (Bare change) (opaque <∘> span)
     unfolding changed
     opaque_bare = after span λ at. just refl
 
     -- a kind with a window
-    looking_bare : (make : Window → One) → ((w : Window) → changed_one change (make w) ≡ make (change.windows w)) → Gives (BareOne change) (make <$> window v)
+    looking_bare : (make : Window → One) → ((w : Window) → changed_one change (make w) ≡ make (change.windows w)) → Gives (BareOne change) (make <∘> window v)
     looking_bare make is = on leaves.windows λ w e. just (is w ∙ ap make e)
 
     conditions_bare : (k : ℕ) → Gives (Bare change) (choose k (condition_kinds v f t))

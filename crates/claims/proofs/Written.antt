@@ -13,7 +13,7 @@ use lib.Seq.{drop-cons, drop-drop, drop-append_seam, take-append_seam, length-ta
 use borrow.Author.Tests.{eqb-true, eq-eqb, leb-true, le-leb}
 use Rattle.names.specs.Lists.{gather}
 use Rattle.names.specs.Laws.Lists.{gather_append}
-use Rattle.names.specs.Fields.{Reader, Got, got, bad, next, ◌>>=◌, ◌<$>◌, pure, holds, u8, u16, number, bytes, string_of, many, each, counted, heading, finished, whole, choose}
+use Rattle.names.specs.Fields.{Reader, Got, got, bad, next, ◌>>=◌, ◌<∘>◌, pure, holds, u8, u16, number, bytes, string_of, many, each, counted, heading, finished, whole, choose}
 use Rattle.names.specs.Names.{path_name, path_or_none, plain, same}
 use Rattle.names.specs.Laws.Names.{same_eq, same_refl, and_left, and_right}
 use Rattle.names.specs.Laws.Readers.{split, held, u8_view, u8_got, bytes_view, bytes_got, got_value, got_place, whole_read}
@@ -152,7 +152,7 @@ nothing_gave a s m n e l =
     record { stands = record { here = ap (λ (i : ℕ). drop i s) e; ends = omega arith; inside = l }; reads = λ s at n h. ap (got a) (let e = h.ends in omega arith) }
 
 -- a type name more
-named_gave : {A : Type 0} (f : List ℕ → A) (s : List ℕ) (m : ℕ) (w : List ℕ) (n : ℕ) → string_of path_name s m ≡ got w n → Gave (f <$> string_of path_name) (of_string w) (f w) s m n
+named_gave : {A : Type 0} (f : List ℕ → A) (s : List ℕ) (m : ℕ) (w : List ℕ) (n : ℕ) → string_of path_name s m ≡ got w n → Gave (f <∘> string_of path_name) (of_string w) (f w) s m n
 named_gave f s m w n e =
     let g = string_gave path_name s m e in
     record { stands = g.stands; reads = λ s at n h. ap (λ (g : Got (List ℕ)). next g (λ a n. got (f a) n)) (g.reads s at n h) }
@@ -161,8 +161,8 @@ narrowing_gave : (s : List ℕ) (at : ℕ) {o : Option Narrowing} {n : ℕ} → 
 unfolding narrowing narrowings choose
 narrowing_gave s at {o} {n} e = let a = split (u8 s at) _ e in go a.value a.place (byte_stands s at a.first) (picked a.value narrowings s a.place a.rest)
   where
-    typed : (k : ℕ) (f : List ℕ → Narrowing) → ((s : List ℕ) (m : ℕ) → choose k narrowings s m ≡ ((λ t. some (f t)) <$> string_of path_name) s m) → ((t : List ℕ) → of_narrowing (some (f t)) ≡ k ∷ of_string t)
-        → (m : ℕ) → Stands (k ∷ []) s at m → ((λ t. some (f t)) <$> string_of path_name) s m ≡ got o n → Gave narrowing (of_narrowing o) o s at n
+    typed : (k : ℕ) (f : List ℕ → Narrowing) → ((s : List ℕ) (m : ℕ) → choose k narrowings s m ≡ ((λ t. some (f t)) <∘> string_of path_name) s m) → ((t : List ℕ) → of_narrowing (some (f t)) ≡ k ∷ of_string t)
+        → (m : ℕ) → Stands (k ∷ []) s at m → ((λ t. some (f t)) <∘> string_of path_name) s m ≡ got o n → Gave narrowing (of_narrowing o) o s at n
     typed k f row is m h r =
         let a = split (string_of path_name s m) _ r in
         let g = named_gave (λ t. some (f t)) s m a.value a.place a.first in

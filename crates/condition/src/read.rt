@@ -1,7 +1,7 @@
 // The condition record: which bytes are one.
 ghost use Rattle.std.specs.Prelude.{◌≡◌, true, false};
 ghost use Rattle.names.specs.Read.{ending};
-ghost use Rattle.names.specs.Fields.{◌<$>◌, each, counted, whole};
+ghost use Rattle.names.specs.Fields.{◌<∘>◌, each, counted, whole};
 ghost use Rattle.condition.specs.Condition.{Window, One, Two, window, span, slot, annotation, binder, operator, timepoint_of, argument_list, element_list, unary, binary, predicate_of, comparison_of, exists_of, sum_of, count_of, aggregate_of, arith_of, condition_at, term_at, condition_record};
 ghost use Rattle.condition.specs.Places.{version_in};
 
@@ -151,7 +151,7 @@ pub fn read_subcondition(s: &[u8], at: usize, version: usize, left: usize) -> Re
 // A span, a window and a condition: Formerly, Previous. Not and Refine, which have no window, are read with that of version 1, which has no bytes.
 #[cycle(read_aggregate_read_arguments_read_arith_read_binary_read_comparison_read_count_read_elements_read_exists_read_predicate_read_subcondition_read_sum_read_term_read_unary)]
 fn read_unary(s: &[u8], at: usize, windows: usize, version: usize, left: usize) -> Read
-    ensures { (k : Window → One) → result ≡ ending (unary version (condition_at version left) (term_at version left) (k <$> window windows) s.now at) }
+    ensures { (k : Window → One) → result ≡ ending (unary version (condition_at version left) (term_at version left) (k <∘> window windows) s.now at) }
 {
     let span = read_span(s, at);
     let Read::Next(p) = span else {
@@ -167,7 +167,7 @@ fn read_unary(s: &[u8], at: usize, windows: usize, version: usize, left: usize) 
 // A span, a window and two conditions: Since, and with the window of version 1 And and Or.
 #[cycle(read_aggregate_read_arguments_read_arith_read_binary_read_comparison_read_count_read_elements_read_exists_read_predicate_read_subcondition_read_sum_read_term_read_unary)]
 fn read_binary(s: &[u8], at: usize, windows: usize, version: usize, left: usize) -> Read
-    ensures { (k : Window → Two) → result ≡ ending (binary version (condition_at version left) (term_at version left) (k <$> window windows) s.now at) }
+    ensures { (k : Window → Two) → result ≡ ending (binary version (condition_at version left) (term_at version left) (k <∘> window windows) s.now at) }
 {
     let span = read_span(s, at);
     let Read::Next(p) = span else {

@@ -4,7 +4,7 @@ use mathlib.Core.Bool.{Bool, true, false, ◌&&◌}
 use mathlib.Core.Option.{none}
 use Prim.Native.Nat.{ℕ, zero, suc, ◌*◌}
 use lib.Dec.{leb, eqb}
-use Rattle.names.specs.Fields.{Reader, ◌<$>◌, i64, twos_complement, choose, counted, each, levels}
+use Rattle.names.specs.Fields.{Reader, ◌<∘>◌, i64, twos_complement, choose, counted, each, levels}
 use Rattle.names.specs.Names.{identifier, path_name, plain}
 use Rattle.decimal.specs.Decimal.{decimal_of, judged, decimal_text}
 use Rattle.decimal.specs.declared.Decimal.{Decimal}
@@ -126,7 +126,7 @@ module _ (version : ℕ) (f : Reader Condition) (t : Bool → Reader Term) (inne
   unfolding binary
   binary_steady kind = then_steady span_steady (λ at. then_steady kind (λ k. then_steady inner (λ left. then_steady inner (λ right. pure_steady))))
 
-  windowed_steady : {A : Type 0} (make : Window → A) → Steady (make <$> window version)
+  windowed_steady : {A : Type 0} (make : Window → A) → Steady (make <∘> window version)
   windowed_steady make = map_steady make (window_steady version)
 
   predicate_steady : Steady (predicate_of version f t)

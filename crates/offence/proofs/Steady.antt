@@ -11,7 +11,7 @@ use borrow.Author.Tests.{le-leb, lt-leb, leb-true, leb-false, eqb-false, eq-eqb}
 use lib.Dec.{leb, eqb}
 use lib.ListN.{length, get_or, take, drop, take-append-drop, length-append, length-drop, get_or-append}
 use lib.Seq.{take-append-le, drop-append-le, take-take, length-take-le}
-use Rattle.names.specs.Fields.{Got, got, bad, Reader, next, ◌>>=◌, ◌<$>◌, pure, refuse, holds, bytes, u8, u16, u32, u64, string_of, each, many, counted, heading, finished, whole}
+use Rattle.names.specs.Fields.{Got, got, bad, Reader, next, ◌>>=◌, ◌<∘>◌, pure, refuse, holds, bytes, u8, u16, u32, u64, string_of, each, many, counted, heading, finished, whole}
 use Rattle.names.specs.Names.{same, plain}
 use Rattle.names.specs.Paths.{path_of}
 use Rattle.names.specs.Read.{refusal_number}
@@ -111,7 +111,7 @@ module _ {A B : Type 0} where
           other = λ s at. next_other (m s at) (λ a n. f a s n) (first.other s at) (λ a n. (rest a).other s n);
         }
 
-  pub map_steady : (h : A → B) {m : Reader A} → Steady m → Steady (h <$> m)
+  pub map_steady : (h : A → B) {m : Reader A} → Steady m → Steady (h <∘> m)
   map_steady h first = then_steady first (λ a. pure_steady)
 
 -- Fields: so many bytes, or 2; and what they give is told by these bytes alone.

@@ -1,7 +1,7 @@
 -- The schema record: what it declares, and how it is read.
 use Rattle.std.specs.Prelude.{ℕ, zero, suc, Bool, true, cond, ◌&&◌, ◌||◌, List, [], ◌∷◌, leb}
 use Rattle.std.proofs.Math.Option.{Option, none, some}
-use Rattle.names.specs.Fields.{Reader, ◌>>=◌, ◌<$>◌, pure, refuse, holds, u8, u16, string_of, many, counted, heading, finished, choose, levels}
+use Rattle.names.specs.Fields.{Reader, ◌>>=◌, ◌<∘>◌, pure, refuse, holds, u8, u16, string_of, many, counted, heading, finished, choose, levels}
 use Rattle.names.specs.Names.{path_name, plain, same, below}
 
 -- a declared type, and the attributes of a record
@@ -66,11 +66,11 @@ kinds inner =
     (0, pure long)
     ∷ (1, pure string)
     ∷ (2, pure bool)
-    ∷ (3, extension <$> string_of path_name)
-    ∷ (4, set <$> inner)
+    ∷ (3, extension <∘> string_of path_name)
+    ∷ (4, set <∘> inner)
     ∷ (5, pure any_set)
-    ∷ (6, object <$> attributes inner)
-    ∷ (7, entity <$> string_of path_name)
+    ∷ (6, object <∘> attributes inner)
+    ∷ (7, entity <∘> string_of path_name)
     ∷ (8, pure several_entities)
     ∷ (9, pure any_entity)
     ∷ (10, pure never)

@@ -5,7 +5,7 @@ use Rattle.std.proofs.Common.{◌∙◌, arith, rules}
 use Prim.Native.Nat.{ℕ, zero, suc, ◌+◌, ◌-◌, ◌≤◌, ◌<◌}
 use Rattle.std.proofs.Math.Numerals.{sub-one}
 use borrow.Author.Tests.{le-leb, lt-leb, ne_eqb}
-use Rattle.names.specs.Fields.{bad, Reader, ◌<$>◌, choose, string_of}
+use Rattle.names.specs.Fields.{bad, Reader, ◌<∘>◌, choose, string_of}
 use Rattle.names.specs.Class.{class_of}
 use Rattle.names.specs.declared.Class.TheVariants.{Plain}
 use Rattle.names.specs.Paths.{path_of}
@@ -75,20 +75,20 @@ module _ (v : ℕ) (s : List ℕ) (at l : ℕ) where
       unfolding condition_at ending
       condition_deep k z = rw (z, deep_defined {A = Condition} s at 13 h y k)
 
-      pub binary_low : (l ≡ 0 → ⊥) → get_or s at 0 ≤ 2 → (x : Read) → ((k : Window → Two) → x ≡ ending (binary v (condition_at v (l - 1)) (term_at v (l - 1)) (k <$> window 1) s (at + 1))) → x ≡ ending (condition_at v l s at)
+      pub binary_low : (l ≡ 0 → ⊥) → get_or s at 0 ≤ 2 → (x : Read) → ((k : Window → Two) → x ≡ ending (binary v (condition_at v (l - 1)) (term_at v (l - 1)) (k <∘> window 1) s (at + 1))) → x ≡ ending (condition_at v l s at)
       unfolding choose condition_kinds Each window
       binary_low z k x e = via (condition_kind z _ refl) (each_in (λ j. x ≡ ending (choose j (condition_kinds v (condition_at v (l - 1)) (term_at v (l - 1))) s (at + 1))) 1 2 ((tt, e (λ _. and)), e (λ _. or)) (get_or s at 0) (omega arith) (omega arith))
 
     module _ (z : l ≡ 0 → ⊥) (x : Read) where
-      pub not_kind : get_or s at 0 ≡ 3 → ((k : Window → One) → x ≡ ending (unary v (condition_at v (l - 1)) (term_at v (l - 1)) (k <$> window 1) s (at + 1))) → x ≡ ending (condition_at v l s at)
+      pub not_kind : get_or s at 0 ≡ 3 → ((k : Window → One) → x ≡ ending (unary v (condition_at v (l - 1)) (term_at v (l - 1)) (k <∘> window 1) s (at + 1))) → x ≡ ending (condition_at v l s at)
       unfolding choose condition_kinds window
       not_kind k e = via (condition_kind z 3 k) (e (λ _. negation))
 
-      pub unary_low : 2 < get_or s at 0 → (get_or s at 0 ≡ 3 → ⊥) → get_or s at 0 ≤ 5 → ((k : Window → One) → x ≡ ending (unary v (condition_at v (l - 1)) (term_at v (l - 1)) (k <$> window v) s (at + 1))) → x ≡ ending (condition_at v l s at)
+      pub unary_low : 2 < get_or s at 0 → (get_or s at 0 ≡ 3 → ⊥) → get_or s at 0 ≤ 5 → ((k : Window → One) → x ≡ ending (unary v (condition_at v (l - 1)) (term_at v (l - 1)) (k <∘> window v) s (at + 1))) → x ≡ ending (condition_at v l s at)
       unfolding choose condition_kinds Each
       unary_low a i b e = via (condition_kind z _ refl) (each_in (λ j. x ≡ ending (choose j (condition_kinds v (condition_at v (l - 1)) (term_at v (l - 1))) s (at + 1))) 4 2 ((tt, e formerly), e previous) (get_or s at 0) (omega arith) (omega arith))
 
-      pub unary_high : 12 < get_or s at 0 → get_or s at 0 ≤ 13 → ((k : Window → One) → x ≡ ending (unary v (condition_at v (l - 1)) (term_at v (l - 1)) (k <$> window 1) s (at + 1))) → x ≡ ending (condition_at v l s at)
+      pub unary_high : 12 < get_or s at 0 → get_or s at 0 ≤ 13 → ((k : Window → One) → x ≡ ending (unary v (condition_at v (l - 1)) (term_at v (l - 1)) (k <∘> window 1) s (at + 1))) → x ≡ ending (condition_at v l s at)
       unfolding choose condition_kinds window
       unary_high a b e = via (condition_kind z 13 (omega arith)) (e (λ _. refine))
 
@@ -96,7 +96,7 @@ module _ (v : ℕ) (s : List ℕ) (at l : ℕ) where
       unfolding choose condition_kinds Each
       opaque_read a b e = via (condition_kind z _ refl) (each_in (λ j. x ≡ ending (choose j (condition_kinds v (condition_at v (l - 1)) (term_at v (l - 1))) s (at + 1))) 11 2 ((tt, e ∙ last _ _), e ∙ last _ _) (get_or s at 0) a (omega arith))
 
-      pub binary_since : get_or s at 0 ≡ 6 → ((k : Window → Two) → x ≡ ending (binary v (condition_at v (l - 1)) (term_at v (l - 1)) (k <$> window v) s (at + 1))) → x ≡ ending (condition_at v l s at)
+      pub binary_since : get_or s at 0 ≡ 6 → ((k : Window → Two) → x ≡ ending (binary v (condition_at v (l - 1)) (term_at v (l - 1)) (k <∘> window v) s (at + 1))) → x ≡ ending (condition_at v l s at)
       unfolding choose condition_kinds
       binary_since k e = via (condition_kind z 6 k) (e since)
 

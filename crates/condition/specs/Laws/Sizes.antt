@@ -9,7 +9,7 @@ use Prim.Native.Nat.{ℕ, zero, suc, ◌+◌, ◌*◌, ◌≤◌}
 use native.Mathlib.Omega.{arith}
 use Rattle.names.specs.Lists.{gather, select}
 use Rattle.names.specs.Laws.Lists.{gather_append}
-use Rattle.names.specs.Fields.{got, Reader, ◌>>=◌, ◌<$>◌, pure, refuse, holds, u8, u32, u64, i64, twos_complement, bytes, string_of, many, counted, choose, each, levels}
+use Rattle.names.specs.Fields.{got, Reader, ◌>>=◌, ◌<∘>◌, pure, refuse, holds, u8, u32, u64, i64, twos_complement, bytes, string_of, many, counted, choose, each, levels}
 use Rattle.names.specs.Paths.{path_of}
 use Rattle.decimal.specs.Decimal.{decimal_of, judged, decimal_text}
 use Rattle.decimal.specs.declared.Decimal.{Decimal}
@@ -132,7 +132,7 @@ module _ {A B : Type 0} where
   on : {k : ℕ} {size : A → ℕ} {all : B → ℕ} {f : Reader A} {g : A → Reader B} → Owes 0 size f → ((a : A) → Owes (k + size a) all (g a)) → Owes k all (f >>= g)
   on {k} {size} {all} {f} {g} p q = record { on = λ s at e. let x = split (f s at) _ e in omega (arith, p.on s at x.first, (q x.value).on s x.place x.rest) }
 
-  made : {k : ℕ} {size : A → ℕ} {all : B → ℕ} {f : Reader A} (h : A → B) → Owes 0 size f → ((a : A) → all (h a) ≤ k + size a) → Owes k all (h <$> f)
+  made : {k : ℕ} {size : A → ℕ} {all : B → ℕ} {f : Reader A} (h : A → B) → Owes 0 size f → ((a : A) → all (h a) ≤ k + size a) → Owes k all (h <∘> f)
   made h p q = on p (λ a. stay (h a) (q a))
 
 one_u8 : Takes 1 u8
@@ -244,7 +244,7 @@ forward_window v = either_way (leb v 1) (stay _ (omega arith)) (on forward_u8 λ
 forward_kind : {A : Type 0} (a : A) → Forward (pure a)
 forward_kind a = stay a (omega arith)
 
-forward_windowed : {A : Type 0} (make : Window → A) (v : ℕ) → Forward (make <$> window v)
+forward_windowed : {A : Type 0} (make : Window → A) (v : ℕ) → Forward (make <∘> window v)
 forward_windowed make v = made make (forward_window v) (λ _. omega arith)
 
 -- what version 3 brought
@@ -328,7 +328,7 @@ module _ (v : ℕ) (f : Reader Condition) (t : Bool → Reader Term) (p : Owes 0
   unfolding timepoint_of reached declares
   timepoint_owes = on eight_span λ at. on forward_slot λ x. stay _ (omega (arith, light (tp at x) refl refl))
 
-  opaque_owes : Owes 1 weight (opaque <$> span)
+  opaque_owes : Owes 1 weight (opaque <∘> span)
   unfolding reached declares
   opaque_owes = made opaque eight_span λ at. omega (arith, light (opaque at) refl refl)
 
@@ -359,7 +359,7 @@ module _ (v : ℕ) (f : Reader Condition) (t : Bool → Reader Term) (p : Owes 0
   unfolding count_of aggregate_weight declared_by reached_body weight
   count_owes = on eight_span λ _. on binders_owe λ bs. on p λ c. stay _ (omega arith)
 
-  call_owes : Owes 0 aggregate_weight (call <$> span)
+  call_owes : Owes 0 aggregate_weight (call <∘> span)
   unfolding aggregate_weight declared_by reached_body binders_weight nodes_weight named_ones select gather
   call_owes = made call eight_span λ _. omega arith
 

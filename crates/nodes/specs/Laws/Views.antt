@@ -7,7 +7,7 @@ use Rattle.std.proofs.Math.Bool.{true, false}
 use Rattle.std.proofs.lemmas.Bool.{false≢true}
 use Rattle.std.proofs.Math.Option.{Option}
 use native.Mathlib.Omega.{arith}
-use Rattle.names.specs.Fields.{Got, got, Reader, ◌<$>◌, pure, next, u8, u32, i64, number, bytes, choose, levels, string_of, each, counted}
+use Rattle.names.specs.Fields.{Got, got, Reader, ◌<∘>◌, pure, next, u8, u32, i64, number, bytes, choose, levels, string_of, each, counted}
 use Rattle.names.specs.Names.{plain, path_name}
 use Rattle.names.specs.Paths.{path_of}
 use Rattle.decimal.specs.Decimal.{decimal_text}
@@ -174,7 +174,7 @@ module _ (version : ℕ) (s : List ℕ) (at : ℕ) {A : Type 0} (number : A → 
       let q = got_place e in
       record { place = rw (other, none) (omega arith); kind = ap number (sym (got_value e)); windows = λ h. absurd (false≢true (sym none ∙ h)) }
 
-  windowed : (k : ℕ) (make : Window → A) → ((w : Window) → number (make w) ≡ k) → ((w : Window) → says (make w) ≡ w) → window_kind k ≡ true → eqb k 8 ≡ false → KindRead k (make <$> window version)
+  windowed : (k : ℕ) (make : Window → A) → ((w : Window) → number (make w) ≡ k) → ((w : Window) → says (make w) ≡ w) → window_kind k ≡ true → eqb k 8 ≡ false → KindRead k (make <∘> window version)
   unfolding behind_span
   windowed k make numbered said is other i p e =
       let a = split (window version s (at + 9)) _ e in
@@ -230,11 +230,11 @@ module _ (version : ℕ) (s : List ℕ) (at : ℕ) {x : Condition} {n : ℕ} whe
   not_view : unary version (condition_at version levels) (term_at version levels) (pure negation) s (at + 1) ≡ got x n → OneView version 3 s at x n
   not_view = unary_view 3 (pure negation) (bare version s at one_number one_window negation refl refl)
 
-  formerly_view : unary version (condition_at version levels) (term_at version levels) (formerly <$> window version) s (at + 1) ≡ got x n → OneView version 4 s at x n
-  formerly_view = unary_view 4 (formerly <$> window version) (windowed version s at one_number one_window 4 formerly (λ _. refl) (λ _. refl) refl refl)
+  formerly_view : unary version (condition_at version levels) (term_at version levels) (formerly <∘> window version) s (at + 1) ≡ got x n → OneView version 4 s at x n
+  formerly_view = unary_view 4 (formerly <∘> window version) (windowed version s at one_number one_window 4 formerly (λ _. refl) (λ _. refl) refl refl)
 
-  previous_view : unary version (condition_at version levels) (term_at version levels) (previous <$> window version) s (at + 1) ≡ got x n → OneView version 5 s at x n
-  previous_view = unary_view 5 (previous <$> window version) (windowed version s at one_number one_window 5 previous (λ _. refl) (λ _. refl) refl refl)
+  previous_view : unary version (condition_at version levels) (term_at version levels) (previous <∘> window version) s (at + 1) ≡ got x n → OneView version 5 s at x n
+  previous_view = unary_view 5 (previous <∘> window version) (windowed version s at one_number one_window 5 previous (λ _. refl) (λ _. refl) refl refl)
 
   refine_view : unary version (condition_at version levels) (term_at version levels) (pure refine) s (at + 1) ≡ got x n → OneView version 13 s at x n
   refine_view = unary_view 13 (pure refine) (bare version s at one_number one_window refine refl refl)
@@ -245,8 +245,8 @@ module _ (version : ℕ) (s : List ℕ) (at : ℕ) {x : Condition} {n : ℕ} whe
   or_view : binary version (condition_at version levels) (term_at version levels) (pure or) s (at + 1) ≡ got x n → TwoView version 2 s at x n
   or_view = binary_view 2 (pure or) (bare version s at two_number two_window or refl refl)
 
-  since_view : binary version (condition_at version levels) (term_at version levels) (since <$> window version) s (at + 1) ≡ got x n → TwoView version 6 s at x n
-  since_view = binary_view 6 (since <$> window version) (windowed version s at two_number two_window 6 since (λ _. refl) (λ _. refl) refl refl)
+  since_view : binary version (condition_at version levels) (term_at version levels) (since <∘> window version) s (at + 1) ≡ got x n → TwoView version 6 s at x n
+  since_view = binary_view 6 (since <∘> window version) (windowed version s at two_number two_window 6 since (λ _. refl) (λ _. refl) refl refl)
 
   acting_view : predicate_of version (condition_at version levels) (term_at version levels) s (at + 1) ≡ got x n → PredicateView version s at x n
   unfolding predicate_of
