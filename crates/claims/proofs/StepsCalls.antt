@@ -20,14 +20,14 @@ use Rattle.typecheck.specs.Answers.{check_outcome_of}
 use Rattle.typecheck.specs.Run.{read, reading, begun_from}
 use Rattle.typecheck.specs.Laws.Visits.{begun_few}
 use Rattle.steps.specs.declared.Steps.{Steps}
-use Rattle.steps.specs.Steps.{SteppedOutcome, first_pending, soFar, doing, step_over, step}
+use Rattle.steps.specs.Steps.{SteppedOutcome, first_pending, so_far, doing, step_over, step}
 use Rattle.steps.specs.Answers.{stepped_of}
 use Rattle.claims.specs.Breaches.{under}
 use Rattle.claims.specs.Steps.{Held, record_of, done_in, check_so_far, StepOf}
 use Rattle.claims.proofs.Written.{not_long}
 use Rattle.claims.proofs.Visits.{by_target, nine_each}
 use Rattle.claims.proofs.StepsList.{at, Marks, FirstAt, first_at, done_few, set_stays, step_marks, step_done}
-use Rattle.claims.proofs.StepsLog.{after, Logged, answered, so_far, done_state, doing_it, doing_logged}
+use Rattle.claims.proofs.StepsLog.{after, Logged, answered, so_far_lem, done_state, doing_it, doing_logged}
 
 -- ---- what is known between two calls: the list that record 3 holds, its marks, and the visits that were made
 
@@ -130,7 +130,7 @@ module _ (schema_bytes condition_bytes : List ℕ) where
               done = did_done;
               rules = refl;
               marks = set_stays st.marks list so.marks j 1 f.waits;
-              answer = so_far old (vs ++ us) to.state to.reports log;
+              answer = so_far_lem old (vs ++ us) to.state to.reports log;
             }
 
       module _ (next : Held) (r : StepOf schema_bytes condition_bytes before next) where
@@ -142,9 +142,9 @@ module _ (schema_bytes condition_bytes : List ℕ) where
               answer = step_answer before next r o (step_over_lem ∙ e) ∙ sym answer ∙ sym (ap check_so_far is);
             }
 
-        step_idle : step_over k s c (under scope list) st before.reports ≡ soFar st before.reports → StepView next r
-        unfolding soFar
-        step_idle e = by_outcome (soFar st before.reports) e (idle refl) refl
+        step_idle : step_over k s c (under scope list) st before.reports ≡ so_far st before.reports → StepView next r
+        unfolding so_far
+        step_idle e = by_outcome (so_far st before.reports) e (idle refl) refl
 
         step_did : (j : ℕ) (t : Target) → st.stopped ≡ 0 → first_pending st.marks 0 list ≡ some (j, t) → step_over k s c (under scope list) st before.reports ≡ doing k s c scope st before.reports (j, t) → StepView next r
         step_did j t z f e =

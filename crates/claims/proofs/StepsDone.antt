@@ -17,13 +17,13 @@ use Rattle.reports.specs.Reports.{Breach, once, reported}
 use Rattle.typecheck.specs.Check.{begun, CheckOutcome}
 use Rattle.typecheck.specs.Answers.{check_outcome_of}
 use Rattle.typecheck.specs.Run.{found_by}
-use Rattle.steps.specs.Steps.{soFar}
+use Rattle.steps.specs.Steps.{so_far}
 use Rattle.claims.specs.Written.{of_target, written}
 use Rattle.claims.specs.Breaches.{Accepted, under}
 use Rattle.claims.specs.Steps.{Held, record_of, targets_of, done_in, done_by, check_so_far, StepOf, Call}
 use Rattle.claims.proofs.Written.{some_of}
 use Rattle.claims.proofs.StepsList.{done_among, done_fewer}
-use Rattle.claims.proofs.StepsLog.{answered_check, so_far}
+use Rattle.claims.proofs.StepsLog.{answered_check, so_far_lem}
 use Rattle.claims.proofs.StepsCalls.{Went, idle, did, StepView, step_view}
 use Rattle.claims.proofs.StepsHistory.{Fixed, Past, targets_are, visits_by, Since, onward_call}
 
@@ -31,11 +31,11 @@ use Rattle.claims.proofs.StepsHistory.{Fixed, Past, targets_are, visits_by, Sinc
 
 -- the number of the check so far says whether a report did not fit
 pub stopped_number : (h : Held) → (h.state.stopped ≡ 0 → ⊥) → (check_so_far h).outcome.answer.number ≡ 11
-unfolding soFar
+unfolding so_far
 stopped_number h e = ap (λ (b : Bool). cond b 0 11) (ne_eqb h.state.stopped 0 e)
 
 pub number_stopped : (h : Held) → (check_so_far h).outcome.answer.number ≡ 11 → h.state.stopped ≡ 0 → ⊥
-unfolding soFar
+unfolding so_far
 number_stopped h e z = let w : ◌≡◌ {A = ℕ} 0 11 = sym (ap (λ (b : Bool). cond b 0 11) (eq-eqb h.state.stopped 0 z)) ∙ e in omega arith
 
 -- the two records with a third
@@ -77,7 +77,7 @@ module _ {schema_bytes condition_bytes old : List ℕ} (g : Fixed schema_bytes c
 
     -- the check so far is that of the visits
     pub check_made : check_so_far h ≡ record { outcome = reported (once [] (found_by made)) old; visits = begun old [] made }
-    check_made = so_far old made h.state h.reports so.known.log ∙ answered_check old made
+    check_made = so_far_lem old made h.state h.reports so.known.log ∙ answered_check old made
 
     -- a step
     module _ (after : Held) (r : StepOf schema_bytes condition_bytes h after) where

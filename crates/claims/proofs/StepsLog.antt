@@ -20,7 +20,7 @@ use Rattle.typecheck.specs.Check.{Choices, breaches_under, visits_under, begun, 
 use Rattle.typecheck.specs.Run.{found_by, begun_from}
 use Rattle.typecheck.specs.Laws.Visits.{found_under, found_append, begun_append, begun_run}
 use Rattle.steps.specs.declared.Steps.{Steps}
-use Rattle.steps.specs.Steps.{soFar, capped, done_with, doing}
+use Rattle.steps.specs.Steps.{so_far, capped, done_with, doing}
 
 module _ (old : List ℕ) where
   -- what some visits leave in the buffer, put in from no report
@@ -47,9 +47,9 @@ module _ (old : List ℕ) where
   answered_check vs = λ i. record { outcome = push_all_reported old (found_by vs) i; visits = begun_run old [] vs i }
 
   module _ (vs : List (List Breach)) (st : Steps) (buffer : List ℕ) (l : Logged vs st buffer) where
-    pub so_far : (soFar st buffer).check ≡ answered vs
-    unfolding soFar
-    so_far = λ i. record {
+    pub so_far_lem : (so_far st buffer).check ≡ answered vs
+    unfolding so_far
+    so_far_lem = λ i. record {
       outcome =
           record {
             answer = record { number = (ap (λ (n : ℕ). cond (eqb n 0) 0 11) l.stopped ∙ turned (after vs).state.full) i; record_number = 0; count = count i };

@@ -186,6 +186,7 @@ narrowing_gave s at {o} {n} e = let a = split (u8 s at) _ e in go a.value a.plac
     go k m h (inr (inr (inl (e, r)))) = typed 2 is_type (λ s m. refl) (λ t. refl) m (rw (← e) h) r
     go k m h (inr (inr (inr (inl (e, r))))) = typed 3 (λ t. uid t false) (λ s m. refl) (λ t. refl) m (rw (← e) h) r
     go k m h (inr (inr (inr (inr (inl (e, r)))))) = typed 4 (λ t. uid t true) (λ s m. refl) (λ t. refl) m (rw (← e) h) r
+    go k m h (inr (inr (inr (inr (inr left_over))))) = elim left_over [ ]
 
 -- ---- the targets
 
