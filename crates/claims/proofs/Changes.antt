@@ -21,8 +21,7 @@ use Rattle.condition.specs.Walk.{declared_by, operand_aggregates, operand_binder
 use Rattle.condition.specs.Places.{is_record, record_in}
 use Rattle.walk.specs.Scopes.{Scoped, under, scoped, scoped_in, scoped_body, Binding, binding_of, nodes_by}
 use Rattle.terms.specs.Terms.{Facts, facts_among, term_type, element_types, array_of}
-use Rattle.reports.specs.Reports as reports
-use Rattle.reports.specs.Reports.{Breach, once, refusal, reported}
+use Rattle.reports.specs.Reports.{Breach, once, reported}
 use Rattle.rules.specs.Rules.{both, ordering, operands_by, not_long_here, argument_breach, argument_breaches, leaf_breaches, arithmetic_breaches, node_breaches}
 use Rattle.typecheck.specs.Check.{Choices, choices_of, breaches_at, breaches_under_by, breaches_under, is_checked, visits_under_by, visits_under, begun, CheckOutcome, unvisited, checked_by, checked, check_with_by, check_with}
 use Rattle.sums.specs.Sums.{aggregate_breaches, term_breaches, terms_breaches, arguments_breaches, condition_breaches, breaches, sums_with}

@@ -1,13 +1,12 @@
 -- Demand 3, of runs of the check: `demand3` is the claim of `specs/Breaches.antt`. `alone` is about one run, `joined` about lists joined, `alike` about
 -- order and repeats. Assumes nothing.
 use Prim.Native.Nat.{ℕ, ◌+◌, ◌≤◌}
-use native.Mathlib.Omega.{arith}
 use mathlib.Core.Path.{◌≡◌, refl, sym, ap, subst, ◌∙◌}
-use mathlib.Core.Bool.{Bool, true, false, cond, false≢true}
-use mathlib.Core.Logic.{◌⊎◌, inl, inr, ⊎_elim, ◌↔◌}
+use mathlib.Core.Bool.{Bool, true, false, cond}
+use mathlib.Core.Logic.{inl, inr, ⊎_elim, ◌↔◌}
 use mathlib.Core.List.{List, [], ◌∷◌, ◌++◌}
 use mathlib.Core.Option.{Option, none, some}
-use lib.ListN.{length, drop}
+use lib.ListN.{length}
 use Rattle.names.specs.Lists.{maybe, gather}
 use Rattle.names.specs.Laws.Lists.{gather_append}
 use Rattle.types.specs.Types.{dated}
@@ -21,11 +20,11 @@ use Rattle.reports.specs.Reports.{Breach, Outcome, once, reported}
 use Rattle.reports.specs.Laws.Reports as laws
 use Rattle.reports.specs.Laws.Once.{both, both_in, both_nodup}
 use Rattle.reports.specs.Laws.Sets.{in_left, in_right, in_append, length_same}
-use Rattle.reports.specs.Pairs.{◌∈◌, NoDup, Same, Pair, pair_of, pairs, space}
-use Rattle.typecheck.specs.Check.{Choices, choices_of, breaches_at, breaches_under_by, breaches_under, is_checked, CheckOutcome, checked_by, checked, check_with_by}
+use Rattle.reports.specs.Pairs.{◌∈◌, Pair, pair_of, pairs, space}
+use Rattle.typecheck.specs.Check.{Choices, choices_of, breaches_at, breaches_under_by, breaches_under, is_checked, CheckOutcome, checked_by, check_with_by}
 use Rattle.typecheck.specs.Answers.{check_outcome_of}
 use Rattle.claims.specs.Written.{written}
-use Rattle.claims.specs.Breaches.{Accepted, BreachUnder, BreachOf, PairOf, Different, SpaceForAll, Run, reported_pairs, Shared, Exact, under, Alone, Taken, RunOf, Counts, Joined, Alike, Claim}
+use Rattle.claims.specs.Breaches.{Accepted, BreachOf, PairOf, Different, SpaceForAll, Run, reported_pairs, Shared, under, Alone, Taken, RunOf, Counts, Joined, Alike, Claim}
 use Rattle.claims.proofs.Written.{no_other_lem, front_accepted, behind_accepted}
 
 -- ---- what is gathered from a list, and the pairs of a list

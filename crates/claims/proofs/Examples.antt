@@ -1,11 +1,11 @@
 -- The rows of the examples hold. Assumes nothing.
-use mathlib.Core.Path.{◌≡◌, refl, sym, ap, ap₂, ◌∙◌}
-use mathlib.Core.Bool.{Bool, true, false, cond, false≢true}
+use mathlib.Core.Path.{◌≡◌, refl, sym, ap, ◌∙◌}
+use mathlib.Core.Bool.{true, false, cond, false≢true}
 use mathlib.Core.List.{List, [], ◌∷◌, ◌++◌, append-nil, append_assoc}
 use mathlib.Core.Option.{Option, none, some}
 use Prim.Native.Nat.{ℕ, zero, suc}
 use lib.ListN.{length}
-use Rattle.names.specs.Lists.{maybe, gather, first, any_of, every, select}
+use Rattle.names.specs.Lists.{maybe, gather, first, any_of, every}
 use Rattle.names.specs.Names.{same, last_of}
 use Rattle.names.specs.Laws.Names.{same_refl}
 use Rattle.names.specs.Text.{text}
@@ -16,18 +16,18 @@ use Rattle.types.specs.Meaning.{layered}
 use Rattle.schema.specs.Schema.{Schema, Action}
 use Rattle.schema.specs.Find.{find_action}
 use Rattle.targets.specs.Targets.{Target, Scope, Narrowing, any}
-use Rattle.resolution.specs.Resolution.{scope_path_by, admitted, declared_all, on_types_by, on_entity_by, unattributed, projection, verdict, failed, failure, types_of, typed, agreed, side_admits, admits_any_env}
+use Rattle.resolution.specs.Resolution.{scope_path_by, declared_all, on_types_by, on_entity_by, unattributed, projection, verdict, failed, failure, types_of, typed, agreed, side_admits, admits_any_env}
 use Rattle.condition.specs.Condition as condition
 use Rattle.condition.specs.Condition.{Span, Condition, Term, Annotation, Binder, Operator, path, comparison, entity, literal, context_field, scope_field, var, wildcard, array, nil, cons, aggregate, sigil}
 use Rattle.condition.specs.Walk.{reached, reached_in, operand_aggregates, operand_binders, declares, binders, named_here, last_named}
-use Rattle.terms.specs.Terms.{Facts, facts_of, word_type_by, annotation_type_by, annotation_type, input_type, var_type, side_type_by, root_type, scope_field_type, all_like, array_of, element_types, term_type}
+use Rattle.terms.specs.Terms.{Facts, facts_of, word_type_by, annotation_type_by, annotation_type, var_type, side_type_by, root_type, scope_field_type, all_like, array_of, element_types, term_type}
 use Rattle.rules.specs.Rules.{numeric_breaches, like_breaches, operands_by, ordering, argument_breach, argument_breaches, leaf_breaches, arithmetic_breaches, node_breaches}
 use Rattle.walk.specs.Scopes.{flat, nodes_by}
 use Rattle.typecheck.specs.Check.{no_choice, breaches_at, breaches_under_by, breaches_under, is_checked}
 use Rattle.typecheck.specs.Laws.Visits.{flat_gathered}
 use Rattle.reports.specs.Reports.{Breach}
 use Rattle.claims.specs.Rows.{Hold, end, ◌and◌}
-use Rattle.claims.specs.Examples.{Checked, facts_in, type_in, reports, Operands, compared, Entities, empty, BesideEmpty, ArrayField, argued, binder_of, Bound, Rebound, AnyName, WithoutId, id, part_of_id, comparing, NoPrincipals, narrowed_to, integer, decimal, string, only, declaring, twice, edges}
+use Rattle.claims.specs.Examples.{Checked, facts_in, type_in, reports, Operands, Entities, empty, BesideEmpty, ArrayField, argued, binder_of, Bound, Rebound, AnyName, WithoutId, id, part_of_id, comparing, NoPrincipals, narrowed_to, integer, decimal, string, only, declaring, twice, edges}
 
 -- ---- a condition under a target that is checked
 

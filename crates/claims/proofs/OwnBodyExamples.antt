@@ -7,7 +7,7 @@ use Rattle.names.specs.Read.{value_or}
 use Rattle.names.specs.Text.{text}
 use Rattle.names.specs.Lists.{gather, any_of, first, every, select}
 use Rattle.schema.specs.Schema.{after, ascending, attributes_of, attributes, kinds, type_at, key_after, action, schema_record}
-use Rattle.schema.specs.Find.{find_action, action_type, find_attribute, fields_of, extension_type, rich_type_by}
+use Rattle.schema.specs.Find.{find_action, action_type, find_attribute, fields_of, rich_type_by}
 use Rattle.condition.specs.Condition.{condition_record_up_to, condition_record, condition_at, term_at, condition_kinds, comparison_of, unary, binary, predicate_of, arguments, argument_list, elements, element_list, exists_of, timepoint_of, slot, slot_kinds, annotation, binder, aggregate_of, aggregate_kinds, count_of, sum_of, arith_of, term_kinds, given, span, operator, operators}
 use Rattle.condition.specs.Places.{record_in}
 use Rattle.condition.specs.Walk.{declared_by, operand_aggregates, operand_binders, reached, reached_in, reached_body, declares, binders, named_here, last_named}

@@ -1,13 +1,11 @@
 -- Swapped operands. Assumes nothing.
-use mathlib.Core.Path.{◌≡◌, refl, sym, ap, ap₂, ◌∙◌}
+use mathlib.Core.Path.{◌≡◌, refl, sym, ap, ◌∙◌}
 use mathlib.Core.Bool.{Bool, true, false, not}
-use mathlib.Core.Logic.{◌↔◌}
-use mathlib.Core.List.{List, [], ◌∷◌, ◌++◌, append-nil, append_assoc}
+use mathlib.Core.List.{List, [], ◌∷◌, ◌++◌}
 use mathlib.Core.Option.{Option, none, some}
-use Prim.Native.Nat.{ℕ, ◌+◌}
 use native.Mathlib.Omega.{arith}
 use lib.ListN.{length, length-append}
-use Rattle.names.specs.Lists.{maybe, gather}
+use Rattle.names.specs.Lists.{gather}
 use Rattle.names.specs.Names.{same, last_of}
 use Rattle.names.specs.Text.{text}
 use Rattle.types.specs.Types as types
@@ -17,12 +15,12 @@ use Rattle.types.specs.Laws.Profiles.{compatible_swapped}
 use Rattle.condition.specs.Condition as condition
 use Rattle.condition.specs.Condition.{Span, Condition, Term, Operator, comparison}
 use Rattle.condition.specs.Walk.{reached, reached_in, reached_body, operand_aggregates, operand_binders, declared_by, declares, binders, last_named}
-use Rattle.terms.specs.Terms.{Facts, word_type_by, annotation_type_by, var_type, term_type}
+use Rattle.terms.specs.Terms.{word_type_by, annotation_type_by, var_type, term_type}
 use Rattle.rules.specs.Rules.{breach_if, both, numeric_breaches, like_breaches, operands_by, ordering, arithmetic_breaches, node_breaches}
 use Rattle.reports.specs.Reports.{Breach}
 use Rattle.claims.specs.Examples.{AnyName, facts_in, reports, binder_of}
 use Rattle.claims.specs.Rows.{Hold, end, ◌and◌}
-use Rattle.claims.specs.Reordering.{shown, Turned, silent, shows, Swapped, Reordering, asking_count, other_count, wholes}
+use Rattle.claims.specs.Reordering.{shown, Turned, silent, shows, Reordering, asking_count, other_count, wholes}
 use Rattle.claims.proofs.Examples.{computed, declared_type}
 
 -- ---- a node

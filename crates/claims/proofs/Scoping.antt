@@ -17,7 +17,6 @@ use Rattle.condition.specs.Condition.{Condition, Term, Aggregate, Binder, Slot, 
 use Rattle.condition.specs.Walk.{declared_by, operand_aggregates, operand_binders, reached, reached_in, reached_body, declares, binders, named_here, last_named}
 use Rattle.walk.specs.Scopes.{Scoped, under, scoped, scoped_in, scoped_body, Binding, flat, own, nodes_by}
 use Rattle.walk.specs.Laws.Nodes.{scoped_nodes}
-use Rattle.walk.specs.Laws.Named.{last_append}
 use Rattle.reports.specs.Pairs.{◌∈◌}
 use Rattle.reports.specs.Laws.Sets.{in_left, in_right, in_append}
 use Rattle.claims.specs.OwnBodies.{is_named, declared, declared_again, each_once, covered, all_binders, term_binders, aggregate_binders}

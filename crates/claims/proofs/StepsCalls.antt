@@ -17,7 +17,7 @@ use Rattle.reports.specs.Reports.{Breach}
 use Rattle.reports.specs.Sink.{start}
 use Rattle.typecheck.specs.Check.{Choices, choices_of, is_checked, visits_under}
 use Rattle.typecheck.specs.Answers.{check_outcome_of}
-use Rattle.typecheck.specs.Run.{read, reading, begun_from}
+use Rattle.typecheck.specs.Run.{reading, begun_from}
 use Rattle.typecheck.specs.Laws.Visits.{begun_few}
 use Rattle.steps.specs.declared.Steps.{Steps}
 use Rattle.steps.specs.Steps.{SteppedOutcome, first_pending, so_far, doing, step_over, step}

@@ -20,7 +20,6 @@ use Rattle.condition.specs.Places.{record_in}
 use Rattle.targets.specs.Targets.{Target, Targets, Scope, target_record}
 use Rattle.reports.specs.Reports.{Breach}
 use Rattle.reports.specs.Kept.{fold}
-use Rattle.reports.specs.Sink.{start}
 use Rattle.typecheck.specs.Check.{choices_of, visits_under}
 use Rattle.typecheck.specs.Answers.{check_outcome_of}
 use Rattle.typecheck.specs.Run.{Reading, refused, read, reading, by_reading, begun_from}

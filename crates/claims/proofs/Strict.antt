@@ -19,13 +19,13 @@ use Rattle.condition.specs.Condition.{Condition, Binder, Term, Arguments, Span, 
 use Rattle.walk.specs.Scopes.{Scoped, under, Binding, binding_of, nodes_by}
 use Rattle.terms.specs.Terms.{Facts, facts_among, term_type, var_type, scope_field_type, root_type}
 use Rattle.rules.specs.Messages.{unlike_types}
-use Rattle.rules.specs.Rules.{breach_if, both, not_long_here, ordering, operands_by, numeric_breaches, like_breaches, argument_breach, argument_breaches, leaf_breaches, arithmetic_breaches, timepoint_breaches, node_breaches}
+use Rattle.rules.specs.Rules.{breach_if, both, not_long_here, ordering, operands_by, like_breaches, argument_breach, argument_breaches, leaf_breaches, arithmetic_breaches, timepoint_breaches, node_breaches}
 use Rattle.reports.specs.Reports.{Breach}
 use Rattle.reports.specs.Pairs.{◌∈◌, Pair, pair_of}
 use Rattle.reports.specs.Laws.Sets.{in_left, in_right, in_append}
-use Rattle.typecheck.specs.Check.{profile_of, breaches_at, check_with, check}
-use Rattle.claims.specs.Breaches.{Accepted, BreachOf, PairOf, SpaceForAll, Run, reported_pairs}
-use Rattle.claims.specs.Strict.{Added, Beside, Inclusion, NoRules, Bits}
+use Rattle.typecheck.specs.Check.{profile_of, breaches_at, check}
+use Rattle.claims.specs.Breaches.{PairOf}
+use Rattle.claims.specs.Strict.{Added, Inclusion, NoRules, Bits}
 use Rattle.claims.proofs.Demand3.{alone}
 
 -- ---- a node: what does not depend on the profile

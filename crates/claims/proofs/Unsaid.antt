@@ -7,14 +7,14 @@ use Prim.Native.Nat.{ℕ, zero, suc, ◌≤◌}
 use native.Mathlib.Omega.{arith}
 use borrow.Author.Tests.{le-leb}
 use lib.Dec.{leb, eqb}
-use Rattle.names.specs.Fields.{Got, got, Reader, ◌>>=◌, ◌<∘>◌, pure, refuse, u8, i64, string_of, counted, each, choose, levels}
+use Rattle.names.specs.Fields.{got, Reader, ◌>>=◌, ◌<∘>◌, pure, refuse, u8, i64, string_of, counted, each, choose, levels}
 use Rattle.names.specs.Names.{plain, path_name}
 use Rattle.names.specs.Paths.{path_of}
 use Rattle.names.specs.Laws.Readers.{split, got_value}
 use Rattle.decimal.specs.Decimal.{decimal_text}
 use Rattle.condition.specs.Condition as tree
 use Rattle.condition.specs.Condition.{Window, unsaid, Entity, window, One, Two, Condition, Arguments, Term, Terms, Aggregate, one, two, predicate, comparison, exists, tp, opaque, argument, no_argument, entity, literal, integer, decimal, string, bool, given, truth, arith_op, entity_fields, array, aggregate, nil, cons, sum, count, call, span, slot, binder, operator, timepoint_of, arguments, argument_list, elements, element_list, unary, binary, predicate_of, comparison_of, exists_of, condition_kinds, sum_of, count_of, aggregate_kinds, aggregate_of, arith_of, term_kinds, too_deep, condition_at, term_at}
-use Rattle.condition.specs.Places.{is_record, record_in, version_in}
+use Rattle.condition.specs.Places.{record_in, version_in}
 use Rattle.condition.specs.Laws.Tables.{◌also◌}
 use Rattle.condition.specs.Laws.Records.{record_read}
 use Rattle.condition.specs.Walk.{reached}

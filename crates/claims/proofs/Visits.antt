@@ -1,6 +1,6 @@
 -- What is claimed of the number of visits. Assumes nothing.
 use Prim.Native.Nat.{ℕ, suc, ◌+◌, ◌-◌, ◌*◌, ◌≤◌}
-use native.Mathlib.Nat.{zero-mul, suc-mul, add-mul}
+use native.Mathlib.Nat.{zero-mul, suc-mul}
 use native.Mathlib.Omega.{arith}
 use mathlib.Core.Path.{◌≡◌, refl, sym, ap, subst, ◌∙◌}
 use mathlib.Core.Bool.{Bool, true, false, cond, not}
@@ -17,7 +17,7 @@ use Rattle.condition.specs.Condition.{Condition, condition_record}
 use Rattle.condition.specs.Walk.{reached}
 use Rattle.walk.specs.Scopes.{Scoped, nodes_by}
 use Rattle.walk.specs.Laws.Nodes.{length_by}
-use Rattle.condition.specs.Places.{is_record, record_in}
+use Rattle.condition.specs.Places.{record_in}
 use Rattle.condition.specs.Laws.Sizes.{record_nodes}
 use Rattle.targets.specs.Targets.{Target, Targets, Scope, target_record}
 use Rattle.reports.specs.Reports.{Breach, once, encoded, fitting, reported}
@@ -29,7 +29,7 @@ use Rattle.typecheck.specs.Answers.{check_outcome_of}
 use Rattle.typecheck.specs.Run.{found_by}
 use Rattle.typecheck.specs.Laws.Visits.{found_all}
 use Rattle.claims.specs.Breaches.{Accepted, Run}
-use Rattle.claims.specs.Visits.{number_of, StopsAt, visits_of, Visits, AnyRules, Billed, BilledOf}
+use Rattle.claims.specs.Visits.{number_of, StopsAt, visits_of, Billed, BilledOf}
 
 -- ---- the number that a run answers
 

@@ -4,7 +4,7 @@ use mathlib.Core.Bool.{Bool, true, false, cond, ◌&&◌}
 use mathlib.Core.Logic.{◌⊎◌, inl, inr, ⊎_elim}
 use mathlib.Core.List.{List, [], ◌∷◌, ◌++◌, append_assoc, append-nil}
 use mathlib.Core.Option.{Option, none, some}
-use Prim.Native.Nat.{ℕ, zero, suc, ◌+◌, ◌*◌, ◌≤◌}
+use Prim.Native.Nat.{ℕ, zero, suc, ◌+◌, ◌≤◌}
 use native.Mathlib.Numerals.{add-one}
 use native.Mathlib.Omega.{arith}
 use lib.Dec.{leb, eqb}
@@ -13,7 +13,7 @@ use lib.Seq.{drop-cons, drop-drop, drop-append_seam, take-append_seam, length-ta
 use borrow.Author.Tests.{eqb-true, eq-eqb, leb-true, le-leb}
 use Rattle.names.specs.Lists.{gather}
 use Rattle.names.specs.Laws.Lists.{gather_append}
-use Rattle.names.specs.Fields.{Reader, Got, got, bad, next, ◌>>=◌, ◌<∘>◌, pure, holds, u8, u16, number, bytes, string_of, many, each, counted, heading, finished, whole, choose}
+use Rattle.names.specs.Fields.{Reader, Got, got, bad, next, ◌<∘>◌, pure, holds, u8, u16, number, bytes, string_of, many, each, counted, heading, finished, whole, choose}
 use Rattle.names.specs.Names.{path_name, path_or_none, plain, same}
 use Rattle.names.specs.Laws.Names.{same_eq, same_refl, and_left, and_right}
 use Rattle.names.specs.Laws.Readers.{split, held, u8_view, u8_got, bytes_view, bytes_got, got_value, got_place, whole_read}

@@ -1,5 +1,5 @@
 -- The bytes of a target record: document 01's numbers, in its order. A record is accepted only where it is written so (`no_other` in `Claim`).
-use Rattle.std.specs.Prelude.{ℕ, Bool, true, false, List, [], ◌∷◌, ◌++◌, length}
+use Rattle.std.specs.Prelude.{ℕ, true, false, List, [], ◌∷◌, ◌++◌, length}
 use Rattle.std.proofs.Math.Option.{Option, none, some}
 use Rattle.names.specs.Lists.{gather}
 use Rattle.targets.specs.Targets.{Narrowing, any, is_type, uid, Target, Targets}
