@@ -4,6 +4,9 @@
 #![tactic(auto)]
 
 use program::Loaded;
+use std::env::Env;
+use std::io;
+use std::rt::Files;
 
 // What the options say, and how many they are.
 #[derive(Clone, Copy)]
@@ -14,35 +17,38 @@ struct Options {
     count: usize,
 }
 
-fn main() {
-    let options = chosen();
-    if program::fits(
-        std::num::wrapping_sub_usize(os::arg_count(), options.count),
-        3,
-    ) {
-        first(options);
-        return;
+fn main(rt: HostRuntime) -> io::Result<()> {
+    called(&rt, &rt.stderr())
+}
+
+// The whole run, with what is printed and what is said of files and usage.
+fn called(rt: &(impl Files + Env + Print), err: &impl Print) -> io::Result<()> {
+    let options = chosen(rt);
+    let count = program::argument_count(rt);
+    if program::fits(count.wrapping_sub(options.count), 3) {
+        return first(rt, err, options);
     }
     program::print_usage(
+        err,
         b"usage: checkcond [--strict] [--own-bodies] [--visits] [SCHEMA CONDITION TARGETS]\n",
-    );
+    )
 }
 
 // The options: each of the first three arguments may be one.
-fn chosen() -> Options {
+fn chosen(env: &impl Env) -> Options {
     let none = Options {
         strict: false,
         own: false,
         visits: false,
         count: 0,
     };
-    one_more(one_more(one_more(none)))
+    one_more(env, one_more(env, one_more(env, none)))
 }
 
 // With the next argument, where it is an option.
-fn one_more(options: Options) -> Options {
+fn one_more(env: &impl Env, options: Options) -> Options {
     let at = behind(options, 1);
-    if is_word(at, b"--strict") {
+    if is_word(env, at, b"--strict") {
         return Options {
             strict: true,
             own: options.own,
@@ -50,7 +56,7 @@ fn one_more(options: Options) -> Options {
             count: at,
         };
     }
-    if is_word(at, b"--own-bodies") {
+    if is_word(env, at, b"--own-bodies") {
         return Options {
             strict: options.strict,
             own: true,
@@ -58,7 +64,7 @@ fn one_more(options: Options) -> Options {
             count: at,
         };
     }
-    if is_word(at, b"--visits") {
+    if is_word(env, at, b"--visits") {
         return Options {
             strict: options.strict,
             own: options.own,
@@ -70,15 +76,15 @@ fn one_more(options: Options) -> Options {
 }
 
 // Whether an argument is this word.
-fn is_word(i: usize, word: &[u8]) -> bool {
+fn is_word(env: &impl Env, i: usize, word: &[u8]) -> bool {
     let mut space = [0u8; 16];
-    let n = os::arg(i, &mut space);
+    let n = program::argument(env, i, &mut space);
     names::same(names::part_of(&space, 0, n), word)
 }
 
 // The place of an argument behind the options.
 fn behind(options: Options, i: usize) -> usize {
-    std::num::wrapping_add_usize(options.count, i)
+    options.count.wrapping_add(i)
 }
 
 // The rules that the options choose: 1 is strict, 2 gives each binder its own body, 3 is both.
@@ -100,36 +106,53 @@ fn own_rules(strict: bool) -> u8 {
 }
 
 // The schema is read,
-fn first(options: Options) {
+fn first(rt: &(impl Files + Env + Print), err: &impl Print, options: Options) -> io::Result<()> {
     let mut space = program::record_space();
-    let loaded = program::load_argument(behind(options, 1), b"schema.dws", &mut space);
+    let loaded = program::load_argument(rt, err, behind(options, 1), b"schema.dws", &mut space);
     let Loaded::Bytes(n) = loaded else {
-        return;
+        return Ok(());
     };
-    second(options, names::part_of(&space, 0, n));
+    second(rt, err, options, names::part_of(&space, 0, n))
 }
 
 // then the condition,
-fn second(options: Options, schema: &[u8]) {
+fn second(
+    rt: &(impl Files + Env + Print),
+    err: &impl Print,
+    options: Options,
+    schema: &[u8],
+) -> io::Result<()> {
     let mut space = program::record_space();
-    let loaded = program::load_argument(behind(options, 2), b"cond.dwc", &mut space);
+    let loaded = program::load_argument(rt, err, behind(options, 2), b"cond.dwc", &mut space);
     let Loaded::Bytes(n) = loaded else {
-        return;
+        return Ok(());
     };
-    third(options, schema, names::part_of(&space, 0, n));
+    third(rt, err, options, schema, names::part_of(&space, 0, n))
 }
 
 // then the targets.
-fn third<'a>(options: Options, schema: &'a [u8], condition: &'a [u8]) {
+fn third<'a>(
+    rt: &(impl Files + Env + Print),
+    err: &impl Print,
+    options: Options,
+    schema: &'a [u8],
+    condition: &'a [u8],
+) -> io::Result<()> {
     let mut space = program::record_space();
-    let loaded = program::load_argument(behind(options, 3), b"targets.dwt", &mut space);
+    let loaded = program::load_argument(rt, err, behind(options, 3), b"targets.dwt", &mut space);
     let Loaded::Bytes(n) = loaded else {
-        return;
+        return Ok(());
     };
-    run(options, schema, condition, names::part_of(&space, 0, n));
+    run(rt, options, schema, condition, names::part_of(&space, 0, n))
 }
 
-fn run<'a>(options: Options, schema: &'a [u8], condition: &'a [u8], targets: &'a [u8]) {
+fn run<'a>(
+    out: &impl Print,
+    options: Options,
+    schema: &'a [u8],
+    condition: &'a [u8],
+    targets: &'a [u8],
+) -> io::Result<()> {
     let mut space = program::report_space();
     let mut workspace = [0u32; 2048];
     let answer = dogwood::dogwood_check_with(
@@ -140,8 +163,9 @@ fn run<'a>(options: Options, schema: &'a [u8], condition: &'a [u8], targets: &'a
         &mut space,
         &mut workspace,
     );
-    program::print_run(answer.number, answer.record, answer.count, &space);
+    program::print_run(out, answer.number, answer.record, answer.count, &space)?;
     if options.visits {
-        program::print_between(b"visits ", answer.visits, b"\n");
+        program::print_between(out, b"visits ", answer.visits, b"\n")?;
     }
+    Ok(())
 }

@@ -1,6 +1,8 @@
 -- What the programs' arguments, spaces and loaded files are.
 use Rattle.std.specs.Prelude.{ℕ, ◌+◌, ◌-◌, ◌≤◌, Bool, true, cond, List, length, take, drop, replicate, ◌==◌, nat_le}
 use Rattle.names.specs.Fields.{number}
+use Rattle.std.specs.Io.KnownBytes.{Consumes, Keeps}
+use Rattle.std.specs.declared.option.Option.{Option}
 use Rattle.program.specs.declared.Loaded.{Loaded}
 use Rattle.program.specs.declared.Loaded.TheVariants.{Bytes, Unread}
 
@@ -20,3 +22,8 @@ number_at s at = cond (nat_le (at + 8) (length s)) (number 0 (take 8 (drop at s)
 abbrev pub Within : List ℕ → Loaded → Type 0
 Within s (Bytes n) = n ≤ length s
 Within s Unread = 0 ≤ length s
+
+-- what a reader of known bytes gave: those at the front of the space, or none
+abbrev pub Took : Option (List ℕ) → Option (List ℕ) → List ℕ → Loaded → Type 0
+Took old new s (Bytes n) = Consumes old new (take n s)
+Took old new s Unread = Keeps old new

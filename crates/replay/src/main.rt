@@ -11,6 +11,8 @@ ghost use Rattle.std.specs.Prelude.{◌≡◌, length};
 use dogwood::{Answer, CheckAnswer, Stepped, Steps};
 use operands::Operand;
 use program::{Loaded, print, print_between, print_number};
+use std::io;
+use std::rt::Files;
 
 // How many cases, how many of them differ, which is the first that does.
 #[derive(Clone, Copy)]
@@ -55,7 +57,7 @@ fn filled() -> [u8; 8192]
 
 // A place or a count some further. None comes near the largest number.
 fn forward(at: usize, n: usize) -> usize {
-    std::num::wrapping_add_usize(at, n)
+    at.wrapping_add(n)
 }
 
 // The field at a place: its length in two bytes, then its bytes.
@@ -453,8 +455,8 @@ fn same_numbers(list: &[u8], at: usize, answer: CheckAnswer) -> bool {
 fn same_output(output: &[u8], buffer: &[u8]) -> bool {
     let n = output.len();
     let before = filled();
-    if check::same(names::part_of(buffer, 0, n), output) {
-        return check::same(
+    if names::same(names::part_of(buffer, 0, n), output) {
+        return names::same(
             names::part_of(buffer, n, 8192),
             names::part_of(&before, n, 8192),
         );
@@ -523,37 +525,37 @@ fn all(list: &[u8]) -> Tally {
 }
 
 // `NAME: 12 cases, 0 differ`, and where some differ which is the first.
-fn told(file: &[u8], tally: Tally) {
-    print(file);
-    print_between(b": ", tally.cases, b" cases, ");
+fn told(out: &impl Print, file: &[u8], tally: Tally) -> io::Result<()> {
+    print(out, file)?;
+    print_between(out, b": ", tally.cases, b" cases, ")?;
     if tally.differ == 0 {
-        print(b"0 differ\n");
-        return;
+        return print(out, b"0 differ\n");
     }
-    print_number(tally.differ);
-    print_between(b" differ, the first is case ", tally.first, b"\n");
+    print_number(out, tally.differ)?;
+    print_between(out, b" differ, the first is case ", tally.first, b"\n")
 }
 
 // Runs the cases of a file, and prints how they went.
-fn replay(file: &[u8]) {
+fn replay(rt: &(impl Files + Print), err: &impl Print, file: &[u8]) -> io::Result<()> {
     let mut space = list_space();
-    let loaded = program::load(file, &mut space);
+    let loaded = program::load(rt, err, file, &mut space);
     let Loaded::Bytes(n) = loaded else {
-        return;
+        return Ok(());
     };
-    told(file, all(names::part_of(&space, 0, n)));
+    told(rt, file, all(names::part_of(&space, 0, n)))
 }
 
-fn main() {
-    replay(b"readers.cases");
-    replay(b"check.cases");
-    replay(b"strict.cases");
-    replay(b"sums.cases");
-    replay(b"lookup.cases");
-    replay(b"windows.cases");
-    replay(b"values.cases");
-    replay(b"times.cases");
-    replay(b"own.cases");
-    replay(b"steps.cases");
-    replay(b"terms.cases");
+fn main(rt: HostRuntime) -> io::Result<()> {
+    let err = rt.stderr();
+    replay(&rt, &err, b"readers.cases")?;
+    replay(&rt, &err, b"check.cases")?;
+    replay(&rt, &err, b"strict.cases")?;
+    replay(&rt, &err, b"sums.cases")?;
+    replay(&rt, &err, b"lookup.cases")?;
+    replay(&rt, &err, b"windows.cases")?;
+    replay(&rt, &err, b"values.cases")?;
+    replay(&rt, &err, b"times.cases")?;
+    replay(&rt, &err, b"own.cases")?;
+    replay(&rt, &err, b"steps.cases")?;
+    replay(&rt, &err, b"terms.cases")
 }

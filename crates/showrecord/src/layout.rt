@@ -2,6 +2,7 @@
 ghost use Rattle.std.specs.Prelude.{◌≡◌, length};
 
 use program::{print, print_between, print_number};
+use std::io;
 
 // A rule stands on a line: its letter, `=`, and its items. The lines stand by their letters, from A on. Bars part the choices of a
 // rule, which stand by the format's numbers. An item is a word of letters and blanks, which is printed, or a mark:
@@ -63,7 +64,7 @@ struct Item {
 
 // A place some bytes further. No place comes near the largest number.
 fn forward(at: usize, n: usize) -> usize {
-    std::num::wrapping_add_usize(at, n)
+    at.wrapping_add(n)
 }
 
 // A byte of the table; past its end the end of a rule.
@@ -117,17 +118,17 @@ fn behind(table: &[u8], start: usize, separator: u8, count: usize) -> usize {
 
 // Where a choice of the rule of a letter stands.
 fn choice(table: &[u8], letter: u8, number: usize) -> usize {
-    let line = names::wide(std::num::wrapping_sub_u8(letter, b'@'));
+    let line = names::wide(letter.wrapping_sub(b'@'));
     let rule = forward(behind(table, 0, b'\n', line), 2);
     behind(table, rule, b'|', number)
 }
 
 // A choice of a rule, as a word.
-pub fn say(table: &[u8], letter: u8, number: usize) {
+pub fn say(out: &impl Print, table: &[u8], letter: u8, number: usize) -> io::Result<()> {
     let start = choice(table, letter, number);
     let next = behind(table, start, b'|', 1);
-    let long = std::num::wrapping_sub_usize(next, forward(start, 1));
-    print(names::part_of(table, start, long));
+    let long = next.wrapping_sub(forward(start, 1));
+    print(out, names::part_of(table, start, long))
 }
 
 // A row of blanks, more than the deepest line has. Its length is what lending it needs.
@@ -137,9 +138,9 @@ fn blank_row() -> [u8; 512]
     [32; 512]
 }
 
-fn blanks(n: usize) {
+fn blanks(out: &impl Print, n: usize) -> io::Result<()> {
     let row = blank_row();
-    print(names::part_of(&row, 0, n));
+    print(out, names::part_of(&row, 0, n))
 }
 
 // How many blanks stand before a number, so that five digits end in one column.
@@ -160,29 +161,29 @@ fn column(n: usize) -> usize {
 }
 
 // The front of a line.
-fn line(at: usize, depth: usize) {
-    print(b"\n");
-    blanks(column(at));
-    print_number(at);
-    print(b" ");
-    blanks(forward(depth, depth));
+fn line(out: &impl Print, at: usize, depth: usize) -> io::Result<()> {
+    print(out, b"\n")?;
+    blanks(out, column(at))?;
+    print_number(out, at)?;
+    print(out, b" ")?;
+    blanks(out, forward(depth, depth))
 }
 
 // A string; the place behind it.
-fn name(s: &[u8], at: usize) -> usize {
-    print(b"`");
-    print(names::word(s, at));
-    print(b"`");
-    forward(forward(at, 1), names::byte_at(s, at))
+fn name(out: &impl Print, s: &[u8], at: usize) -> io::Result<usize> {
+    print(out, b"`")?;
+    print(out, names::word(s, at))?;
+    print(out, b"`")?;
+    Ok(forward(forward(at, 1), names::byte_at(s, at)))
 }
 
 // A span; the place behind it.
-fn span(s: &[u8], at: usize) -> usize {
-    print(b" span ");
-    program::print_u32(s, at);
-    print(b"..");
-    program::print_u32(s, forward(at, 4));
-    forward(at, 8)
+fn span(out: &impl Print, s: &[u8], at: usize) -> io::Result<usize> {
+    print(out, b" span ")?;
+    program::print_u32(out, s, at)?;
+    print(out, b"..")?;
+    program::print_u32(out, s, forward(at, 4))?;
+    Ok(forward(at, 8))
 }
 
 // The choice of Z for an amount of a unit: of one, or of several.
@@ -194,84 +195,82 @@ fn unit_word(unit: usize, amount: u64) -> usize {
 }
 
 // A window; the place behind it.
-fn window<'a>(table: &'a [u8], s: &'a [u8], at: usize) -> usize {
+fn window<'a>(out: &impl Print, table: &'a [u8], s: &'a [u8], at: usize) -> io::Result<usize> {
     if names::u16_at(s, 3) <= 1 {
-        return at;
+        return Ok(at);
     }
     if names::byte_at(s, at) == 1 {
-        print(b" within ParamRef");
-        return forward(at, 1);
+        print(out, b" within ParamRef")?;
+        return Ok(forward(at, 1));
     }
     let amount = program::u64_at(s, forward(at, 2));
-    print(b" within ");
-    program::print_u64(amount);
+    print(out, b" within ")?;
+    program::print_u64(out, amount)?;
     say(
+        out,
         table,
         b'Z',
         unit_word(names::byte_at(s, forward(at, 1)), amount),
-    );
-    forward(at, 10)
+    )?;
+    Ok(forward(at, 10))
 }
 
 // A signed number; the place behind it. Below 0 it stands as 2^64 more.
-fn signed(s: &[u8], at: usize) -> usize {
+fn signed(out: &impl Print, s: &[u8], at: usize) -> io::Result<usize> {
     let word = program::u64_at(s, at);
     if word < 9223372036854775808 {
-        program::print_u64(word);
-        return forward(at, 8);
+        program::print_u64(out, word)?;
+        return Ok(forward(at, 8));
     }
-    print(b"-");
-    program::print_u64(18446744073709551615 - word + 1);
-    forward(at, 8)
+    print(out, b"-")?;
+    program::print_u64(out, 18446744073709551615 - word + 1)?;
+    Ok(forward(at, 8))
 }
 
 // The text of a decimal; the place behind it.
-fn decimal(s: &[u8], at: usize) -> usize {
-    print(names::word(s, at));
-    forward(forward(at, 1), names::byte_at(s, at))
+fn decimal(out: &impl Print, s: &[u8], at: usize) -> io::Result<usize> {
+    print(out, names::word(s, at))?;
+    Ok(forward(forward(at, 1), names::byte_at(s, at)))
 }
 
-fn print_truth(b: usize) {
+fn print_truth(out: &impl Print, b: usize) -> io::Result<()> {
     if b == 0 {
-        print(b"false");
-        return;
+        return print(out, b"false");
     }
-    print(b"true");
+    print(out, b"true")
 }
 
-fn print_operator(b: usize) {
+fn print_operator(out: &impl Print, b: usize) -> io::Result<()> {
     if b == 0 {
-        print(b"+");
-        return;
+        return print(out, b"+");
     }
     if b == 1 {
-        print(b"-");
-        return;
+        return print(out, b"-");
     }
-    print(b"*");
+    print(out, b"*")
 }
 
 // What version 3 brought, by its mark; the place behind it.
-fn later(s: &[u8], mark: u8, at: usize) -> usize {
+fn later(out: &impl Print, s: &[u8], mark: u8, at: usize) -> io::Result<usize> {
     if names::u16_at(s, 3) <= 2 {
-        return at;
+        return Ok(at);
     }
-    print(b" ");
+    print(out, b" ")?;
     if mark == b';' {
-        return name(s, at);
+        return name(out, s, at);
     }
     if mark == b'=' {
-        return signed(s, at);
+        return signed(out, s, at);
     }
     if mark == b'<' {
-        return decimal(s, at);
+        return decimal(out, s, at);
     }
     if mark == b'>' {
-        print_truth(names::byte_at(s, at));
-        return forward(at, 1);
+        print_truth(out, names::byte_at(s, at))?;
+        return Ok(forward(at, 1));
     }
-    print_operator(names::byte_at(s, at));
-    forward(at, 1)
+    print_operator(out, names::byte_at(s, at))?;
+    Ok(forward(at, 1))
 }
 
 fn is_later(mark: u8) -> bool {
@@ -285,26 +284,33 @@ fn is_later(mark: u8) -> bool {
 }
 
 // What a mark that names no rule stands for; the place behind it.
-fn value(s: &[u8], mark: u8, at: usize, depth: usize, turn: usize) -> usize {
+fn value(
+    out: &impl Print,
+    s: &[u8],
+    mark: u8,
+    at: usize,
+    depth: usize,
+    turn: usize,
+) -> io::Result<usize> {
     if mark == b'@' {
-        line(at, depth);
-        return at;
+        line(out, at, depth)?;
+        return Ok(at);
     }
     if mark == b'`' {
-        return name(s, at);
+        return name(out, s, at);
     }
     if mark == b'~' {
-        return span(s, at);
+        return span(out, s, at);
     }
     if mark == b':' {
-        print_number(turn);
-        return at;
+        print_number(out, turn)?;
+        return Ok(at);
     }
     if is_later(mark) {
-        return later(s, mark, at);
+        return later(out, s, mark, at);
     }
-    print_number(names::byte_at(s, at));
-    forward(at, 1)
+    print_number(out, names::byte_at(s, at))?;
+    Ok(forward(at, 1))
 }
 
 // An item that names a rule.
@@ -326,33 +332,41 @@ fn names_rule(mark: u8) -> bool {
 }
 
 // What a mark that names a rule shows of itself, and the choice of the rule.
-fn refer<'a>(table: &'a [u8], s: &'a [u8], here: usize, at: usize, depth: usize) -> Item {
+fn refer<'a>(
+    out: &impl Print,
+    table: &'a [u8],
+    s: &'a [u8],
+    here: usize,
+    at: usize,
+    depth: usize,
+) -> io::Result<Item> {
     let mark = byte(table, here);
     let letter = byte(table, forward(here, 1));
     let b = names::byte_at(s, at);
     if mark == b'#' {
-        print_between(b" (", b, b")");
-        return named(here, forward(at, 1), depth, choice(table, letter, 0), b);
+        print_between(out, b" (", b, b")")?;
+        return Ok(named(here, forward(at, 1), depth, choice(table, letter, 0), b));
     }
     if mark == b'%' {
         let n = names::u16_at(s, at);
-        print_between(b" (", n, b")");
-        return named(here, forward(at, 2), depth, choice(table, letter, 0), n);
+        print_between(out, b" (", n, b")")?;
+        return Ok(named(here, forward(at, 2), depth, choice(table, letter, 0), n));
     }
     if mark == b'*' {
-        say(table, letter, names::byte_at(s, forward(at, 8)));
-        return named(here, forward(span(s, at), 1), depth, 0, 0);
+        say(out, table, letter, names::byte_at(s, forward(at, 8)))?;
+        let behind_span = span(out, s, at)?;
+        return Ok(named(here, forward(behind_span, 1), depth, 0, 0));
     }
     if mark == b'?' {
-        return named(here, forward(at, 1), depth, choice(table, letter, b), 1);
+        return Ok(named(here, forward(at, 1), depth, choice(table, letter, b), 1));
     }
     if mark == b'&' {
-        return named(here, at, depth, choice(table, letter, 0), 1);
+        return Ok(named(here, at, depth, choice(table, letter, 0), 1));
     }
     if b == 0 {
-        return named(here, forward(at, 1), depth, choice(table, letter, 0), 1);
+        return Ok(named(here, forward(at, 1), depth, choice(table, letter, 0), 1));
     }
-    named(here, at, depth, choice(table, letter, 1), 1)
+    Ok(named(here, at, depth, choice(table, letter, 1), 1))
 }
 
 // An item that names none.
@@ -368,30 +382,32 @@ fn plain(next: usize, at: usize, depth: usize) -> Item {
 
 // Shows the item at a place of the table.
 fn open<'a>(
+    out: &impl Print,
     table: &'a [u8],
     s: &'a [u8],
     here: usize,
     at: usize,
     depth: usize,
     turn: usize,
-) -> Item {
+) -> io::Result<Item> {
     let mark = byte(table, here);
     if !is_mark(mark) {
         let end = word_end(table, here);
-        let long = std::num::wrapping_sub_usize(end, here);
-        print(names::part_of(table, here, long));
-        return plain(end, at, depth);
+        print(out, names::part_of(table, here, end.wrapping_sub(here)))?;
+        return Ok(plain(end, at, depth));
     }
     if names_rule(mark) {
-        return refer(table, s, here, at, depth);
+        return refer(out, table, s, here, at, depth);
     }
     if mark == b'+' {
-        return plain(forward(here, 1), at, forward(depth, 1));
+        return Ok(plain(forward(here, 1), at, forward(depth, 1)));
     }
     if mark == b'{' {
-        return plain(forward(here, 1), window(table, s, at), depth);
+        let behind_window = window(out, table, s, at)?;
+        return Ok(plain(forward(here, 1), behind_window, depth));
     }
-    plain(forward(here, 1), value(s, mark, at, depth, turn), depth)
+    let behind_value = value(out, s, mark, at, depth, turn)?;
+    Ok(plain(forward(here, 1), behind_value, depth))
 }
 
 fn ends(mark: u8) -> bool {
@@ -400,6 +416,7 @@ fn ends(mark: u8) -> bool {
 
 // Shows a rule's items from a place of the table on; the place in the record behind them.
 fn items<'a>(
+    out: &impl Print,
     table: &'a [u8],
     s: &'a [u8],
     from: usize,
@@ -407,49 +424,49 @@ fn items<'a>(
     deep: usize,
     turn: usize,
     left: usize,
-) -> usize {
+) -> io::Result<usize> {
     let mut here = from;
     let mut at = start;
     let mut depth = deep;
-    let mut turns = table.len();
     if left == 0 {
-        return at;
+        return Ok(at);
     }
-    while 0 < turns {
+    for _ in 0..table.len() {
         if ends(byte(table, here)) {
-            return at;
+            return Ok(at);
         }
-        let item = open(table, s, here, at, depth, turn);
+        let item = open(out, table, s, here, at, depth, turn)?;
         here = item.next;
         at = item.at;
         depth = item.depth;
-        let mut i = 0;
-        while i < item.count {
-            at = items(table, s, item.rule, at, depth, i, left - 1);
-            i += 1;
+        for i in 0..item.count {
+            at = items(out, table, s, item.rule, at, depth, i, left - 1)?;
         }
-        turns -= 1;
     }
-    at
+    Ok(at)
 }
 
 // The walk must come to the record's end.
-fn last(at: usize, long: usize) {
-    line(at, 0);
-    print(b"end");
+fn last(out: &impl Print, at: usize, long: usize) -> io::Result<()> {
+    line(out, at, 0)?;
+    print(out, b"end")?;
     if at != long {
-        print(b" OF THE WALK IS NOT THE END OF THE RECORD: what is printed above is wrong");
+        print(
+            out,
+            b" OF THE WALK IS NOT THE END OF THE RECORD: what is printed above is wrong",
+        )?;
     }
-    print(b"\n");
+    print(out, b"\n")
 }
 
 // The lines of an accepted record, whose mark and version have five bytes.
-pub fn show<'a>(table: &'a [u8], s: &'a [u8], record: u8) {
-    line(0, 0);
-    say(table, b'X', names::wide(record));
-    print_between(b", version ", names::u16_at(s, 3), b", ");
-    print_number(s.len());
-    print(b" bytes");
-    let start = choice(table, std::num::wrapping_add_u8(b'@', record), 0);
-    last(items(table, s, start, 5, 0, 0, DEEPEST), s.len());
+pub fn show<'a>(out: &impl Print, table: &'a [u8], s: &'a [u8], record: u8) -> io::Result<()> {
+    line(out, 0, 0)?;
+    say(out, table, b'X', names::wide(record))?;
+    print_between(out, b", version ", names::u16_at(s, 3), b", ")?;
+    print_number(out, s.len())?;
+    print(out, b" bytes")?;
+    let start = choice(table, record.wrapping_add(b'@'), 0);
+    let end = items(out, table, s, start, 5, 0, 0, DEEPEST)?;
+    last(out, end, s.len())
 }

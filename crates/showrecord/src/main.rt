@@ -9,49 +9,54 @@ mod layout;
 mod refusal;
 
 use program::{Loaded, print};
+use std::env::Env;
+use std::io;
+use std::rt::Files;
 
-fn main() {
-    let count = os::arg_count();
+fn main(rt: HostRuntime) -> io::Result<()> {
+    called(&rt, &rt.stderr())
+}
+
+// The whole run, with what is printed and what is said of files.
+fn called(rt: &(impl Files + Env + Print), err: &impl Print) -> io::Result<()> {
+    let count = program::argument_count(rt);
     if count <= 1 {
-        print(b"usage: showrecord FILE..\n");
-        return;
+        return print(rt, b"usage: showrecord FILE..\n");
     }
-    arguments(count);
+    arguments(rt, err, count)
 }
 
 // The files that the arguments name, one after another.
-fn arguments(count: usize) {
-    let mut i = 1;
-    while i < count {
-        argument(i);
-        i += 1;
+fn arguments(rt: &(impl Files + Env + Print), err: &impl Print, count: usize) -> io::Result<()> {
+    for i in 1..count {
+        argument(rt, err, i)?;
     }
+    Ok(())
 }
 
-fn argument(i: usize) {
-    let mut name = io::buffer();
-    let n = os::arg(i, &mut name);
-    file(&name[..n]);
+fn argument(rt: &(impl Files + Env + Print), err: &impl Print, i: usize) -> io::Result<()> {
+    let mut name = [0u8; 4096];
+    let n = program::argument(rt, i, &mut name);
+    file(rt, err, &name[..n])
 }
 
 // One file: its name, then the record that it is, walked or refused.
-fn file(name: &[u8]) {
+fn file(rt: &(impl Files + Print), err: &impl Print, name: &[u8]) -> io::Result<()> {
     let mut space = program::record_space();
-    let loaded = program::load(name, &mut space);
+    let loaded = program::load(rt, err, name, &mut space);
     let Loaded::Bytes(n) = loaded else {
-        return;
+        return Ok(());
     };
-    print(name);
-    show(names::part_of(&space, 0, n));
+    print(rt, name)?;
+    show(rt, names::part_of(&space, 0, n))
 }
 
-fn show(bytes: &[u8]) {
+fn show(out: &impl Print, bytes: &[u8]) -> io::Result<()> {
     let kind = offence::kind_of(bytes);
     let number = offence::number_of(kind, bytes);
     let table = layout::TABLE;
     if number != 0 {
-        refusal::show(&table, bytes, kind, number);
-        return;
+        return refusal::show(out, &table, bytes, kind, number);
     }
-    layout::show(&table, bytes, offence::record_of(kind));
+    layout::show(out, &table, bytes, offence::record_of(kind))
 }

@@ -9,6 +9,9 @@
 ghost use Rattle.std.specs.Prelude.{◌≡◌, length};
 
 use program::{Loaded, print, print_between, print_number};
+use std::env::Env;
+use std::io;
+use std::rt::Files;
 
 // A period, or what is none.
 #[derive(Clone, Copy)]
@@ -24,45 +27,48 @@ fn listing_space() -> [u8; 40960]
     [0; 40960]
 }
 
-fn main() {
-    if program::fits(os::arg_count(), 2) {
-        begin();
-        return;
-    }
-    usage();
+fn main(rt: HostRuntime) -> io::Result<()> {
+    called(&rt, &rt.stderr())
 }
 
-fn usage() {
-    program::print_usage(b"usage: windows [CONDITION PERIOD]\n");
+// The whole run, with what is printed and what is said of files and usage.
+fn called(rt: &(impl Files + Env + Print), err: &impl Print) -> io::Result<()> {
+    if program::fits(program::argument_count(rt), 2) {
+        return begin(rt, err);
+    }
+    usage(err)
+}
+
+fn usage(err: &impl Print) -> io::Result<()> {
+    program::print_usage(err, b"usage: windows [CONDITION PERIOD]\n")
 }
 
 // The period is asked for first: without one no file is read.
-fn begin() {
-    let period = given_period();
-    match period {
-        Period::Seconds(seconds) => file(seconds),
-        Period::Malformed => usage(),
+fn begin(rt: &(impl Files + Env + Print), err: &impl Print) -> io::Result<()> {
+    match given_period(rt) {
+        Period::Seconds(seconds) => file(rt, err, seconds),
+        Period::Malformed => usage(err),
     }
 }
 
-fn file(period: u64) {
+fn file(rt: &(impl Files + Env + Print), err: &impl Print, period: u64) -> io::Result<()> {
     let mut space = program::record_space();
-    let read = program::load_argument(1, b"cond.dwc", &mut space);
+    let read = program::load_argument(rt, err, 1, b"cond.dwc", &mut space);
     let Loaded::Bytes(n) = read else {
-        return;
+        return Ok(());
     };
-    run(names::part_of(&space, 0, n), period);
+    run(rt, names::part_of(&space, 0, n), period)
 }
 
 // ---- the period
 
 // The second argument; an hour where there is none.
-fn given_period() -> Period {
-    if os::arg_count() <= 2 {
+fn given_period(env: &impl Env) -> Period {
+    if program::argument_count(env) <= 2 {
         return Period::Seconds(3600);
     }
     let mut word = [0u8; 32];
-    let n = os::arg(2, &mut word);
+    let n = program::argument(env, 2, &mut word);
     // an argument that fills the space may be longer than it
     if 31 < n {
         return Period::Malformed;
@@ -111,69 +117,73 @@ fn with_digit(so_far: u64, digit: u8) -> Period {
 // ---- the listing
 
 // The listing, and beside it the one of a period of a second, whose sweeps are the windows' seconds.
-fn run(condition: &[u8], period: u64) {
+fn run(out: &impl Print, condition: &[u8], period: u64) -> io::Result<()> {
     let mut listed = listing_space();
     let mut seconds = listing_space();
     let answer = dogwood::dogwood_windows(condition, period, &mut listed);
     if answer.number != 0 {
-        program::print_refusal(answer.number, answer.record);
-        return;
+        return program::print_refusal(out, answer.number, answer.record);
     }
     dogwood::dogwood_windows(condition, 1, &mut seconds);
-    print_between(b"windows ", answer.count, b"\n");
-    print_entries(&listed, &seconds, answer.count);
+    print_between(out, b"windows ", answer.count, b"\n")?;
+    print_entries(out, &listed, &seconds, answer.count)
 }
 
-fn print_entries<'a>(listed: &'a [u8], seconds: &'a [u8], count: usize) {
-    let mut at = 0;
-    let mut left = count;
-    while 0 < left {
+fn print_entries<'a>(
+    out: &impl Print,
+    listed: &'a [u8],
+    seconds: &'a [u8],
+    count: usize,
+) -> io::Result<()> {
+    let mut at: usize = 0;
+    for _ in 0..count {
         print_entry(
+            out,
             names::part_of(listed, at, 20),
             names::part_of(seconds, at, 20),
-        );
-        at = std::num::wrapping_add_usize(at, 20);
-        left -= 1;
+        )?;
+        at = at.wrapping_add(20);
     }
+    Ok(())
 }
 
 // The line of an entry.
-fn print_entry<'a>(entry: &'a [u8], seconds: &'a [u8]) {
+fn print_entry<'a>(out: &impl Print, entry: &'a [u8], seconds: &'a [u8]) -> io::Result<()> {
     let rest = program::u64_at(entry, 12) as usize;
-    program::print_u32(entry, 0);
-    print_between(b" ", program::u64_at(entry, 4) as usize, b" ");
-    print_between(b"", rest, b": ");
-    print_time(program::u64_at(seconds, 4) as usize);
-    print(b", left ");
-    print_time(rest);
-    print(b"\n");
+    program::print_u32(out, entry, 0)?;
+    print_between(out, b" ", program::u64_at(entry, 4) as usize, b" ")?;
+    print_between(out, b"", rest, b": ")?;
+    print_time(out, program::u64_at(seconds, 4) as usize)?;
+    print(out, b", left ")?;
+    print_time(out, rest)?;
+    print(out, b"\n")
 }
 
 // ---- times
 
 // Days, hours, minutes and seconds, those that are not 0; no time is 0 s.
-fn print_time(seconds: usize) {
+fn print_time(out: &impl Print, seconds: usize) -> io::Result<()> {
     if seconds == 0 {
-        print(b"0 s");
-        return;
+        return print(out, b"0 s");
     }
     let days = seconds / 86400;
     let hours = seconds % 86400 / 3600;
     let minutes = seconds % 3600 / 60;
-    print_part(days, b" d", seconds % 86400);
-    print_part(hours, b" h", seconds % 3600);
-    print_part(minutes, b" min", seconds % 60);
-    print_part(seconds % 60, b" s", 0);
+    print_part(out, days, b" d", seconds % 86400)?;
+    print_part(out, hours, b" h", seconds % 3600)?;
+    print_part(out, minutes, b" min", seconds % 60)?;
+    print_part(out, seconds % 60, b" s", 0)
 }
 
 // A part that is not 0, and a space where something is behind it.
-fn print_part(n: usize, unit: &[u8], behind: usize) {
+fn print_part(out: &impl Print, n: usize, unit: &[u8], behind: usize) -> io::Result<()> {
     if n == 0 {
-        return;
+        return Ok(());
     }
-    print_number(n);
-    print(unit);
+    print_number(out, n)?;
+    print(out, unit)?;
     if 0 < behind {
-        print(b" ");
+        print(out, b" ")?;
     }
+    Ok(())
 }

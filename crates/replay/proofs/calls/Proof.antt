@@ -3,18 +3,18 @@ use Rattle.std.proofs.Common.{◌≡◌, length, rules}
 use Rattle.replay.proofs.calls.Statement.{statement}
 use Rattle.replay.proofs.calls.Tie as tie
 
-abbrev invariant-loop : tie.invariant-loop
-invariant-loop schema condition history n list₀ buffer₀ course₀ at₀ turns₀ list buffer course at turns = (length list ≡ length list₀) × (length buffer ≡ length buffer₀)
+abbrev invariant-loop-turns : tie.invariant-loop-turns
+invariant-loop-turns schema condition history n list₀ buffer₀ course₀ at₀ turns₀ list buffer course at turns = (length list ≡ length list₀) × (length buffer ≡ length buffer₀)
 
-abbrev decreases-loop : tie.decreases-loop
-decreases-loop schema condition history n list₀ buffer₀ course₀ at₀ turns₀ list buffer course at turns = turns
+abbrev decreases-loop-turns : tie.decreases-loop-turns
+decreases-loop-turns schema condition history n list₀ buffer₀ course₀ at₀ turns₀ list buffer course at turns = turns
 
 pub calls_spec : {M : Type 1} → statement M
 calls_spec =
     tie.close
     (tie.spec
-    invariant-loop
-    decreases-loop
+    invariant-loop-turns
+    decreases-loop-turns
     (λ c κs. search rules)
     (λ c κs. search rules)
     (λ c κs. search rules)
