@@ -1,5 +1,5 @@
 /*
- * The temporal type check of Dogwood, proved: the functions of libdogwood.a (`rt staticlib dogwood`).
+ * The temporal type check of Dogwood, proved: the functions of libdogwood.a (`tools/build dogwood_c`).
  *
  * A function takes byte records, each as an address and a length, and some also a lent buffer for what they answer.
  * docs/RECORDS.md says what the bytes of a record mean. Any bytes may be given: what is no record is refused by a number.

@@ -1,6 +1,6 @@
 //! Finds the static library of the proved crates, `libdogwood.a`, for the linker.
 //!
-//! It is taken from the folder that the variable `DOGWOOD_LIB_DIR` names, or else made by `rt staticlib dogwood` at the root
+//! It is taken from the folder that the variable `DOGWOOD_LIB_DIR` names, or else made by `tools/build dogwood_c` at the root
 //! of the repository that this crate stands in. That proves the library from its sources, which takes minutes where they
 //! are not proved yet. Cargo keeps back what a build script says until it has ended, so this is said on the terminal.
 
@@ -41,7 +41,7 @@ fn neither(folder: &str, kit: &str) -> String {
     format!(
         "dogwood-check needs {ARCHIVE}, and neither way to it works.\n\
          1. A folder with the archive, whose absolute path is in the variable {VARIABLE}: {folder}.\n\
-         2. Without that variable, `rt staticlib dogwood` at the root of the repository: {kit}."
+         2. Without that variable, `tools/build dogwood_c` at the root of the repository: {kit}."
     )
 }
 
@@ -59,11 +59,16 @@ fn given(folder: &Path) -> Result<PathBuf, String> {
 /// repeated where the sources change, and not where the archive is written again.
 fn made() -> Result<PathBuf, String> {
     let root = crate_folder().join("../..");
-    for source in ["crates", "crates.txt"] {
-        println!("cargo:rerun-if-changed={}", root.join(source).display());
+    if !root.join("crates/dogwood_c").is_dir() {
+        return Err(format!("{} is not the repository, it has no crates/dogwood_c", root.display()));
     }
-    if !root.join("crates/dogwood").is_dir() {
-        return Err(format!("{} is not the repository, it has no crates/dogwood", root.display()));
+    let crates = fs::read_dir(root.join("crates")).map_err(|error| format!("crates: {error}"))?;
+    let mut sources = vec![root.join("crates.txt"), root.join("tools/build")];
+    for entry in crates.flatten() {
+        sources.extend(["src", "specs", "proofs"].map(|part| entry.path().join(part)));
+    }
+    for source in sources.iter().filter(|source| source.exists()) {
+        println!("cargo:rerun-if-changed={}", source.display());
     }
     run_kit(&root)?;
     let out = PathBuf::from(env::var_os("OUT_DIR").expect("cargo sets OUT_DIR"));
@@ -75,16 +80,16 @@ fn made() -> Result<PathBuf, String> {
 /// Proves the library and makes the archive. Before that it says what it does, and afterwards how long it took.
 fn run_kit(root: &Path) -> Result<(), String> {
     say_at_once(&format!(
-        "dogwood-check: `rt staticlib dogwood` proves the library and makes {ARCHIVE}. In a fresh clone that takes about \
-         five minutes on two cores, and half a minute where the crates are proved already. To spare it, put the folder of \
-         an archive into the variable {VARIABLE}."
+        "dogwood-check: `tools/build dogwood_c` proves the library and makes {ARCHIVE}. In a fresh clone that takes many \
+         minutes, and half a minute where the crates are proved already. To spare it, put the folder of an archive into \
+         the variable {VARIABLE}."
     ));
     let began = Instant::now();
-    let run = Command::new("rt").args(["staticlib", "dogwood"]).current_dir(root).output();
-    let output = run.map_err(|error| format!("the command `rt` does not run ({error})"))?;
+    let run = Command::new(root.join("tools/build")).arg("dogwood_c").output();
+    let output = run.map_err(|error| format!("the command `tools/build` does not run ({error})"))?;
     if output.status.success() {
         let seconds = began.elapsed().as_secs();
-        println!("cargo:warning={ARCHIVE} was proved and made by `rt staticlib dogwood` in {seconds} s");
+        println!("cargo:warning={ARCHIVE} was proved and made by `tools/build dogwood_c` in {seconds} s");
         return Ok(());
     }
     let said = [output.stdout, output.stderr].concat();

@@ -1,4 +1,4 @@
-// The exported functions of the static library.
+// The functions of the library. The crate dogwood_c exports each of them to C, under the same name and with the same contract.
 #![tactic(auto)]
 
 ghost use Rattle.std.specs.Prelude.{◌≡◌, []};
@@ -24,40 +24,35 @@ pub use steps::{Stepped, Steps};
 pub use typecheck::CheckAnswer;
 
 // The number with which a schema record is refused, 0 for none.
-#[unsafe(no_mangle)]
-pub extern "C" fn dogwood_read_schema(bytes: &[u8]) -> u8
+pub fn dogwood_read_schema(bytes: &[u8]) -> u8
     ensures { result ≡ refusal_number (whole schema_record bytes.now) }
 {
     names::refusal_number(schema::read_schema(bytes))
 }
 
 // The same of a condition record.
-#[unsafe(no_mangle)]
-pub extern "C" fn dogwood_read_condition(bytes: &[u8]) -> u8
+pub fn dogwood_read_condition(bytes: &[u8]) -> u8
     ensures { result ≡ refusal_number (whole condition_record bytes.now) }
 {
     names::refusal_number(condition::read_condition(bytes))
 }
 
 // The same of a target record.
-#[unsafe(no_mangle)]
-pub extern "C" fn dogwood_read_targets(bytes: &[u8]) -> u8
+pub fn dogwood_read_targets(bytes: &[u8]) -> u8
     ensures { result ≡ refusal_number (whole target_record bytes.now) }
 {
     names::refusal_number(targets::read_targets(bytes))
 }
 
 // The same of a path record.
-#[unsafe(no_mangle)]
-pub extern "C" fn dogwood_read_path(bytes: &[u8]) -> u8
+pub fn dogwood_read_path(bytes: &[u8]) -> u8
     ensures { result ≡ refusal_number (whole path_record bytes.now) }
 {
     names::refusal_number(targets::read_path(bytes))
 }
 
 // How a path under a scope resolves for one target: the answer, and the output in the lent buffer.
-#[unsafe(no_mangle)]
-pub extern "C" fn dogwood_lookup<'a>(
+pub fn dogwood_lookup<'a>(
     schema: &'a [u8],
     targets: &[u8],
     path: &'a [u8],
@@ -69,8 +64,7 @@ pub extern "C" fn dogwood_lookup<'a>(
 }
 
 // The check of a condition under the targets of a rule: the answer, with how many visits were begun, and the reports in the lent buffer.
-#[unsafe(no_mangle)]
-pub extern "C" fn dogwood_check<'a>(
+pub fn dogwood_check<'a>(
     schema: &'a [u8],
     condition: &'a [u8],
     targets: &[u8],
@@ -85,8 +79,7 @@ pub extern "C" fn dogwood_check<'a>(
 // depend on them; with four slots for every three reports that the buffer holds, time is linear in the reports. Bit 0 (value 1) of
 // `rules` makes the check strict: two entities with known, different tags are incompatible in an equality. Bit 1 (value 2) gives each binder its own body: a name
 // is bound by the innermost binder around its use. No other bit has an effect.
-#[unsafe(no_mangle)]
-pub extern "C" fn dogwood_check_with<'a>(
+pub fn dogwood_check_with<'a>(
     rules: u8,
     schema: &'a [u8],
     condition: &'a [u8],
@@ -102,13 +95,7 @@ pub extern "C" fn dogwood_check_with<'a>(
 
 // A stepping check begins: the records are read as the check reads them, no target is done, and nothing is written. The answer comes with the state that the
 // caller hands in next. The bits of `rules` are those of dogwood_check_with.
-#[unsafe(no_mangle)]
-pub extern "C" fn dogwood_steps_start(
-    rules: u8,
-    schema: &[u8],
-    condition: &[u8],
-    targets: &[u8],
-) -> Stepped
+pub fn dogwood_steps_start(rules: u8, schema: &[u8], condition: &[u8], targets: &[u8]) -> Stepped
     ensures { stepped_of result [] ≡ start rules schema.now condition.now targets.now }
 {
     steps::start(rules, schema, condition, targets)
@@ -116,8 +103,7 @@ pub extern "C" fn dogwood_steps_start(
 
 // A step: the first pending target of the record is done. The same schema and condition, and the state and the buffer as last left, are handed in each time. The
 // answer is that of a check over the targets done by then.
-#[unsafe(no_mangle)]
-pub extern "C" fn dogwood_steps_step<'a>(
+pub fn dogwood_steps_step<'a>(
     schema: &'a [u8],
     condition: &'a [u8],
     targets: &[u8],
@@ -131,8 +117,7 @@ pub extern "C" fn dogwood_steps_step<'a>(
 }
 
 // The same step with workspace that the caller lends, as dogwood_check_with is lent it.
-#[unsafe(no_mangle)]
-pub extern "C" fn dogwood_steps_step_with<'a>(
+pub fn dogwood_steps_step_with<'a>(
     schema: &'a [u8],
     condition: &'a [u8],
     targets: &[u8],
@@ -148,56 +133,49 @@ pub extern "C" fn dogwood_steps_step_with<'a>(
 
 // A target appended between steps: the target record is the first `length` bytes of the lent buffer, and the count of the answer is its new length. A target is
 // given by its namespace and id as in the record.
-#[unsafe(no_mangle)]
-pub extern "C" fn dogwood_steps_append(list: &mut [u8], length: usize, target: &[u8]) -> Answer
+pub fn dogwood_steps_append(list: &mut [u8], length: usize, target: &[u8]) -> Answer
     ensures { outcome_of result list.new ≡ append list.old length target.now }
 {
     steps::append(list, length, target)
 }
 
 // A pending target withdrawn between steps, by its position in the record, counted from 0.
-#[unsafe(no_mangle)]
-pub extern "C" fn dogwood_steps_withdraw(targets: &[u8], state: Steps, position: u8) -> Stepped
+pub fn dogwood_steps_withdraw(targets: &[u8], state: Steps, position: u8) -> Stepped
     ensures { stepped_of result [] ≡ withdraw state targets.now position }
 {
     steps::withdraw(targets, state, position)
 }
 
 // The rule changed between steps, from flat to own bodies: the targets done from now on follow it, and nothing else of the state changes. There is no way back.
-#[unsafe(no_mangle)]
-pub extern "C" fn dogwood_steps_move(state: Steps) -> Steps
+pub fn dogwood_steps_move(state: Steps) -> Steps
     ensures { result ≡ move state }
 {
     steps::to_own_bodies(state)
 }
 
 // The sums of a condition: the answer, and a report for each whose summand is not declared Long.
-#[unsafe(no_mangle)]
-pub extern "C" fn dogwood_sums(condition: &[u8], reports: &mut [u8]) -> Answer
+pub fn dogwood_sums(condition: &[u8], reports: &mut [u8]) -> Answer
     ensures { outcome_of result reports.new ≡ sums condition.now reports.old }
 {
     sums::sums(condition, reports)
 }
 
 // The same with rules: bit 1 (value 2) gives each binder its own body, as in a check, and an aggregate's binders also cover its summand. No other bit has an effect.
-#[unsafe(no_mangle)]
-pub extern "C" fn dogwood_sums_with(rules: u8, condition: &[u8], reports: &mut [u8]) -> Answer
+pub fn dogwood_sums_with(rules: u8, condition: &[u8], reports: &mut [u8]) -> Answer
     ensures { outcome_of result reports.new ≡ sums_with rules condition.now reports.old }
 {
     sums::sums_with(rules, condition, reports)
 }
 
 // The windows of a condition in sweeps of a period of so many seconds: the answer, and an entry for each that the walk reaches.
-#[unsafe(no_mangle)]
-pub extern "C" fn dogwood_windows(condition: &[u8], period: u64, output: &mut [u8]) -> Answer
+pub fn dogwood_windows(condition: &[u8], period: u64, output: &mut [u8]) -> Answer
     ensures { outcome_of result output.new ≡ windows condition.now period output.old }
 {
     sweeps::windows(condition, period, output)
 }
 
 // A number of ten-thousandths as the text of a decimal: the answer, and the text in the lent buffer.
-#[unsafe(no_mangle)]
-pub extern "C" fn dogwood_write_decimal(value: i64, output: &mut [u8]) -> Answer
+pub fn dogwood_write_decimal(value: i64, output: &mut [u8]) -> Answer
     ensures { outcome_of result output.new ≡ placed (written value) output.old }
 {
     decimal::write_decimal(value, output)
