@@ -1,6 +1,6 @@
 //! Looks for the static library of the proved crates and says which of its functions are there.
 //!
-//! It is `target/staticlib/libdogwood.a` below the root of the repository, made by `rt staticlib dogwood`, or the file
+//! It is `target/staticlib/libdogwood.a` below the root of the repository, made by `tools/build dogwood_c`, or the file
 //! that DOGWOOD_LIB names. Without it the comparing programs still build and say that nothing can be compared.
 
 use std::path::PathBuf;
