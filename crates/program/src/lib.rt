@@ -64,7 +64,7 @@ fn has_argument(env: &impl Env, i: usize) -> bool {
 
 // Puts an argument at the front of a space. It has no bytes where there is no such argument, or where it is longer than the space.
 pub fn argument(env: &impl Env, i: usize, space: &mut [u8]) -> usize
-    ensures { result ≤ length space.new }
+    ensures { Within space.new (Loaded.Bytes result) }
 {
     match env.arg(i, space) {
         Ok(n) => n,
