@@ -101,7 +101,7 @@ pub fn version(s: &[u8]) -> usize
 }
 
 // The condition whose kind byte stands at `at`, read in a version, with so many levels left.
-#[cycle(read_aggregate_read_arguments_read_arith_read_binary_read_comparison_read_count_read_elements_read_exists_read_predicate_read_subcondition_read_sum_read_term_read_unary)]
+#[cycle(conditions_and_terms)]
 pub fn read_subcondition(s: &[u8], at: usize, version: usize, left: usize) -> Read
     ensures { result ≡ ending (condition_at version left s.now at) }
 {
@@ -149,7 +149,7 @@ pub fn read_subcondition(s: &[u8], at: usize, version: usize, left: usize) -> Re
 }
 
 // A span, a window and a condition: Formerly, Previous. Not and Refine, which have no window, are read with that of version 1, which has no bytes.
-#[cycle(read_aggregate_read_arguments_read_arith_read_binary_read_comparison_read_count_read_elements_read_exists_read_predicate_read_subcondition_read_sum_read_term_read_unary)]
+#[cycle(conditions_and_terms)]
 fn read_unary(s: &[u8], at: usize, windows: usize, version: usize, left: usize) -> Read
     ensures { (k : Window → One) → result ≡ ending (unary version (condition_at version left) (term_at version left) (k <∘> window windows) s.now at) }
 {
@@ -165,7 +165,7 @@ fn read_unary(s: &[u8], at: usize, windows: usize, version: usize, left: usize) 
 }
 
 // A span, a window and two conditions: Since, and with the window of version 1 And and Or.
-#[cycle(read_aggregate_read_arguments_read_arith_read_binary_read_comparison_read_count_read_elements_read_exists_read_predicate_read_subcondition_read_sum_read_term_read_unary)]
+#[cycle(conditions_and_terms)]
 fn read_binary(s: &[u8], at: usize, windows: usize, version: usize, left: usize) -> Read
     ensures { (k : Window → Two) → result ≡ ending (binary version (condition_at version left) (term_at version left) (k <∘> window windows) s.now at) }
 {
@@ -184,7 +184,7 @@ fn read_binary(s: &[u8], at: usize, windows: usize, version: usize, left: usize)
     read_subcondition(s, m, version, left)
 }
 
-#[cycle(read_aggregate_read_arguments_read_arith_read_binary_read_comparison_read_count_read_elements_read_exists_read_predicate_read_subcondition_read_sum_read_term_read_unary)]
+#[cycle(conditions_and_terms)]
 fn read_predicate(s: &[u8], at: usize, version: usize, left: usize) -> Read
     ensures { result ≡ ending (predicate_of version (condition_at version left) (term_at version left) s.now at) }
 {
@@ -208,7 +208,7 @@ fn read_predicate(s: &[u8], at: usize, version: usize, left: usize) -> Read
 }
 
 // A count of arguments and the arguments: a name, a path and a term each.
-#[cycle(read_aggregate_read_arguments_read_arith_read_binary_read_comparison_read_count_read_elements_read_exists_read_predicate_read_subcondition_read_sum_read_term_read_unary)]
+#[cycle(conditions_and_terms)]
 fn read_arguments(s: &[u8], start: usize, version: usize, left: usize) -> Read
     ensures { result ≡ ending (argument_list version (condition_at version left) (term_at version left) s.now start) }
 {
@@ -236,7 +236,7 @@ fn read_arguments(s: &[u8], start: usize, version: usize, left: usize) -> Read
     Read::Next(at)
 }
 
-#[cycle(read_aggregate_read_arguments_read_arith_read_binary_read_comparison_read_count_read_elements_read_exists_read_predicate_read_subcondition_read_sum_read_term_read_unary)]
+#[cycle(conditions_and_terms)]
 fn read_comparison(s: &[u8], at: usize, version: usize, left: usize) -> Read
     ensures { result ≡ ending (comparison_of version (condition_at version left) (term_at version left) s.now at) }
 {
@@ -255,7 +255,7 @@ fn read_comparison(s: &[u8], at: usize, version: usize, left: usize) -> Read
     read_term(s, p, version, left, false)
 }
 
-#[cycle(read_aggregate_read_arguments_read_arith_read_binary_read_comparison_read_count_read_elements_read_exists_read_predicate_read_subcondition_read_sum_read_term_read_unary)]
+#[cycle(conditions_and_terms)]
 fn read_exists(s: &[u8], at: usize, version: usize, left: usize) -> Read
     ensures { result ≡ ending (exists_of version (condition_at version left) (term_at version left) s.now at) }
 {
@@ -271,7 +271,7 @@ fn read_exists(s: &[u8], at: usize, version: usize, left: usize) -> Read
 }
 
 // The term whose kind byte stands at `at`, read in a version, with so many levels left; below an array or not.
-#[cycle(read_aggregate_read_arguments_read_arith_read_binary_read_comparison_read_count_read_elements_read_exists_read_predicate_read_subcondition_read_sum_read_term_read_unary)]
+#[cycle(conditions_and_terms)]
 pub fn read_term(s: &[u8], at: usize, version: usize, left: usize, in_array: bool) -> Read
     ensures { result ≡ ending (term_at version left in_array s.now at) }
 {
@@ -315,7 +315,7 @@ pub fn read_term(s: &[u8], at: usize, version: usize, left: usize, in_array: boo
     read_arith(s, at + 1, version, left - 1, in_array)
 }
 
-#[cycle(read_aggregate_read_arguments_read_arith_read_binary_read_comparison_read_count_read_elements_read_exists_read_predicate_read_subcondition_read_sum_read_term_read_unary)]
+#[cycle(conditions_and_terms)]
 fn read_arith(s: &[u8], at: usize, version: usize, left: usize, in_array: bool) -> Read
     ensures { result ≡ ending (arith_of version (condition_at version left) (term_at version left) in_array s.now at) }
 {
@@ -331,7 +331,7 @@ fn read_arith(s: &[u8], at: usize, version: usize, left: usize, in_array: bool) 
 }
 
 // A count of an array's elements and the elements.
-#[cycle(read_aggregate_read_arguments_read_arith_read_binary_read_comparison_read_count_read_elements_read_exists_read_predicate_read_subcondition_read_sum_read_term_read_unary)]
+#[cycle(conditions_and_terms)]
 fn read_elements(s: &[u8], start: usize, version: usize, left: usize) -> Read
     ensures { result ≡ ending (element_list version (condition_at version left) (term_at version left) s.now start) }
 {
@@ -351,7 +351,7 @@ fn read_elements(s: &[u8], start: usize, version: usize, left: usize) -> Read
     Read::Next(at)
 }
 
-#[cycle(read_aggregate_read_arguments_read_arith_read_binary_read_comparison_read_count_read_elements_read_exists_read_predicate_read_subcondition_read_sum_read_term_read_unary)]
+#[cycle(conditions_and_terms)]
 fn read_aggregate(s: &[u8], at: usize, version: usize, left: usize) -> Read
     ensures { result ≡ ending (aggregate_of version (condition_at version left) (term_at version left) s.now at) }
 {
@@ -371,7 +371,7 @@ fn read_aggregate(s: &[u8], at: usize, version: usize, left: usize) -> Read
     Read::Refused(5)
 }
 
-#[cycle(read_aggregate_read_arguments_read_arith_read_binary_read_comparison_read_count_read_elements_read_exists_read_predicate_read_subcondition_read_sum_read_term_read_unary)]
+#[cycle(conditions_and_terms)]
 fn read_sum(s: &[u8], at: usize, version: usize, left: usize) -> Read
     ensures { result ≡ ending (sum_of version (condition_at version left) (term_at version left) s.now at) }
 {
@@ -390,7 +390,7 @@ fn read_sum(s: &[u8], at: usize, version: usize, left: usize) -> Read
     read_subcondition(s, p, version, left)
 }
 
-#[cycle(read_aggregate_read_arguments_read_arith_read_binary_read_comparison_read_count_read_elements_read_exists_read_predicate_read_subcondition_read_sum_read_term_read_unary)]
+#[cycle(conditions_and_terms)]
 fn read_count(s: &[u8], at: usize, version: usize, left: usize) -> Read
     ensures { result ≡ ending (count_of version (condition_at version left) (term_at version left) s.now at) }
 {

@@ -10,43 +10,43 @@ use borrow.Fn.Kinds.{In}
 use borrow.Fn.PlainCycle.{Measures, is, falls, and}
 use Rattle.condition.proofs.read.read_aggregate.Reads as read-aggregate
 use Rattle.condition.proofs.read.read_aggregate.Kinds as read-aggregate-kinds
-use Rattle.condition.proofs.read.+read_aggregate_read_arguments_read_arith_read_binary_read_comparison_read_count_read_elements_read_exists_read_predicate_read_subcondition_read_sum_read_term_read_unary.Lts-read_aggregate as read-aggregate-lts
+use Rattle.condition.proofs.read.+conditions_and_terms.Lts-read_aggregate as read-aggregate-lts
 use Rattle.condition.proofs.read.read_arguments.Reads as read-arguments
 use Rattle.condition.proofs.read.read_arguments.Kinds as read-arguments-kinds
-use Rattle.condition.proofs.read.+read_aggregate_read_arguments_read_arith_read_binary_read_comparison_read_count_read_elements_read_exists_read_predicate_read_subcondition_read_sum_read_term_read_unary.Lts-read_arguments as read-arguments-lts
+use Rattle.condition.proofs.read.+conditions_and_terms.Lts-read_arguments as read-arguments-lts
 use Rattle.condition.proofs.read.read_arith.Reads as read-arith
 use Rattle.condition.proofs.read.read_arith.Kinds as read-arith-kinds
-use Rattle.condition.proofs.read.+read_aggregate_read_arguments_read_arith_read_binary_read_comparison_read_count_read_elements_read_exists_read_predicate_read_subcondition_read_sum_read_term_read_unary.Lts-read_arith as read-arith-lts
+use Rattle.condition.proofs.read.+conditions_and_terms.Lts-read_arith as read-arith-lts
 use Rattle.condition.proofs.read.read_binary.Reads as read-binary
 use Rattle.condition.proofs.read.read_binary.Kinds as read-binary-kinds
-use Rattle.condition.proofs.read.+read_aggregate_read_arguments_read_arith_read_binary_read_comparison_read_count_read_elements_read_exists_read_predicate_read_subcondition_read_sum_read_term_read_unary.Lts-read_binary as read-binary-lts
+use Rattle.condition.proofs.read.+conditions_and_terms.Lts-read_binary as read-binary-lts
 use Rattle.condition.proofs.read.read_comparison.Reads as read-comparison
 use Rattle.condition.proofs.read.read_comparison.Kinds as read-comparison-kinds
-use Rattle.condition.proofs.read.+read_aggregate_read_arguments_read_arith_read_binary_read_comparison_read_count_read_elements_read_exists_read_predicate_read_subcondition_read_sum_read_term_read_unary.Lts-read_comparison as read-comparison-lts
+use Rattle.condition.proofs.read.+conditions_and_terms.Lts-read_comparison as read-comparison-lts
 use Rattle.condition.proofs.read.read_count.Reads as read_count
 use Rattle.condition.proofs.read.read_count.Kinds as read-count-kinds
-use Rattle.condition.proofs.read.+read_aggregate_read_arguments_read_arith_read_binary_read_comparison_read_count_read_elements_read_exists_read_predicate_read_subcondition_read_sum_read_term_read_unary.Lts-read_count as read-count-lts
+use Rattle.condition.proofs.read.+conditions_and_terms.Lts-read_count as read-count-lts
 use Rattle.condition.proofs.read.read_elements.Reads as read-elements
 use Rattle.condition.proofs.read.read_elements.Kinds as read-elements-kinds
-use Rattle.condition.proofs.read.+read_aggregate_read_arguments_read_arith_read_binary_read_comparison_read_count_read_elements_read_exists_read_predicate_read_subcondition_read_sum_read_term_read_unary.Lts-read_elements as read-elements-lts
+use Rattle.condition.proofs.read.+conditions_and_terms.Lts-read_elements as read-elements-lts
 use Rattle.condition.proofs.read.read_exists.Reads as read-exists
 use Rattle.condition.proofs.read.read_exists.Kinds as read-exists-kinds
-use Rattle.condition.proofs.read.+read_aggregate_read_arguments_read_arith_read_binary_read_comparison_read_count_read_elements_read_exists_read_predicate_read_subcondition_read_sum_read_term_read_unary.Lts-read_exists as read-exists-lts
+use Rattle.condition.proofs.read.+conditions_and_terms.Lts-read_exists as read-exists-lts
 use Rattle.condition.proofs.read.read_predicate.Reads as read-predicate
 use Rattle.condition.proofs.read.read_predicate.Kinds as read-predicate-kinds
-use Rattle.condition.proofs.read.+read_aggregate_read_arguments_read_arith_read_binary_read_comparison_read_count_read_elements_read_exists_read_predicate_read_subcondition_read_sum_read_term_read_unary.Lts-read_predicate as read-predicate-lts
+use Rattle.condition.proofs.read.+conditions_and_terms.Lts-read_predicate as read-predicate-lts
 use Rattle.condition.proofs.read.read_subcondition.Reads as read-subcondition
 use Rattle.condition.proofs.read.read_subcondition.Kinds as read-subcondition-kinds
-use Rattle.condition.proofs.read.+read_aggregate_read_arguments_read_arith_read_binary_read_comparison_read_count_read_elements_read_exists_read_predicate_read_subcondition_read_sum_read_term_read_unary.Lts-read_subcondition as read-subcondition-lts
+use Rattle.condition.proofs.read.+conditions_and_terms.Lts-read_subcondition as read-subcondition-lts
 use Rattle.condition.proofs.read.read_sum.Reads as read-sum
 use Rattle.condition.proofs.read.read_sum.Kinds as read-sum-kinds
-use Rattle.condition.proofs.read.+read_aggregate_read_arguments_read_arith_read_binary_read_comparison_read_count_read_elements_read_exists_read_predicate_read_subcondition_read_sum_read_term_read_unary.Lts-read_sum as read-sum-lts
+use Rattle.condition.proofs.read.+conditions_and_terms.Lts-read_sum as read-sum-lts
 use Rattle.condition.proofs.read.read_term.Reads as read-term
 use Rattle.condition.proofs.read.read_term.Kinds as read-term-kinds
-use Rattle.condition.proofs.read.+read_aggregate_read_arguments_read_arith_read_binary_read_comparison_read_count_read_elements_read_exists_read_predicate_read_subcondition_read_sum_read_term_read_unary.Lts-read_term as read-term-lts
+use Rattle.condition.proofs.read.+conditions_and_terms.Lts-read_term as read-term-lts
 use Rattle.condition.proofs.read.read_unary.Reads as read-unary
 use Rattle.condition.proofs.read.read_unary.Kinds as read-unary-kinds
-use Rattle.condition.proofs.read.+read_aggregate_read_arguments_read_arith_read_binary_read_comparison_read_count_read_elements_read_exists_read_predicate_read_subcondition_read_sum_read_term_read_unary.Lts-read_unary as read-unary-lts
+use Rattle.condition.proofs.read.+conditions_and_terms.Lts-read_unary as read-unary-lts
 use Rattle.condition.proofs.read.read_binder.Reads as read-binder-reads
 use Rattle.condition.proofs.read.read_binders.Reads as read-binders-reads
 use Rattle.condition.proofs.read.read_operator.Reads as read-operator-reads
@@ -60,10 +60,10 @@ use Rattle.names.proofs.read_path.Reads as read-path-reads
 use Rattle.names.proofs.read_string.Reads as read-string-reads
 use Rattle.names.proofs.read_strings.Reads as read-strings-reads
 use Rattle.names.proofs.wide.Reads as wide-reads
-use Rattle.condition.proofs.read.+read_aggregate_read_arguments_read_arith_read_binary_read_comparison_read_count_read_elements_read_exists_read_predicate_read_subcondition_read_sum_read_term_read_unary.{
+use Rattle.condition.proofs.read.+conditions_and_terms.{
   statement,
 }
-use Rattle.condition.proofs.read.+read_aggregate_read_arguments_read_arith_read_binary_read_comparison_read_count_read_elements_read_exists_read_predicate_read_subcondition_read_sum_read_term_read_unary.Tie.{
+use Rattle.condition.proofs.read.+conditions_and_terms.Tie.{
   close,
 }
 
@@ -521,5 +521,5 @@ read_unary_met t =
     (λ c κs. search unaries)
     (λ c. search unaries)
 
-pub +read_aggregate_read_arguments_read_arith_read_binary_read_comparison_read_count_read_elements_read_exists_read_predicate_read_subcondition_read_sum_read_term_read_unary_spec : {M : Type 1} → statement M
-+read_aggregate_read_arguments_read_arith_read_binary_read_comparison_read_count_read_elements_read_exists_read_predicate_read_subcondition_read_sum_read_term_read_unary_spec = close μ-read-aggregate μ-read-arguments μ-read-arith μ-read-binary μ-read-comparison μ-read-count μ-read-elements μ-read-exists μ-read-predicate μ-read-subcondition μ-read-sum μ-read-term μ-read-unary read_aggregate_met read_arguments_met read_arith_met read_binary_met read_comparison_met read_count_met read_elements_met read_exists_met read_predicate_met read_subcondition_met read_sum_met read_term_met read_unary_met
+pub +conditions_and_terms_spec : {M : Type 1} → statement M
++conditions_and_terms_spec = close μ-read-aggregate μ-read-arguments μ-read-arith μ-read-binary μ-read-comparison μ-read-count μ-read-elements μ-read-exists μ-read-predicate μ-read-subcondition μ-read-sum μ-read-term μ-read-unary read_aggregate_met read_arguments_met read_arith_met read_binary_met read_comparison_met read_count_met read_elements_met read_exists_met read_predicate_met read_subcondition_met read_sum_met read_term_met read_unary_met
