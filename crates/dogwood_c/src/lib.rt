@@ -1,4 +1,5 @@
-// The exported functions of the static library. Each calls the function of its name in the crate dogwood, and states the clauses of that function word for word.
+// The exported functions of the static library. Each calls the function of its name in the crate dogwood, and states the
+// clauses of that function word for word.
 #![tactic(auto)]
 
 ghost use Rattle.std.specs.Prelude.{◌≡◌, []};

@@ -185,4 +185,4 @@ module _ (s : List ℕ) (at p : ℕ) (here : BindersHere s at p) (name : List �
   pub listed_stands : is_binders s p ≡ true
   listed_stands = here.stands
 
-pub ruleset own_Is_first = (rules, listed_stands, listed_path, listed_timepoint, listed_nowhere)
+pub ruleset own_first = (rules, listed_stands, listed_path, listed_timepoint, listed_nowhere)
