@@ -20,6 +20,8 @@ use Rattle.condition.specs.Laws.Records.{record_read}
 use Rattle.nodes.specs.Laws.Choices.{no_value}
 use Rattle.claims.specs.OwnBodies.{is_none, aggregates_in, aggregates_among, bare_arrays, bare_operands, none_in_arrays, ReadBare}
 use Rattle.claims.proofs.Scoping.{both_true}
+use Rattle.names.specs.declared.refusal.Refusal.TheVariants.{AggregateBelowArray, TooDeep, UndefinedChoice}
+use Rattle.names.specs.declared.refusal.Refusal.{Refusal}
 
 -- ---- a reader whose values are all of a kind
 
@@ -35,7 +37,7 @@ module _ {A : Type 0} {P : A → Type 0} where
   stay : (a : A) → P a → Gives P (pure a)
   stay a h = record { on = λ s at e. rw (← got_value e) h }
 
-  never : (r : ℕ) → Gives P (refuse r)
+  never : (r : Refusal) → Gives P (refuse r)
   never r = record { on = λ s at e. no_value e }
 
   either_way : (b : Bool) {f g : Reader A} → Gives P f → Gives P g → Gives P (cond b f g)
@@ -44,7 +46,7 @@ module _ {A : Type 0} {P : A → Type 0} where
 
   chosen : (k : ℕ) (table : List (ℕ × Reader A)) → AllGive P table → Gives P (choose k table)
   unfolding AllGive choose
-  chosen k [] all = never 5
+  chosen k [] all = never UndefinedChoice
   chosen k ((n, f) ∷ rest) all = either_way (eqb k n) all.0 (chosen k rest all.1)
 
 module _ {A B : Type 0} {P : B → Type 0} where
@@ -159,9 +161,9 @@ module _ (v : ℕ) (f : Reader Condition) (t : Bool → Reader Term) (p : Gives 
       past (given v arith_op) λ op. then (q false) λ l h. then (q false) λ r i.
       stay (tree.arith op l r) (record { arrays = both_true (bare_arrays l) (bare_arrays r) h.arrays i.arrays; all = every_joined bare_operands (reached_in l) (reached_in r) h.all i.all })
 
-  aggregate_kept : (b : Bool) → Gives (Kept b) (cond b (refuse 9) (aggregate <∘> aggregate_of v f t))
+  aggregate_kept : (b : Bool) → Gives (Kept b) (cond b (refuse AggregateBelowArray) (aggregate <∘> aggregate_of v f t))
   unfolding bare_arrays reached_in
-  aggregate_kept true = never 9
+  aggregate_kept true = never AggregateBelowArray
   aggregate_kept false = then aggregate_bare λ a h. stay (aggregate a) (record { arrays = refl; all = h.all })
 
   terms_kept : (b : Bool) (k : ℕ) → Gives (Kept b) (choose k (term_kinds v f t b))
@@ -186,7 +188,7 @@ module _ (v : ℕ) (f : Reader Condition) (t : Bool → Reader Term) (p : Gives 
 
 deep : {A : Type 0} {P : A → Type 0} (last : ℕ) → Gives P (too_deep last)
 unfolding too_deep
-deep last = past u8 λ k. either_way (leb 1 k && leb k last) (never 7) (never 5)
+deep last = past u8 λ k. either_way (leb 1 k && leb k last) (never TooDeep) (never UndefinedChoice)
 
 record AtLevel (v l : ℕ) : Type 0 where
   conditions : Gives Bare (condition_at v l)

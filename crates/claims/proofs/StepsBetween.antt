@@ -6,15 +6,14 @@ use mathlib.Core.Option.{Option, none, some}
 use Prim.Native.Nat.{ℕ, ◌+◌, ◌≤◌, ◌<◌}
 use native.Mathlib.Omega.{arith}
 use lib.Dec.{ltb, leb, eqb}
-use lib.ListN.{length, get_or, take, drop}
+use lib.ListN.{length, take, drop}
 use lib.Seq.{take-append_seam}
 use borrow.Author.Tests.{eqb-true, ltb-true, ltb-false, ne_eqb}
 use Rattle.names.specs.Lists.{maybe}
-use Rattle.names.specs.Names.{path_or_none, plain}
-use Rattle.names.specs.Fields.{Got, got, bad, either, next, holds, u8, bytes, string_of, finished, whole}
+use Rattle.names.specs.Fields.{Got, got, bad, either, bytes, whole, number_of}
 use Rattle.schema.specs.Schema.{Schema}
 use Rattle.condition.specs.Condition.{Condition}
-use Rattle.targets.specs.Targets.{Target, Targets, Scope, target, target_record}
+use Rattle.targets.specs.Targets.{Target, Targets, Scope, target_record}
 use Rattle.targets.specs.Appending.{alone_target, with_one_more}
 use Rattle.reports.specs.Reports.{Breach, Outcome, refusal}
 use Rattle.reports.specs.Placed.{placed}
@@ -30,35 +29,30 @@ use Rattle.claims.specs.Steps.{Held, record_of, done_in, StepOf, AppendOf, Withd
 use Rattle.claims.proofs.StepsList.{at, done_more, marks_more, set_stays, withdraw_marks, withdraw_done}
 use Rattle.claims.proofs.StepsRecord.{alone, one_more}
 use Rattle.claims.proofs.StepsCalls.{Known, step_left, step_answer}
+use Rattle.names.specs.declared.refusal.Refusal.{Refusal}
+use Rattle.names.specs.declared.refusal.Refusal.TheVariants.{TooLong, Cut, OtherMark, OtherVersion, UndefinedChoice, OutsideClass, TooDeep, NotAscending, AggregateBelowArray, BytesAfter, NoSpace, NoSuchTarget, WindowOutOfRange, NoPeriod, MalformedDecimal, DecimalOutOfRange, ListFull, NotPending}
 
--- ---- a target is never refused by 0
+-- ---- no refusal has the number 0
 
-abbrev NotBy0 : {A : Type 0} → Got A → Type 0
-NotBy0 g = (r : ℕ) → g ≡ bad r → r ≡ 0 → ⊥
-
-got_not : {A : Type 0} (a : A) (n : ℕ) → NotBy0 (got a n)
-got_not a n r e z = let w : ◌≡◌ {A = ℕ} 0 1 = cc in omega arith
-
-holds_not : {A : Type 0} (k : ℕ) → (k ≡ 0 → ⊥) → (b : Bool) (a : A) (s : List ℕ) (n : ℕ) → NotBy0 (holds k b a s n)
-holds_not k h true a s n r e z = got_not a n r e z
-holds_not k h false a s n r e z = let w : k ≡ r = cc in h (w ∙ z)
-
-next_not : {A B : Type 0} (g : Got A) (f : A → ℕ → Got B) → NotBy0 g → ((a : A) (n : ℕ) → NotBy0 (f a n)) → NotBy0 (next g f)
-next_not (got a n) f h i r e z = i a n r e z
-next_not (bad k) f h i r e z = let w : k ≡ r = cc in h k refl (w ∙ z)
-
-string_not : (class : List ℕ → Bool) (s : List ℕ) (n : ℕ) → NotBy0 (string_of class s n)
-unfolding string_of u8 bytes
-string_not class s n =
-    next_not (u8 s n) _ (holds_not 2 (λ z. omega arith) (ltb n (length s)) (get_or s n 0) s (n + 1))
-    (λ k m. next_not (bytes k s m) _ (holds_not 2 (λ z. omega arith) (leb (m + k) (length s)) (take k (drop m s)) s (m + k)) (λ w o. holds_not 6 (λ z. omega arith) (class w) w s o))
-
-alone_not : (new : List ℕ) → NotBy0 (alone_target new 0)
-unfolding alone_target target finished
-alone_not new =
-    next_not (target new 0) _
-    (next_not (string_of path_or_none new 0) _ (string_not path_or_none new 0) (λ ns n. next_not (string_of plain new n) _ (string_not plain new n) (λ id m. got_not _ m)))
-    (λ t n. holds_not 10 (λ z. omega arith) (eqb n (length new)) t new n)
+never_0 : (r : Refusal) → number_of r ≡ 0 → ⊥
+never_0 TooLong e = omega arith
+never_0 Cut e = omega arith
+never_0 OtherMark e = omega arith
+never_0 OtherVersion e = omega arith
+never_0 UndefinedChoice e = omega arith
+never_0 OutsideClass e = omega arith
+never_0 TooDeep e = omega arith
+never_0 NotAscending e = omega arith
+never_0 AggregateBelowArray e = omega arith
+never_0 BytesAfter e = omega arith
+never_0 NoSpace e = omega arith
+never_0 NoSuchTarget e = omega arith
+never_0 WindowOutOfRange e = omega arith
+never_0 NoPeriod e = omega arith
+never_0 MalformedDecimal e = omega arith
+never_0 DecimalOutOfRange e = omega arith
+never_0 ListFull e = omega arith
+never_0 NotPending e = omega arith
 
 -- ---- an outcome that is refused keeps the buffer
 
@@ -232,7 +226,7 @@ module _ (schema_bytes condition_bytes : List ℕ) (before after : Held) where
         where
           go : (g : Got Target) → alone_target r.new 0 ≡ g → (a : Bool) → ltb 254 (length list) ≡ a → (b : Bool) → ltb 32768 (length rec + length r.new) ≡ b
               → (d : Bool) → leb (length out) (length before.list) ≡ d → Placed
-          go (bad x) e a ea b eb d ed = absurd (alone_not r.new x e (rw e at zero))
+          go (bad x) e a ea b eb d ed = absurd (never_0 x (rw e at zero))
           go (got t n) e true ea b eb d ed = absurd (let y : ◌≡◌ {A = ℕ} 18 0 = rw (e, ea) at zero in omega arith)
           go (got t n) e false ea true eb d ed = absurd (let y : ◌≡◌ {A = ℕ} 18 0 = rw (e, ea, eb) at zero in omega arith)
           go (got t n) e false ea false eb false ed = absurd (let y : ◌≡◌ {A = ℕ} 11 0 = rw (e, ea, eb, ed) at zero in omega arith)

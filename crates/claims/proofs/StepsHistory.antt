@@ -10,7 +10,7 @@ use lib.ListN.{length, replicate, length-replicate, get_or-replicate, get_or-eq_
 use borrow.Author.Tests.{eqb-true, eqb-false}
 use Rattle.names.specs.Lists.{gather}
 use Rattle.names.specs.Laws.Lists.{gather_append}
-use Rattle.names.specs.Fields.{Reader, Got, got, bad, whole}
+use Rattle.names.specs.Fields.{Reader, Got, got, bad, whole, number_of}
 use Rattle.names.specs.Read.{value_or}
 use Rattle.names.specs.Laws.Readers.{has_value}
 use Rattle.schema.specs.Schema.{Schema, schema_record}
@@ -102,9 +102,9 @@ module _ (schema_bytes condition_bytes : List ℕ) (rules : ℕ) (old : List ℕ
   started = go (whole schema_record schema_bytes) refl (whole condition_record condition_bytes) refl (whole target_record (record_of first)) refl
     where
       go : (x : Got Schema) → whole schema_record schema_bytes ≡ x → (y : Got Condition) → whole condition_record condition_bytes ≡ y → (z : Got Targets) → whole target_record (record_of first) ≡ z → Started schema_bytes condition_bytes rules old first
-      go (bad r) e y f z g = absurd (let w = (started_by (refused r 1) (rw e)).0 in omega arith)
-      go (got s m) e (bad r) f z g = absurd (let w = (started_by (refused r 2) (rw (e, f))).0 in omega arith)
-      go (got s m) e (got c n) f (bad r) g = absurd (let w = (started_by (refused r 3) (rw (e, f, g))).0 in omega arith)
+      go (bad r) e y f z g = absurd (let w = (started_by (refused (number_of r) 1) (rw e)).0 in omega arith)
+      go (got s m) e (bad r) f z g = absurd (let w = (started_by (refused (number_of r) 2) (rw (e, f))).0 in omega arith)
+      go (got s m) e (got c n) f (bad r) g = absurd (let w = (started_by (refused (number_of r) 3) (rw (e, f, g))).0 in omega arith)
       go (got s m) e (got c n) f (got ts end) g =
           let is : first.state ≡ begins rules = (started_by (read s c ts) (rw (e, f, g))).1 in
           record {

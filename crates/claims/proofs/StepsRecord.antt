@@ -20,6 +20,7 @@ use Rattle.claims.specs.Written as written
 use Rattle.claims.specs.Written.{of_narrowing, of_target, written}
 use Rattle.claims.specs.Breaches.{under}
 use Rattle.claims.proofs.Written.{Stands, first, second, Reads, Readable, mark, heading_reads, target_gave, record_gave, accepted}
+use Rattle.names.specs.declared.refusal.Refusal.TheVariants.{BytesAfter}
 
 -- ---- a target by itself
 
@@ -32,7 +33,7 @@ pub alone : (new : List ℕ) {t : Target} {n : ℕ} → alone_target new 0 ≡ g
 unfolding alone_target finished
 alone new {t} {n} e =
     let a = split (target new 0) _ e in
-    let h = held 10 (eqb a.place (length new)) new a.rest in
+    let h = held BytesAfter (eqb a.place (length new)) new a.rest in
     let g = target_gave new 0 a.first in
     let end : a.place ≡ length new = eqb-true _ _ h.passed in
     subst (λ (t : Target). Alone new t n) h.value

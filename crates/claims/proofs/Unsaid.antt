@@ -24,6 +24,8 @@ use Rattle.claims.specs.Changes.{Change, changed_one, changed_two, changed, in_a
 use Rattle.claims.specs.Windows.{windows_to, NoneInFirst, NoneListed}
 use Rattle.claims.specs.Values.{dropping_values, NoneBelowThird}
 use Rattle.claims.proofs.Changes.{gathered}
+use Rattle.names.specs.declared.refusal.Refusal.{Refusal}
+use Rattle.names.specs.declared.refusal.Refusal.TheVariants.{AggregateBelowArray, TooDeep, UndefinedChoice}
 
 -- what a reader gives has a property
 record Gives {A : Type 0} (P : A → Type 0) (f : Reader A) : Type 0 where
@@ -38,7 +40,7 @@ module _ {A : Type 0} {P : A → Type 0} where
   just : {a : A} → P a → Gives P (pure a)
   just {a} p = record { on = λ s at {a = b} e. let z : b ≡ a = sym (got_value e) in rw z p }
 
-  never : (r : ℕ) → Gives P (refuse r)
+  never : (r : Refusal) → Gives P (refuse r)
   never r = record { on = λ s at e. let z : ◌≡◌ {A = ℕ} 0 1 = cc in absurd (omega arith) }
 
   either_way : (b : Bool) {f g : Reader A} → Gives P f → Gives P g → Gives P (cond b f g)
@@ -47,7 +49,7 @@ module _ {A : Type 0} {P : A → Type 0} where
 
   chosen : (k : ℕ) (table : List (ℕ × Reader A)) → AllGive P table → Gives P (choose k table)
   unfolding AllGive choose
-  chosen k [] all = never 5
+  chosen k [] all = never UndefinedChoice
   chosen k ((n, f) ∷ rest) all = either_way (eqb k n) all.0 (chosen k rest all.1)
 
 module _ {A B : Type 0} {Q : B → Type 0} where
@@ -187,7 +189,7 @@ module _ (change : Change) (v : ℕ) (leaves : Leaves change v) where
         also (after (string_of plain) λ n. just refl)
         also just refl
         also (on element_list_bare λ ts e. just (ap array e))
-        also either_way b (never 9) (on aggregate_bare λ a e. just (ap aggregate e))
+        also either_way b (never AggregateBelowArray) (on aggregate_bare λ a e. just (ap aggregate e))
         also arith_bare b
         also just refl
         also just refl
@@ -195,7 +197,7 @@ module _ (change : Change) (v : ℕ) (leaves : Leaves change v) where
 
   deep_bare : {A : Type 0} {P : A → Type 0} (last : ℕ) → Gives P (too_deep last)
   unfolding too_deep
-  deep_bare last = after u8 λ k. either_way (leb 1 k && leb k last) (never 7) (never 5)
+  deep_bare last = after u8 λ k. either_way (leb 1 k && leb k last) (never TooDeep) (never UndefinedChoice)
 
   record AtLevel (l : ℕ) : Type 0 where
     conditions : Gives (Bare change) (condition_at v l)

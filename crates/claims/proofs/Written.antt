@@ -22,6 +22,7 @@ use Rattle.reports.specs.Pairs.{◌∈◌}
 use Rattle.reports.specs.Laws.Sets.{in_left, in_right}
 use Rattle.claims.specs.Written as written
 use Rattle.claims.specs.Written.{of_string, of_narrowing, of_target, written}
+use Rattle.names.specs.declared.refusal.Refusal.TheVariants.{TooLong, OtherMark, OtherVersion, OutsideClass, BytesAfter}
 
 -- ---- bytes at a place
 
@@ -119,7 +120,7 @@ module _ (class : List ℕ → Bool) where
   string_gave s at {w} {n} e =
       let a = split (u8 s at) _ e in
       let b = split (bytes a.value s a.place) _ a.rest in
-      let h = held 6 (class b.value) s b.rest in
+      let h = held OutsideClass (class b.value) s b.rest in
       string_parts s at a.value a.place w n a.first (b.first ∙ ap₂ got h.value h.place) (ap class (sym h.value) ∙ h.passed)
 
 -- ---- a narrowing
@@ -276,11 +277,11 @@ module _ (mark : List ℕ) where
   unfolding heading u16
   heading_stands s at {v} {n} e =
       let a = split (bytes (length mark) s at) _ e in
-      let b = split (holds 3 (same a.value mark) a.value s a.place) _ a.rest in
-      let i = held 3 (same a.value mark) s b.first in
+      let b = split (holds OtherMark (same a.value mark) a.value s a.place) _ a.rest in
+      let i = held OtherMark (same a.value mark) s b.first in
       let c = split (u16 s b.place) _ b.rest in
       let d = split (bytes 2 s b.place) _ c.first in
-      let j = held 4 (leb 1 c.value && leb c.value 1) s c.rest in
+      let j = held OtherVersion (leb 1 c.value && leb c.value 1) s c.rest in
       let m = bytes_stand s at (length mark) a.first in
       let w = bytes_stand s b.place 2 d.first in
       go a.value a.place b.place d.value d.place c.value c.place (same_eq a.value mark i.passed) i.place m.stands w.stands w.many (got_value d.rest) (got_place d.rest)
@@ -326,7 +327,7 @@ record_gave s {ts} {n} e =
     let d = split (narrowing s b.place) _ b.rest in
     let i = split (counted (each target) s d.place) _ d.rest in
     let k = split (u8 s d.place) _ i.first in
-    let h = held 10 (eqb i.place (length s)) s i.rest in
+    let h = held BytesAfter (eqb i.place (length s)) s i.rest in
     let c = byte_stands s d.place k.first in
     subst (λ (ts : Targets). Gone s ts) h.value
     (parts_gave s b.value d.value i.value a.place b.place d.place k.value k.place i.place (heading_stands mark s 0 a.first) (narrowing_gave s a.place b.first) (narrowing_gave s b.place d.first) c
@@ -374,7 +375,7 @@ pub not_long : {A : Type 0} (f : Reader A) (s : List ℕ) {a : A} {n : ℕ} → 
 unfolding whole
 not_long f s {a} {n} e = go (leb (length s) 32768) refl e
   where
-    go : (b : Bool) → leb (length s) 32768 ≡ b → cond b (f s 0) (bad 1) ≡ got a n → length s ≤ 32768
+    go : (b : Bool) → leb (length s) 32768 ≡ b → cond b (f s 0) (bad TooLong) ≡ got a n → length s ≤ 32768
     go true h i = leb-true _ _ h
     go false h i = let z : ◌≡◌ {A = ℕ} 0 1 = cc in absurd (omega arith)
 

@@ -5,6 +5,7 @@ use Rattle.names.specs.Fields.{bad, whole}
 use Rattle.names.specs.Read.{accepted}
 use Rattle.condition.specs.Condition.{condition_record_up_to}
 use Rattle.condition.specs.Places.{version_in}
+use Rattle.names.specs.declared.refusal.Refusal.TheVariants.{OtherVersion}
 
 -- two readers that know the version of some bytes
 abbrev pub Known : Type 0
@@ -12,4 +13,4 @@ Known = (newest other : ℕ) (s : List ℕ) → version_in s ≤ newest → vers
 
 -- a reader that does not know the version of a record which another accepts
 abbrev pub Unknown : Type 0
-Unknown = (newest other : ℕ) (s : List ℕ) → accepted (whole (condition_record_up_to other) s) ≡ true → newest < version_in s → whole (condition_record_up_to newest) s ≡ bad 4
+Unknown = (newest other : ℕ) (s : List ℕ) → accepted (whole (condition_record_up_to other) s) ≡ true → newest < version_in s → whole (condition_record_up_to newest) s ≡ bad OtherVersion

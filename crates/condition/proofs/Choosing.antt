@@ -9,35 +9,35 @@ use borrow.Author.Tests.{leb-true, leb-false, le-leb, lt-leb}
 use lib.Dec.{leb}
 use lib.ListN.{length, get_or}
 use Rattle.names.specs.Fields.{Reader, next, pure, refuse, u8, choose}
-use Rattle.names.specs.Read.{ending}
-use Rattle.names.specs.declared.Read.{Read}
-use Rattle.names.specs.declared.Read.TheVariants.{Next, Refused}
+use Rattle.names.specs.Read.{ending, Read}
 use Rattle.names.specs.Laws.Readers.{u8-end, u8_got, alike, choose_beyond, keys_up_to, Each, each_below}
 use Rattle.condition.specs.Condition.{operators, operator, truths, truth, arith_ops, arith_op}
 use Rattle.condition.specs.Places.{choice_up_to}
+use Rattle.std.specs.Prelude.{Ok, Err}
+use Rattle.names.specs.declared.refusal.Refusal.TheVariants.{Cut, UndefinedChoice}
 
 module _ (last : ℕ) (s : List ℕ) (at : ℕ) where
-  pub choice-end : length s ≤ at → Refused 2 ≡ ending (choice_up_to last s at)
+  pub choice-end : length s ≤ at → Err Cut ≡ ending (choice_up_to last s at)
   unfolding choice_up_to ending
   choice-end h = rw (u8-end s at h)
 
   module _ (h : at < length s) where
-    pub choice_undefined : last < get_or s at 0 → Refused 5 ≡ ending (choice_up_to last s at)
+    pub choice_undefined : last < get_or s at 0 → Err UndefinedChoice ≡ ending (choice_up_to last s at)
     unfolding choice_up_to ending
     choice_undefined k = rw (u8_got s at h, lt-leb _ _ k)
 
-    pub choice_got : get_or s at 0 ≤ last → Next (at + 1) ≡ ending (choice_up_to last s at)
+    pub choice_got : get_or s at 0 ≤ last → Ok (at + 1) ≡ ending (choice_up_to last s at)
     unfolding choice_up_to ending
     choice_got k = rw (u8_got s at h, le-leb _ _ k)
 
   -- a table with these choices
-  module _ {A : Type 0} (table : List (ℕ × Reader A)) (keys : keys_up_to last table ≡ true) (nothing : (p : ℕ) → Each (λ k. Next p ≡ ending (choose k table s p)) (suc last)) where
+  module _ {A : Type 0} (table : List (ℕ × Reader A)) (keys : keys_up_to last table ≡ true) (nothing : (p : ℕ) → Each (λ k. Ok p ≡ ending (choose k table s p)) (suc last)) where
     as_table : ending (choice_up_to last s at) ≡ ending (next (u8 s at) (λ k p. choose k table s p))
     unfolding choice_up_to ending
     as_table = alike (u8 s at) _ _ λ k p. go k p (leb k last) refl
       where
-        go : (k p : ℕ) (b : Bool) → leb k last ≡ b → ending (cond b (pure k) (refuse 5) s p) ≡ ending (choose k table s p)
-        go k p true e = let l = leb-true k last e in each_below (λ j. Next p ≡ ending (choose j table s p)) (suc last) (nothing p) k (omega arith)
+        go : (k p : ℕ) (b : Bool) → leb k last ≡ b → ending (cond b (pure k) (refuse UndefinedChoice) s p) ≡ ending (choose k table s p)
+        go k p true e = let l = leb-true k last e in each_below (λ j. Ok p ≡ ending (choose j table s p)) (suc last) (nothing p) k (omega arith)
         go k p false e = rw (choose_beyond s p last k (leb-false k last e) table keys)
 
 module _ (s : List ℕ) (at : ℕ) (x : Read) where

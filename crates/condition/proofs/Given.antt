@@ -11,31 +11,32 @@ use Rattle.names.specs.Fields.{Reader, u64, i64, string_of, choose}
 use Rattle.names.specs.Names.{plain}
 use Rattle.names.specs.Class.{class_of}
 use Rattle.names.specs.declared.Class.TheVariants.{Plain, PathName}
-use Rattle.names.specs.Read.{ending}
-use Rattle.names.specs.declared.Read.{Read}
-use Rattle.names.specs.declared.Read.TheVariants.{Next, Refused}
+use Rattle.names.specs.Read.{ending, Read}
 use Rattle.names.specs.Laws.Readers.{bytes-end, bytes_got, last, stops, goes, Each, each_in}
 use Rattle.decimal.specs.Decimal.{decimal_text}
 use Rattle.condition.specs.Condition.{Condition, Term, given, truth, arith_op, entity_fields, term_kinds}
 use Rattle.condition.specs.Places.{choice_up_to}
 use Rattle.condition.proofs.Choosing.{truth_read, op_read}
+use Rattle.std.specs.Prelude.{Ok, Err}
+use Rattle.names.specs.declared.refusal.Refusal.{Refusal}
+use Rattle.names.specs.declared.refusal.Refusal.TheVariants.{Cut}
 
 module _ (s : List ℕ) (at : ℕ) where
-  pub word_none : length s ≤ at → Refused 2 ≡ ending (i64 s at)
+  pub word_none : length s ≤ at → Err Cut ≡ ending (i64 s at)
   unfolding i64 u64 ending
   word_none h = rw (bytes-end s at 8 (omega arith))
 
-  pub word_short : at < length s → length s - at < 8 → Refused 2 ≡ ending (i64 s at)
+  pub word_short : at < length s → length s - at < 8 → Err Cut ≡ ending (i64 s at)
   unfolding i64 u64 ending
   word_short h k = rw (bytes-end s at 8 (omega arith))
 
-  pub word_got : at < length s → 8 ≤ length s - at → Next (at + 8) ≡ ending (i64 s at)
+  pub word_got : at < length s → 8 ≤ length s - at → Ok (at + 8) ≡ ending (i64 s at)
   unfolding i64 u64 ending
   word_got h k = rw (bytes_got s at 8 (omega arith))
 
 -- a field that version 3 brought
 module _ {A : Type 0} (v : ℕ) (f : Reader A) (s : List ℕ) (at : ℕ) where
-  unsaid : v ≤ 2 → Next at ≡ ending (given v f s at)
+  unsaid : v ≤ 2 → Ok at ≡ ending (given v f s at)
   unfolding given ending
   unsaid h = rw (le-leb v 2 h)
 
@@ -44,7 +45,7 @@ module _ {A : Type 0} (v : ℕ) (f : Reader A) (s : List ℕ) (at : ℕ) where
   said h x e = rw (lt-leb v 2 h) (e ∙ last _ _)
 
 module _ (v : ℕ) (s : List ℕ) (at : ℕ) where
-  pub op_unsaid : v ≤ 2 → Next at ≡ ending (given v arith_op s at)
+  pub op_unsaid : v ≤ 2 → Ok at ≡ ending (given v arith_op s at)
   op_unsaid = unsaid v arith_op s at
 
   pub op_said : 2 < v → (x : Read) → x ≡ ending (choice_up_to 2 s at) → x ≡ ending (given v arith_op s at)
@@ -52,15 +53,15 @@ module _ (v : ℕ) (s : List ℕ) (at : ℕ) where
 
   -- an entity
   module _ (x : Read) (is : x ≡ ending (string_of (class_of PathName) s at)) where
-    pub name_alone : v ≤ 2 → x ≡ ending (entity_fields v s at)
-    unfolding entity_fields given
-    name_alone h = rw (le-leb v 2 h) (is ∙ last _ _)
-
-    pub name_stops : 2 < v → (r : ℕ) → x ≡ Refused r → x ≡ ending (entity_fields v s at)
+    pub name_stops : (r : Refusal) → x ≡ Err r → Err r ≡ ending (entity_fields v s at)
     unfolding entity_fields
-    name_stops h r e = stops _ _ e is
+    name_stops r e = stops _ _ e is
 
-    pub id_read : 2 < v → (n : ℕ) → x ≡ Next n → (y : Read) → y ≡ ending (string_of (class_of Plain) s n) → y ≡ ending (entity_fields v s at)
+    pub name_alone : v ≤ 2 → (n : ℕ) → x ≡ Ok n → Ok n ≡ ending (entity_fields v s at)
+    unfolding entity_fields
+    name_alone h n e = goes _ _ e is λ _ _. unsaid v (string_of plain) s n h ∙ last _ _
+
+    pub id_read : 2 < v → (n : ℕ) → x ≡ Ok n → (y : Read) → y ≡ ending (string_of (class_of Plain) s n) → y ≡ ending (entity_fields v s at)
     unfolding entity_fields
     id_read h n e y is' = goes _ _ e is λ _ _. said v (string_of plain) s n h y is' ∙ last _ _
 
@@ -87,10 +88,10 @@ module _ (v : ℕ) (s : List ℕ) (at : ℕ) where
       unfolding choose term_kinds
       bool_kind l h a i j m e c t b = let five : k ≡ 5 = omega arith in rw five (said v truth s at later x (truth_read s at x e) ∙ last _ _)
 
-  pub no_value : (k : ℕ) → 1 ≤ k → k ≤ 5 → (k ≡ 1 → ⊥) → v ≤ 2 → (c : Reader Condition) (t : Bool → Reader Term) (b : Bool) → Next at ≡ ending (choose k (term_kinds v c t b) s at)
+  pub no_value : (k : ℕ) → 1 ≤ k → k ≤ 5 → (k ≡ 1 → ⊥) → v ≤ 2 → (c : Reader Condition) (t : Bool → Reader Term) (b : Bool) → Ok at ≡ ending (choose k (term_kinds v c t b) s at)
   unfolding choose term_kinds Each
   no_value k l h a before c t b =
-      each_in (λ j. Next at ≡ ending (choose j (term_kinds v c t b) s at)) 2 4
+      each_in (λ j. Ok at ≡ ending (choose j (term_kinds v c t b) s at)) 2 4
       ((((tt, unsaid v i64 s at before ∙ last _ _), unsaid v decimal_text s at before ∙ last _ _), unsaid v (string_of plain) s at before ∙ last _ _), unsaid v truth s at before ∙ last _ _)
       k (omega arith) (omega arith)
 

@@ -5,6 +5,7 @@ use Rattle.names.specs.Fields.{got, Reader, ◌>>=◌, pure, refuse, u8, choose,
 use Rattle.names.specs.Paths.{path_of}
 use Rattle.names.specs.Read.{accepted, value_or}
 use Rattle.condition.specs.Condition.{Span, Condition, Term, Terms, Arguments, Aggregate, Slot, Annotation, Binder, opaque, wildcard, no_argument, nil, call, param_ref, timepoint, condition_at, term_at, arguments, elements, aggregate_of, unsaid, Window, slot, annotation, binder, units, window, condition_record}
+use Rattle.names.specs.declared.refusal.Refusal.TheVariants.{UndefinedChoice}
 
 abbrev pub nowhere : Span
 nowhere = record { start = 0; end = 0 }
@@ -107,7 +108,7 @@ window_in s at = value_or unsaid (window (version_in s) s at)
 unfoldable pub choice_up_to : ℕ → Reader ℕ
 choice_up_to last = do
   k ← u8
-  cond (leb k last) (pure k) (refuse 5)
+  cond (leb k last) (pure k) (refuse UndefinedChoice)
 
 -- the seconds of the unit that a choice byte stands for
 pub record UnitOf (k seconds : ℕ) : Type 0 where

@@ -3,17 +3,15 @@ ghost use Rattle.std.specs.Prelude.{◌≡◌};
 ghost use Rattle.names.specs.Read.{ending};
 ghost use Rattle.condition.specs.Places.{choice_up_to};
 
-use names::Read;
+use names::{Read, Refusal};
 
 // The choices are numbered from 0 on, and `last` is the number of the last.
 pub fn read_choice(s: &[u8], at: usize, last: u8) -> Read
     ensures { result ≡ ending (choice_up_to last s.now at) }
 {
-    if s.len() <= at {
-        return Read::Refused(2);
+    match s.get(at) {
+        Some(&choice) if choice <= last => Ok(at + 1),
+        Some(_) => Err(Refusal::UndefinedChoice),
+        None => Err(Refusal::Cut),
     }
-    if last < s[at] {
-        return Read::Refused(5);
-    }
-    Read::Next(at + 1)
 }

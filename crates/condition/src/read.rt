@@ -6,38 +6,29 @@ ghost use Rattle.condition.specs.Condition.{Window, One, Two, window, span, slot
 ghost use Rattle.condition.specs.Places.{version_in};
 
 use crate::choice::read_choice;
-use crate::values::{read_arith_op, read_value};
+use crate::values::{read_arith_op, read_i64, read_value};
 use crate::window::read_window;
-use names::{Class, Read};
+use names::{Class, Read, Refusal};
 
-// Two 32-bit numbers, the ends of a span.
+// Two 32-bit numbers, the ends of a span: as many bytes as a number of 64 bits.
 pub fn read_span(s: &[u8], at: usize) -> Read
     ensures { result ≡ ending (span s.now at) }
 {
-    if s.len() <= at {
-        return Read::Refused(2);
-    }
-    if s.len() - at < 8 {
-        return Read::Refused(2);
-    }
-    Read::Next(at + 8)
+    read_i64(s, at)
 }
 
 // A name, or a macro's parameter or binder.
 pub fn read_slot(s: &[u8], at: usize) -> Read
     ensures { result ≡ ending (slot s.now at) }
 {
-    if s.len() <= at {
-        return Read::Refused(2);
+    let Some(&kind) = s.get(at) else {
+        return Err(Refusal::Cut);
+    };
+    match kind {
+        0 => names::read_string(s, at + 1, Class::Plain),
+        1 | 2 => Ok(at + 1),
+        _ => Err(Refusal::UndefinedChoice),
     }
-    let kind = s[at];
-    if kind == 0 {
-        return names::read_string(s, at + 1, Class::Plain);
-    }
-    if 2 < kind {
-        return Read::Refused(5);
-    }
-    Read::Next(at + 1)
 }
 
 // A count of identifiers, 0 for a timepoint.
@@ -50,30 +41,24 @@ fn read_annotation(s: &[u8], at: usize) -> Read
 pub fn read_binder(s: &[u8], at: usize) -> Read
     ensures { result ≡ ending (binder s.now at) }
 {
-    let slot = read_slot(s, at);
-    let Read::Next(n) = slot else {
-        return slot;
-    };
+    let n = read_slot(s, at)?;
     read_annotation(s, n)
 }
 
+// Not one function with a closure for the binders here and the arguments and elements below: its
+// promise would have to tell what each call of the closure answers, and that the readers of the
+// cycle which the closure calls end. The loop of three lines is plainer.
 pub fn read_binders(s: &[u8], start: usize) -> Read
     ensures { result ≡ ending (counted (each binder) s.now start) }
 {
-    if s.len() <= start {
-        return Read::Refused(2);
-    }
-    let mut rest = names::wide(s[start]);
+    let Some(&count) = s.get(start) else {
+        return Err(Refusal::Cut);
+    };
     let mut at = start + 1;
-    while 0 < rest {
-        let binder = read_binder(s, at);
-        let Read::Next(n) = binder else {
-            return binder;
-        };
-        at = n;
-        rest -= 1;
+    for _ in 0..count {
+        at = read_binder(s, at)?;
     }
-    Read::Next(at)
+    Ok(at)
 }
 
 fn read_operator(s: &[u8], at: usize) -> Read
@@ -86,10 +71,7 @@ fn read_operator(s: &[u8], at: usize) -> Read
 fn read_timepoint(s: &[u8], at: usize) -> Read
     ensures { result ≡ ending (timepoint_of s.now at) }
 {
-    let span = read_span(s, at);
-    let Read::Next(n) = span else {
-        return span;
-    };
+    let n = read_span(s, at)?;
     read_slot(s, n)
 }
 
@@ -105,62 +87,40 @@ pub fn version(s: &[u8]) -> usize
 pub fn read_subcondition(s: &[u8], at: usize, version: usize, left: usize) -> Read
     ensures { result ≡ ending (condition_at version left s.now at) }
 {
-    if s.len() <= at {
-        return Read::Refused(2);
-    }
-    let kind = s[at];
-    if kind == 0 {
-        return Read::Refused(5);
-    }
-    if 13 < kind {
-        return Read::Refused(5);
+    let Some(&kind) = s.get(at) else {
+        return Err(Refusal::Cut);
+    };
+    if !matches!(kind, 1..=13) {
+        return Err(Refusal::UndefinedChoice);
     }
     if left == 0 {
-        return Read::Refused(7);
+        return Err(Refusal::TooDeep);
     }
-    if kind <= 2 {
-        return read_binary(s, at + 1, 1, version, left - 1);
+    let next = at + 1;
+    match kind {
+        1 | 2 => read_binary(s, next, 1, version, left - 1),
+        3 | 13 => read_unary(s, next, 1, version, left - 1),
+        4 | 5 => read_unary(s, next, version, version, left - 1),
+        6 => read_binary(s, next, version, version, left - 1),
+        7 => read_predicate(s, next, version, left - 1),
+        8 => read_comparison(s, next, version, left - 1),
+        9 => read_exists(s, next, version, left - 1),
+        10 => read_timepoint(s, next),
+        _ => read_span(s, next),
     }
-    if kind == 3 {
-        return read_unary(s, at + 1, 1, version, left - 1);
-    }
-    if kind <= 5 {
-        return read_unary(s, at + 1, version, version, left - 1);
-    }
-    if 12 < kind {
-        return read_unary(s, at + 1, 1, version, left - 1);
-    }
-    if 10 < kind {
-        return read_span(s, at + 1);
-    }
-    if kind == 6 {
-        return read_binary(s, at + 1, version, version, left - 1);
-    }
-    if kind == 7 {
-        return read_predicate(s, at + 1, version, left - 1);
-    }
-    if kind == 8 {
-        return read_comparison(s, at + 1, version, left - 1);
-    }
-    if kind == 9 {
-        return read_exists(s, at + 1, version, left - 1);
-    }
-    read_timepoint(s, at + 1)
 }
 
+// The readers below read one field after another, each at the place where the one before ended. An
+// exists, a Sum and a Count share two calls and differ in the others, so that one function for them
+// would be no plainer.
+//
 // A span, a window and a condition: Formerly, Previous. Not and Refine, which have no window, are read with that of version 1, which has no bytes.
 #[cycle(conditions_and_terms)]
 fn read_unary(s: &[u8], at: usize, windows: usize, version: usize, left: usize) -> Read
     ensures { (k : Window → One) → result ≡ ending (unary version (condition_at version left) (term_at version left) (k <∘> window windows) s.now at) }
 {
-    let span = read_span(s, at);
-    let Read::Next(p) = span else {
-        return span;
-    };
-    let window = read_window(s, p, windows);
-    let Read::Next(n) = window else {
-        return window;
-    };
+    let p = read_span(s, at)?;
+    let n = read_window(s, p, windows)?;
     read_subcondition(s, n, version, left)
 }
 
@@ -169,18 +129,9 @@ fn read_unary(s: &[u8], at: usize, windows: usize, version: usize, left: usize) 
 fn read_binary(s: &[u8], at: usize, windows: usize, version: usize, left: usize) -> Read
     ensures { (k : Window → Two) → result ≡ ending (binary version (condition_at version left) (term_at version left) (k <∘> window windows) s.now at) }
 {
-    let span = read_span(s, at);
-    let Read::Next(p) = span else {
-        return span;
-    };
-    let window = read_window(s, p, windows);
-    let Read::Next(n) = window else {
-        return window;
-    };
-    let first = read_subcondition(s, n, version, left);
-    let Read::Next(m) = first else {
-        return first;
-    };
+    let p = read_span(s, at)?;
+    let n = read_window(s, p, windows)?;
+    let m = read_subcondition(s, n, version, left)?;
     read_subcondition(s, m, version, left)
 }
 
@@ -188,22 +139,10 @@ fn read_binary(s: &[u8], at: usize, windows: usize, version: usize, left: usize)
 fn read_predicate(s: &[u8], at: usize, version: usize, left: usize) -> Read
     ensures { result ≡ ending (predicate_of version (condition_at version left) (term_at version left) s.now at) }
 {
-    let span = read_span(s, at);
-    let Read::Next(n) = span else {
-        return span;
-    };
-    let own = read_span(s, n);
-    let Read::Next(m) = own else {
-        return own;
-    };
-    let namespace = names::read_strings(s, m, Class::PathName);
-    let Read::Next(p) = namespace else {
-        return namespace;
-    };
-    let action = names::read_string(s, p, Class::Plain);
-    let Read::Next(q) = action else {
-        return action;
-    };
+    let n = read_span(s, at)?;
+    let m = read_span(s, n)?;
+    let p = names::read_strings(s, m, Class::PathName)?;
+    let q = names::read_string(s, p, Class::Plain)?;
     read_arguments(s, q, version, left)
 }
 
@@ -212,46 +151,25 @@ fn read_predicate(s: &[u8], at: usize, version: usize, left: usize) -> Read
 fn read_arguments(s: &[u8], start: usize, version: usize, left: usize) -> Read
     ensures { result ≡ ending (argument_list version (condition_at version left) (term_at version left) s.now start) }
 {
-    if s.len() <= start {
-        return Read::Refused(2);
-    }
-    let mut rest = names::wide(s[start]);
+    let Some(&count) = s.get(start) else {
+        return Err(Refusal::Cut);
+    };
     let mut at = start + 1;
-    while 0 < rest {
-        let name = names::read_string(s, at, Class::Plain);
-        let Read::Next(n) = name else {
-            return name;
-        };
-        let field = names::read_path(s, n);
-        let Read::Next(m) = field else {
-            return field;
-        };
-        let value = read_term(s, m, version, left, false);
-        let Read::Next(p) = value else {
-            return value;
-        };
-        at = p;
-        rest -= 1;
+    for _ in 0..count {
+        let n = names::read_string(s, at, Class::Plain)?;
+        let m = names::read_path(s, n)?;
+        at = read_term(s, m, version, left, false)?;
     }
-    Read::Next(at)
+    Ok(at)
 }
 
 #[cycle(conditions_and_terms)]
 fn read_comparison(s: &[u8], at: usize, version: usize, left: usize) -> Read
     ensures { result ≡ ending (comparison_of version (condition_at version left) (term_at version left) s.now at) }
 {
-    let span = read_span(s, at);
-    let Read::Next(n) = span else {
-        return span;
-    };
-    let operator = read_operator(s, n);
-    let Read::Next(m) = operator else {
-        return operator;
-    };
-    let first = read_term(s, m, version, left, false);
-    let Read::Next(p) = first else {
-        return first;
-    };
+    let n = read_span(s, at)?;
+    let m = read_operator(s, n)?;
+    let p = read_term(s, m, version, left, false)?;
     read_term(s, p, version, left, false)
 }
 
@@ -259,14 +177,8 @@ fn read_comparison(s: &[u8], at: usize, version: usize, left: usize) -> Read
 fn read_exists(s: &[u8], at: usize, version: usize, left: usize) -> Read
     ensures { result ≡ ending (exists_of version (condition_at version left) (term_at version left) s.now at) }
 {
-    let span = read_span(s, at);
-    let Read::Next(n) = span else {
-        return span;
-    };
-    let binder = read_binder(s, n);
-    let Read::Next(m) = binder else {
-        return binder;
-    };
+    let n = read_span(s, at)?;
+    let m = read_binder(s, n)?;
     read_subcondition(s, m, version, left)
 }
 
@@ -275,58 +187,34 @@ fn read_exists(s: &[u8], at: usize, version: usize, left: usize) -> Read
 pub fn read_term(s: &[u8], at: usize, version: usize, left: usize, in_array: bool) -> Read
     ensures { result ≡ ending (term_at version left in_array s.now at) }
 {
-    if s.len() <= at {
-        return Read::Refused(2);
-    }
-    let kind = s[at];
-    if kind == 0 {
-        return Read::Refused(5);
-    }
-    if 14 < kind {
-        return Read::Refused(5);
+    let Some(&kind) = s.get(at) else {
+        return Err(Refusal::Cut);
+    };
+    if !matches!(kind, 1..=14) {
+        return Err(Refusal::UndefinedChoice);
     }
     if left == 0 {
-        return Read::Refused(7);
+        return Err(Refusal::TooDeep);
     }
-    if 12 < kind {
-        return Read::Next(at + 1);
+    let next = at + 1;
+    match kind {
+        1..=5 => read_value(s, next, kind, version),
+        6 | 7 => names::read_path(s, next),
+        8 => names::read_string(s, next, Class::Plain),
+        10 => read_elements(s, next, version, left - 1),
+        11 if in_array => Err(Refusal::AggregateBelowArray),
+        11 => read_aggregate(s, next, version, left - 1),
+        12 => read_arith(s, next, version, left - 1, in_array),
+        _ => Ok(next),
     }
-    if kind <= 5 {
-        return read_value(s, at + 1, kind, version);
-    }
-    if kind <= 7 {
-        return names::read_path(s, at + 1);
-    }
-    if kind == 8 {
-        return names::read_string(s, at + 1, Class::Plain);
-    }
-    if kind == 9 {
-        return Read::Next(at + 1);
-    }
-    if kind == 10 {
-        return read_elements(s, at + 1, version, left - 1);
-    }
-    if kind == 11 {
-        if in_array {
-            return Read::Refused(9);
-        }
-        return read_aggregate(s, at + 1, version, left - 1);
-    }
-    read_arith(s, at + 1, version, left - 1, in_array)
 }
 
 #[cycle(conditions_and_terms)]
 fn read_arith(s: &[u8], at: usize, version: usize, left: usize, in_array: bool) -> Read
     ensures { result ≡ ending (arith_of version (condition_at version left) (term_at version left) in_array s.now at) }
 {
-    let op = read_arith_op(s, at, version);
-    let Read::Next(n) = op else {
-        return op;
-    };
-    let first = read_term(s, n, version, left, in_array);
-    let Read::Next(m) = first else {
-        return first;
-    };
+    let n = read_arith_op(s, at, version)?;
+    let m = read_term(s, n, version, left, in_array)?;
     read_term(s, m, version, left, in_array)
 }
 
@@ -335,58 +223,38 @@ fn read_arith(s: &[u8], at: usize, version: usize, left: usize, in_array: bool) 
 fn read_elements(s: &[u8], start: usize, version: usize, left: usize) -> Read
     ensures { result ≡ ending (element_list version (condition_at version left) (term_at version left) s.now start) }
 {
-    if s.len() <= start {
-        return Read::Refused(2);
-    }
-    let mut rest = names::wide(s[start]);
+    let Some(&count) = s.get(start) else {
+        return Err(Refusal::Cut);
+    };
     let mut at = start + 1;
-    while 0 < rest {
-        let element = read_term(s, at, version, left, true);
-        let Read::Next(n) = element else {
-            return element;
-        };
-        at = n;
-        rest -= 1;
+    for _ in 0..count {
+        at = read_term(s, at, version, left, true)?;
     }
-    Read::Next(at)
+    Ok(at)
 }
 
 #[cycle(conditions_and_terms)]
 fn read_aggregate(s: &[u8], at: usize, version: usize, left: usize) -> Read
     ensures { result ≡ ending (aggregate_of version (condition_at version left) (term_at version left) s.now at) }
 {
-    if s.len() <= at {
-        return Read::Refused(2);
+    let Some(&kind) = s.get(at) else {
+        return Err(Refusal::Cut);
+    };
+    match kind {
+        1 => read_sum(s, at + 1, version, left),
+        2 => read_count(s, at + 1, version, left),
+        3 => read_span(s, at + 1),
+        _ => Err(Refusal::UndefinedChoice),
     }
-    let kind = s[at];
-    if kind == 1 {
-        return read_sum(s, at + 1, version, left);
-    }
-    if kind == 2 {
-        return read_count(s, at + 1, version, left);
-    }
-    if kind == 3 {
-        return read_span(s, at + 1);
-    }
-    Read::Refused(5)
 }
 
 #[cycle(conditions_and_terms)]
 fn read_sum(s: &[u8], at: usize, version: usize, left: usize) -> Read
     ensures { result ≡ ending (sum_of version (condition_at version left) (term_at version left) s.now at) }
 {
-    let span = read_span(s, at);
-    let Read::Next(n) = span else {
-        return span;
-    };
-    let summand = read_slot(s, n);
-    let Read::Next(m) = summand else {
-        return summand;
-    };
-    let binders = read_binders(s, m);
-    let Read::Next(p) = binders else {
-        return binders;
-    };
+    let n = read_span(s, at)?;
+    let m = read_slot(s, n)?;
+    let p = read_binders(s, m)?;
     read_subcondition(s, p, version, left)
 }
 
@@ -394,14 +262,8 @@ fn read_sum(s: &[u8], at: usize, version: usize, left: usize) -> Read
 fn read_count(s: &[u8], at: usize, version: usize, left: usize) -> Read
     ensures { result ≡ ending (count_of version (condition_at version left) (term_at version left) s.now at) }
 {
-    let span = read_span(s, at);
-    let Read::Next(n) = span else {
-        return span;
-    };
-    let binders = read_binders(s, n);
-    let Read::Next(m) = binders else {
-        return binders;
-    };
+    let n = read_span(s, at)?;
+    let m = read_binders(s, n)?;
     read_subcondition(s, m, version, left)
 }
 
@@ -409,13 +271,7 @@ fn read_count(s: &[u8], at: usize, version: usize, left: usize) -> Read
 pub fn read_condition(s: &[u8]) -> Read
     ensures { result ≡ ending (whole condition_record s.now) }
 {
-    let heading = names::read_start(s, b"DWC", 3);
-    let Read::Next(at) = heading else {
-        return heading;
-    };
-    let root = read_subcondition(s, at, version(s), 32);
-    let Read::Next(end) = root else {
-        return root;
-    };
+    let at = names::read_start(s, b"DWC", 3)?;
+    let end = read_subcondition(s, at, version(s), 32)?;
     names::read_end(s, end)
 }

@@ -5,32 +5,26 @@ ghost use Rattle.names.specs.Fields.{Reader, i64, choose};
 ghost use Rattle.condition.specs.Condition.{Condition, Term, given, arith_op, entity_fields, term_kinds};
 
 use crate::choice::read_choice;
-use names::{Class, Read};
+use names::{Class, Read, Refusal};
 
 // A signed number of 64 bits.
-fn read_i64(s: &[u8], at: usize) -> Read
+pub fn read_i64(s: &[u8], at: usize) -> Read
     ensures { result ≡ ending (i64 s.now at) }
 {
-    if s.len() <= at {
-        return Read::Refused(2);
+    if s.len().saturating_sub(at) < 8 {
+        return Err(Refusal::Cut);
     }
-    if s.len() - at < 8 {
-        return Read::Refused(2);
-    }
-    Read::Next(at + 8)
+    Ok(at + 8)
 }
 
 // The name of an entity's type, and its id.
 fn read_entity(s: &[u8], at: usize, version: usize) -> Read
     ensures { result ≡ ending (entity_fields version s.now at) }
 {
-    let name = names::read_string(s, at, Class::PathName);
+    let n = names::read_string(s, at, Class::PathName)?;
     if version <= 2 {
-        return name;
+        return Ok(n);
     }
-    let Read::Next(n) = name else {
-        return name;
-    };
     names::read_string(s, n, Class::Plain)
 }
 
@@ -40,22 +34,14 @@ pub fn read_value(s: &[u8], at: usize, kind: u8, version: usize) -> Read
     requires kind_bound { kind ≤ 5 }
     ensures { (c : Reader Condition) (t : Bool → Reader Term) (b : Bool) → result ≡ ending (choose kind (term_kinds version c t b) s.now at) }
 {
-    if kind == 1 {
-        return read_entity(s, at, version);
+    match kind {
+        1 => read_entity(s, at, version),
+        _ if version <= 2 => Ok(at),
+        2 => read_i64(s, at),
+        3 => decimal::read_decimal(s, at),
+        4 => names::read_string(s, at, Class::Plain),
+        _ => read_choice(s, at, 1),
     }
-    if version <= 2 {
-        return Read::Next(at);
-    }
-    if kind == 2 {
-        return read_i64(s, at);
-    }
-    if kind == 3 {
-        return decimal::read_decimal(s, at);
-    }
-    if kind == 4 {
-        return names::read_string(s, at, Class::Plain);
-    }
-    read_choice(s, at, 1)
 }
 
 // The operator of an Arith.
@@ -63,7 +49,7 @@ pub fn read_arith_op(s: &[u8], at: usize, version: usize) -> Read
     ensures { result ≡ ending (given version arith_op s.now at) }
 {
     if version <= 2 {
-        return Read::Next(at);
+        return Ok(at);
     }
     read_choice(s, at, 2)
 }

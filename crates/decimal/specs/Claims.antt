@@ -1,10 +1,9 @@
 -- What is claimed of decimals beyond each function's contract. Assumes nothing.
-use Rattle.std.specs.Prelude.{ℕ, ◌≤◌, ◌≡◌, true, List, length, ℤ}
+use Rattle.std.specs.Prelude.{ℕ, ◌≤◌, ◌≡◌, true, List, length, ℤ, Ok}
 use Rattle.std.proofs.Common.{ap}
 use Rattle.decimal.specs.Decimal.{well_formed, value_of, in_range, held, decimal_of, written, after_point}
 use Rattle.decimal.specs.Laws.Written.{value_written, written_formed, written_four}
 use Rattle.decimal.specs.Laws.Shortest.{written_least}
-use Rattle.decimal.specs.declared.Decimal.TheVariants.{Value}
 
 -- what is written is well formed, with four digits after the point
 pub well_formed_lem : (z : ℤ) → well_formed (written z) ≡ true
@@ -14,7 +13,7 @@ pub four_digits : (z : ℤ) → length (after_point (written z)) ≡ 4
 four_digits = written_four
 
 -- reading what was written gives the number
-pub reads_back : (z : ℤ) → in_range z ≡ true → decimal_of (written z) ≡ Value z
+pub reads_back : (z : ℤ) → in_range z ≡ true → decimal_of (written z) ≡ Ok z
 unfolding decimal_of held
 reads_back z h = rw (written_formed z, value_written z, h)
 

@@ -1,11 +1,16 @@
 -- Decimals as Cedar writes them: which texts they are, the number of ten-thousandths that each stands for, and how such a number is written back.
-use Rattle.std.specs.Prelude.{ℕ, zero, suc, ◌+◌, ◌*◌, ◌-◌, ◌/◌, ◌%◌, ◌^◌, Bool, true, false, cond, ◌&&◌, List, [], ◌∷◌, ◌++◌, length, get_or, ltb, eqb, ℤ, pos, negsuc, neg_ℤ, nat_abs}
+use Rattle.std.specs.Prelude.{ℕ, zero, suc, ◌+◌, ◌*◌, ◌-◌, ◌/◌, ◌%◌, ◌^◌, Bool, true, false, cond, ◌&&◌, List, [], ◌∷◌, ◌++◌, length, get_or, ltb, eqb, ℤ, pos, negsuc, neg_ℤ, nat_abs, Ok, Err}
 use Rattle.std.specs.Int.Signed.{le_z, lt_z}
 use Rattle.names.specs.Lists.{every}
 use Rattle.names.specs.Names.{between, plain}
 use Rattle.names.specs.Fields.{Reader, ◌>>=◌, pure, refuse, string_of}
-use Rattle.decimal.specs.declared.Decimal.{Decimal}
-use Rattle.decimal.specs.declared.Decimal.TheVariants.{Value, Malformed, Beyond}
+use Rattle.std.specs.Prelude.{Result}
+use Rattle.names.specs.declared.refusal.Refusal.{Refusal}
+use Rattle.names.specs.declared.refusal.Refusal.TheVariants.{MalformedDecimal, DecimalOutOfRange}
+
+-- what the code finds a text to be
+abbrev pub Decimal : Type 0
+Decimal = Result ℤ Refusal
 
 -- `0` to `9`
 unfoldable pub digit : ℕ → Bool
@@ -63,19 +68,18 @@ unfoldable pub in_range : ℤ → Bool
 in_range z = le_z (neg_ℤ (pos (2 ^ 63))) z && lt_z z (pos (2 ^ 63))
 
 unfoldable pub held : ℤ → Decimal
-held z = cond (in_range z) (Value z) Beyond
+held z = cond (in_range z) (Ok z) (Err DecimalOutOfRange)
 
 -- what a text is: malformed, well formed but beyond 64 bits, or a value
 unfoldable pub decimal_of : List ℕ → Decimal
-decimal_of w = cond (well_formed w) (held (value_of w)) Malformed
+decimal_of w = cond (well_formed w) (held (value_of w)) (Err MalformedDecimal)
 
--- the numbers of the two refusals
+-- the value, or the refusal
 unfoldable pub judged : Decimal → Reader ℤ
-judged (Value z) = pure z
-judged Malformed = refuse 15
-judged Beyond = refuse 16
+judged (Ok z) = pure z
+judged (Err r) = refuse r
 
--- a field of a record: 2 and 6 as of a plain string, then 15 and 16
+-- a field of a record: refused as a plain string is, then as a decimal
 unfoldable pub decimal_text : Reader ℤ
 decimal_text = do
   w ← string_of plain

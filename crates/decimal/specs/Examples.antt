@@ -7,10 +7,12 @@ use Rattle.names.specs.Fields.{Got, got, bad, u8, bytes, string_of}
 use Rattle.reports.specs.Reports.{refusal}
 use Rattle.reports.specs.Placed.{placed}
 use Rattle.decimal.specs.Decimal.{digit, minus, unsigned, fraction, behind_digit, begins_with_digit, well_formed, with_fraction, ten_thousandths, value_of, in_range, held, decimal_of, judged, decimal_text, last_digits, count_digits, numeral, sign, shown, written}
+use Rattle.names.specs.declared.refusal.Refusal.{Refusal}
+use Rattle.names.specs.declared.refusal.Refusal.TheVariants.{Cut, OutsideClass, MalformedDecimal, DecimalOutOfRange}
 
 -- a text behind its length byte, and what reading the field gives
-abbrev pub refused : List ℕ → ℕ → List ℕ × Got ℤ
-refused w number = (length w ∷ w, bad number)
+abbrev pub refused : List ℕ → Refusal → List ℕ × Got ℤ
+refused w refusal = (length w ∷ w, bad refusal)
 
 abbrev pub worth : List ℕ → ℤ → List ℕ × Got ℤ
 worth w z = (length w ∷ w, got z (1 + length w))
@@ -18,32 +20,32 @@ worth w z = (length w ∷ w, got z (1 + length w))
 abbrev pub readings : List (List ℕ × Got ℤ)
 readings =
     -- the bytes, the class, the shape, the range, in this order
-    (4 ∷ text "1.", bad 2)
-    ∷ refused (text "1\"") 6
-    ∷ refused (0xB1 ∷ text ".") 6
-    ∷ refused (text "99999999999999999999.00000") 15
-    ∷ refused (text "99999999999999999999.0") 16
-    ∷ refused [] 15
+    (4 ∷ text "1.", bad Cut)
+    ∷ refused (text "1\"") OutsideClass
+    ∷ refused (0xB1 ∷ text ".") OutsideClass
+    ∷ refused (text "99999999999999999999.00000") MalformedDecimal
+    ∷ refused (text "99999999999999999999.0") DecimalOutOfRange
+    ∷ refused [] MalformedDecimal
     -- the shape
     ∷ worth (text "-0.0") (pos 0)
     ∷ worth (text "00.5") (pos 5000)
     ∷ worth (text "000000000000000000000000000001.5") (pos 15000)
-    ∷ refused (text "+1.0") 15
-    ∷ refused (text ".5") 15
-    ∷ refused (text "-.5") 15
-    ∷ refused (text "5.") 15
-    ∷ refused (text "5") 15
-    ∷ refused (text "1.00000") 15
-    ∷ refused (text "1.0.0") 15
-    ∷ refused (text " 1.0") 15
-    ∷ refused (text "--1.0") 15
+    ∷ refused (text "+1.0") MalformedDecimal
+    ∷ refused (text ".5") MalformedDecimal
+    ∷ refused (text "-.5") MalformedDecimal
+    ∷ refused (text "5.") MalformedDecimal
+    ∷ refused (text "5") MalformedDecimal
+    ∷ refused (text "1.00000") MalformedDecimal
+    ∷ refused (text "1.0.0") MalformedDecimal
+    ∷ refused (text " 1.0") MalformedDecimal
+    ∷ refused (text "--1.0") MalformedDecimal
     -- the range
     ∷ worth (text "922337203685477.5807") (pos 9223372036854775807)
     ∷ worth (text "-922337203685477.5808") (negsuc 9223372036854775807)
-    ∷ refused (text "922337203685477.5808") 16
-    ∷ refused (text "-922337203685477.5809") 16
-    ∷ refused (text "922337203685478.0") 16
-    ∷ refused (text "x") 15
+    ∷ refused (text "922337203685477.5808") DecimalOutOfRange
+    ∷ refused (text "-922337203685477.5809") DecimalOutOfRange
+    ∷ refused (text "922337203685478.0") DecimalOutOfRange
+    ∷ refused (text "x") MalformedDecimal
     ∷ []
 
 -- each reading gives what stands beside it

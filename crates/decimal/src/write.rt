@@ -1,12 +1,13 @@
 // A number of ten-thousandths, written: measured before the first byte is stored.
-ghost use Rattle.std.specs.Prelude.{◌≡◌, ◌+◌, ◌≤◌, length, pos, nat_abs};
+ghost use Rattle.std.specs.Prelude.{◌≡◌, ◌+◌, ◌≤◌, length, pos};
 ghost use Rattle.std.specs.Int.Signed.{lt_z};
 ghost use Rattle.names.specs.Writer.{Stored};
 ghost use Rattle.reports.specs.Answers.{outcome_of};
 ghost use Rattle.reports.specs.Placed.{placed};
 ghost use Rattle.decimal.specs.Decimal.{places, last_digits, shown, written};
 
-use reports::{Answer, refused, written};
+use names::Refusal;
+use reports::{Answer, refuse, written};
 
 fn is_negative(value: i64) -> bool
     ensures { result ≡ lt_z value (pos 0) }
@@ -14,17 +15,8 @@ fn is_negative(value: i64) -> bool
     value < 0
 }
 
-// One comes off a number below zero before the cast, since 2^63 is no `i64`.
-fn magnitude(value: i64) -> u64
-    ensures { result ≡ nat_abs value }
-{
-    if is_negative(value) {
-        return ((-1 - value) as u64) + 1;
-    }
-    value as u64
-}
-
-// How many digits a number has without leading zeros.
+// How many digits a number has without leading zeros. The loop takes digits off the number and
+// counts no index; `ilog10` asks for a number above 0, so that 0 would be a case beside it.
 fn places(n: u64) -> usize
     ensures { (result ≡ places n) × (result ≤ n + 1) }
 {
@@ -41,14 +33,15 @@ fn places(n: u64) -> usize
 fn text_size(value: i64) -> usize
     ensures { result ≡ length (written value) }
 {
-    let whole = places(magnitude(value) / 10000);
+    let whole = places(value.unsigned_abs() / 10000);
     if is_negative(value) {
         return whole + 6;
     }
     whole + 5
 }
 
-// The last digits of a number, so many of them.
+// The last digits of a number, so many of them. The digits before the last go first, so it
+// calls itself.
 fn put_digits(out: &mut [u8], at: usize, count: usize, n: u64) -> usize
     requires { at + count ≤ length out.old }
     ensures { Stored out.old at (last_digits count n) out.new result }
@@ -76,7 +69,7 @@ fn put_written(out: &mut [u8], value: i64) -> usize
     requires { length (written value) ≤ length out.old }
     ensures { Stored out.old 0 (written value) out.new result }
 {
-    let n = magnitude(value);
+    let n = value.unsigned_abs();
     if is_negative(value) {
         out[0] = b'-';
         return put_shown(out, 1, n);
@@ -89,7 +82,7 @@ pub fn write_decimal(value: i64, output: &mut [u8]) -> Answer
     ensures { outcome_of result output.new ≡ placed (written value) output.old }
 {
     if output.len() < text_size(value) {
-        return refused(11, 0);
+        return refuse(Refusal::NoSpace, 0);
     }
     let next = put_written(output, value);
     written(next)

@@ -2,74 +2,42 @@
 // the files that its three arguments name; with any other number of arguments it reads nothing.
 #![tactic(auto)]
 
-ghost use Rattle.std.specs.Prelude.{◌≡◌, length};
-
-use program::{Loaded, print};
 use std::env::Env;
 use std::io;
 use std::rt::Files;
-
-// No output is longer: at most 255 strings, each of at most 486 bytes, and a segment.
-fn output_space() -> [u8; 131072]
-    ensures { 131072 ≡ length result }
-{
-    [0; 131072]
-}
 
 fn main(rt: HostRuntime) -> io::Result<()> {
     called(&rt, &rt.stderr())
 }
 
-// The whole run, with what is printed and what is said of files and usage.
+// The whole run, with what is printed and what is said of files and usage: the schema is read, then
+// the targets, then the path.
 fn called(rt: &(impl Files + Env + Print), err: &impl Print) -> io::Result<()> {
-    if program::fits(program::argument_count(rt), 3) {
-        return first(rt, err);
+    if !program::fits(program::argument_count(rt), 3) {
+        return println!(err; "usage: lookscope [SCHEMA TARGETS PATH]");
     }
-    program::print_usage(err, b"usage: lookscope [SCHEMA TARGETS PATH]\n")
+    program::with_record(rt, err, 1, b"schema.dws", |schema| {
+        program::with_record(rt, err, 2, b"targets.dwt", |targets| {
+            program::with_record(
+                rt,
+                err,
+                3,
+                b"path.dwp",
+                |path| look(rt, schema, targets, path),
+            )
+        })
+    })
 }
 
-// The schema is read,
-fn first(rt: &(impl Files + Env + Print), err: &impl Print) -> io::Result<()> {
-    let mut space = program::record_space();
-    let loaded = program::load_argument(rt, err, 1, b"schema.dws", &mut space);
-    let Loaded::Bytes(n) = loaded else {
-        return Ok(());
-    };
-    second(rt, err, names::part_of(&space, 0, n))
-}
-
-// then the targets,
-fn second(rt: &(impl Files + Env + Print), err: &impl Print, schema: &[u8]) -> io::Result<()> {
-    let mut space = program::record_space();
-    let loaded = program::load_argument(rt, err, 2, b"targets.dwt", &mut space);
-    let Loaded::Bytes(n) = loaded else {
-        return Ok(());
-    };
-    third(rt, err, schema, names::part_of(&space, 0, n))
-}
-
-// then the path.
-fn third<'a>(
-    rt: &(impl Files + Env + Print),
-    err: &impl Print,
-    schema: &'a [u8],
-    targets: &'a [u8],
-) -> io::Result<()> {
-    let mut space = program::record_space();
-    let loaded = program::load_argument(rt, err, 3, b"path.dwp", &mut space);
-    let Loaded::Bytes(n) = loaded else {
-        return Ok(());
-    };
-    look(rt, schema, targets, names::part_of(&space, 0, n))
-}
-
+// No output is longer than the space: at most 255 strings, each of at most 486 bytes, and a
+// segment.
 fn look<'a>(
     console: &impl Print,
     schema: &'a [u8],
     targets: &'a [u8],
     path: &'a [u8],
 ) -> io::Result<()> {
-    let mut output = output_space();
+    let mut output = [0; 131072];
     let answer = dogwood::dogwood_lookup(schema, targets, path, &mut output);
     if answer.number != 0 {
         return program::print_refusal(console, answer.number, answer.record);
@@ -78,62 +46,47 @@ fn look<'a>(
 }
 
 // The line of an output, by its status byte.
-fn print_output(console: &impl Print, out: &[u8]) -> io::Result<()> {
-    let status = names::byte_at(out, 0);
-    let count = names::u16_at(out, 1);
-    if status == 0 {
-        print(console, b"resolved ")?;
-        print_strings(console, out, 3, count)?;
+fn print_output(console: &impl Print, output: &[u8]) -> io::Result<()> {
+    let count = names::u16_at(output, 1);
+    let strings = output.get(3..).unwrap_or(&[]);
+    match names::byte_at(output, 0) {
+        0 => print_strings(console, b"resolved ", strings, count)?,
+        1 => print_missing(console, strings, count)?,
+        2 => print_strings(console, b"not a record: ", strings, count)?,
+        3 => print_strings(console, b"ambiguous: ", strings, count)?,
+        4 => console.write_all(b"unknown")?,
+        _ => {},
     }
-    if status == 1 {
-        print(console, b"missing ")?;
-        print_missing(console, out, count)?;
-    }
-    if status == 2 {
-        print(console, b"not a record: ")?;
-        print_strings(console, out, 3, count)?;
-    }
-    if status == 3 {
-        print(console, b"ambiguous: ")?;
-        print_strings(console, out, 3, count)?;
-    }
-    if status == 4 {
-        print(console, b"unknown")?;
-    }
-    print(console, b"\n")
+    console.write_all(b"\n")
 }
 
 // The segment, and the entity types behind it.
-fn print_missing(console: &impl Print, out: &[u8], count: usize) -> io::Result<()> {
-    let at = print_string(console, out, 3)?;
+fn print_missing(console: &impl Print, strings: &[u8], count: usize) -> io::Result<()> {
+    let (segment, types) = program::split_field(strings);
+    console.write_all(b"missing ")?;
+    console.write_all(segment)?;
     if 1 < count {
-        print(console, b": ")?;
-        print_strings(console, out, at, count - 1)?;
+        print_strings(console, b": ", types, count - 1)?;
     }
     Ok(())
 }
 
-// So many strings from a place on.
-fn print_strings(console: &impl Print, out: &[u8], from: usize, count: usize) -> io::Result<()> {
-    let mut at = from;
-    for i in 0..count {
-        at = print_string(console, out, at)?;
-        print_comma(console, count - 1 - i)?;
+// Some words, and so many strings from the front of some bytes.
+fn print_strings(
+    console: &impl Print,
+    words: &[u8],
+    strings: &[u8],
+    count: usize,
+) -> io::Result<()> {
+    let mut before: &[u8] = b"";
+    let mut left = strings;
+    console.write_all(words)?;
+    for _ in 0..count {
+        let (string, rest) = program::split_field(left);
+        console.write_all(before)?;
+        console.write_all(string)?;
+        before = b", ";
+        left = rest;
     }
     Ok(())
-}
-
-fn print_comma(console: &impl Print, left: usize) -> io::Result<()> {
-    if 0 < left {
-        print(console, b", ")?;
-    }
-    Ok(())
-}
-
-// The string whose length stands at a place; where the next one stands. A place never comes near the largest number.
-fn print_string(console: &impl Print, out: &[u8], at: usize) -> io::Result<usize> {
-    let long = names::u16_at(out, at);
-    let start = at.wrapping_add(2);
-    print(console, names::part_of(out, start, long))?;
-    Ok(start.wrapping_add(long))
 }

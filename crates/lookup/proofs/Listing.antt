@@ -23,12 +23,14 @@ use Rattle.names.specs.declared.Row.{Row}
 use Rattle.targets.specs.Places.{narrowed}
 use Rattle.resolution.specs.Places.{are_types, types_in, segments_in, Follows, NextOf}
 use Rattle.resolution.specs.Passes.{failing}
-use Rattle.resolution.specs.declared.Next.{Next}
 use Rattle.lookup.specs.Lookup.{sized}
 use Rattle.lookup.specs.Places.{Asks, entities_of, Long, Room, Measures}
 use Rattle.lookup.specs.declared.Question.{Question}
 use Rattle.lookup.specs.declared.Measured.{Measured}
 use Rattle.lookup.proofs.Parts.{length_sized}
+use Rattle.names.specs.declared.refusal.Refusal.TheVariants.{TooLong}
+use Rattle.resolution.specs.Coded.{Next}
+use Rattle.std.specs.Prelude.{Some, None}
 
 -- ---- how many names a row can have
 
@@ -36,7 +38,7 @@ whole_short : {A : Type 0} (f : Reader A) (s : List ℕ) {a : A} {n : ℕ} → w
 unfolding whole
 whole_short f s {a} {n} e = go (leb (length s) 32768) refl e
   where
-    go : (b : Bool) → leb (length s) 32768 ≡ b → cond b (f s 0) (bad 1) ≡ got a n → length s ≤ 32768
+    go : (b : Bool) → leb (length s) 32768 ≡ b → cond b (f s 0) (bad TooLong) ≡ got a n → length s ≤ 32768
     go true h i = leb-true (length s) 32768 h
     go false h i = let z : ◌≡◌ {A = ℕ} 0 1 = cc in absurd (omega arith)
 
@@ -177,10 +179,10 @@ module _ (s n c : List ℕ) (q : Question) (segment : ℕ) where
     pub same : length u ≡ length t
 
   module _ (left : Row) (x : Next) (next : NextOf s fails left x) where
-    none_left : x ≡ Next.Over → failed left ≡ []
+    none_left : x ≡ None → failed left ≡ []
     none_left e = let h : [] ≡ failed left = rw e at next.value in sym h
 
-    module _ (p : ℕ) (others : Row) (e : x ≡ Next.Name p others) where
+    module _ (p : ℕ) (others : Row) (e : x ≡ Some (p, others)) where
       one_left : failed left ≡ word_at s p ∷ failed others
       one_left = let h : word_at s p ∷ failed others ≡ failed left = rw e at next.value in sym h
 
@@ -199,10 +201,10 @@ module _ (s n c : List ℕ) (q : Question) (segment : ℕ) where
     first_counted long l m e = record { stands = asks.types; on = count_one missing_words (word_at c segment) (entities_of s n c q segment) refl long l m e }
 
     module _ (left : Row) (m : Measured) (inv : CountingMissing left m) (x : Next) (next : NextOf s fails left x) where
-      pub missing_over : x ≡ Next.Over → Measures missing_words m
+      pub missing_over : x ≡ None → Measures missing_words m
       missing_over e = count_over missing_words missing_few (failed left) m inv.on (none_left left x next e)
 
-      module _ (p : ℕ) (others : Row) (e : x ≡ Next.Name p others) (long : ℕ) (l : Long (word_at s p) long) where
+      module _ (p : ℕ) (others : Row) (e : x ≡ Some (p, others)) (long : ℕ) (l : Long (word_at s p) long) where
         pub missing_room : Room m long
         missing_room = count_room missing_words missing_few (failed left) m inv.on (word_at s p) (failed others) (one_left left x next p others e) long l
 
@@ -218,10 +220,10 @@ module _ (s n c : List ℕ) (q : Question) (segment : ℕ) where
       entities_start = record { stands = asks.types; on = put_none t at (failed q.types) (omega arith); same = refl }
 
       module _ (left : Row) (u : List ℕ) (place : ℕ) (inv : PuttingMissing t at left u place) (x : Next) (next : NextOf s fails left x) where
-        pub entities_over : x ≡ Next.Over → Stored t at (gather sized (entities_of s n c q segment)) u place
+        pub entities_over : x ≡ None → Stored t at (gather sized (entities_of s n c q segment)) u place
         entities_over e = put_over t at (failed q.types) (failed left) u place inv.on (none_left left x next e)
 
-        module _ (p : ℕ) (others : Row) (e : x ≡ Next.Name p others) where
+        module _ (p : ℕ) (others : Row) (e : x ≡ Some (p, others)) where
           pub entity_room : place + length (sized (word_at s p)) ≤ length u
           entity_room = put_room t at (failed q.types) (failed left) u place inv.on (word_at s p) (failed others) (one_left left x next p others e) room
 

@@ -21,13 +21,14 @@ use Rattle.targets.specs.Places.{narrowed}
 use Rattle.resolution.specs.Resolution.{insert, renderings, admitted_by}
 use Rattle.resolution.specs.Places.{types_in, segments_in, typed_of, small_type}
 use Rattle.resolution.specs.Passes.{rendered, above, type_on, types_on, next_rendered}
-use Rattle.resolution.specs.declared.Typed.{Typed}
 use Rattle.resolution.specs.Laws.Listed.{all_behind}
 use Rattle.lookup.specs.Lookup.{sized}
 use Rattle.lookup.specs.Places.{Asks, rendered_of, Long, Room, Measures}
 use Rattle.lookup.specs.declared.Question.{Question}
 use Rattle.lookup.specs.declared.Measured.{Measured}
 use Rattle.lookup.proofs.Listing.{length_select, types_few, Counting, count_none, count_over, count_room, count_more, Putting, put_none, put_over, put_room, put_more}
+use Rattle.resolution.specs.Coded.{Typed}
+use Rattle.std.specs.Prelude.{Some, None}
 
 -- ---- how many texts there are
 
@@ -80,54 +81,54 @@ module _ (s n c : List ℕ) (q : Question) where
     pub same : length u ≡ length t
 
   module _ (last x : Typed) (next : next_rendered (rendered_of s n c q) (typed_of s c x) ≡ behind last) where
-    no_text : x ≡ Typed.Nothing → behind last ≡ []
+    no_text : x ≡ None → behind last ≡ []
     no_text e = let h : [] ≡ behind last = rw e at next in sym h
 
-    module _ (t : Rich) (e : x ≡ Typed.As t) where
-      one_text : behind last ≡ render (rich_of s c t) ∷ behind (Typed.As t)
-      one_text = let h : render (rich_of s c t) ∷ behind (Typed.As t) ≡ behind last = rw e at next in sym h
+    module _ (t : Rich) (e : x ≡ Some t) where
+      one_text : behind last ≡ render (rich_of s c t) ∷ behind (Some t)
+      one_text = let h : render (rich_of s c t) ∷ behind (Some t) ≡ behind last = rw e at next in sym h
 
-      pub types_fewer : length (behind (Typed.As t)) < length (behind last)
+      pub types_fewer : length (behind (Some t)) < length (behind last)
       types_fewer = omega (arith, ap length one_text)
 
       pub text_small : small_type (typed_of s c x) → Small (rich_of s c t)
       text_small h = rw e at h
 
   module _ (asks : Asks s c q) where
-    pub types_none : CountingTypes Typed.Nothing (record { count = 0; size = 0 })
+    pub types_none : CountingTypes None (record { count = 0; size = 0 })
     types_none = record { small = omega arith; on = rw (all_behind (rendered_of s n c q)) (count_none (rendered_of s n c q) (record { count = 0; size = 0 }) refl) }
 
     module _ (last : Typed) (m : Measured) (inv : CountingTypes last m) (x : Typed) (next : next_rendered (rendered_of s n c q) (typed_of s c x) ≡ behind last) where
-      pub types_over : x ≡ Typed.Nothing → Measures (rendered_of s n c q) m
+      pub types_over : x ≡ None → Measures (rendered_of s n c q) m
       types_over e = count_over (rendered_of s n c q) (rendered_few s n c q asks) (behind last) m inv.on (no_text last x next e)
 
-      module _ (t : Rich) (e : x ≡ Typed.As t) (long : ℕ) (l : Long (render (rich_of s c t)) long) where
+      module _ (t : Rich) (e : x ≡ Some t) (long : ℕ) (l : Long (render (rich_of s c t)) long) where
         pub types_room : Room m long
-        types_room = count_room (rendered_of s n c q) (rendered_few s n c q asks) (behind last) m inv.on (render (rich_of s c t)) (behind (Typed.As t)) (one_text last x next t e) long l
+        types_room = count_room (rendered_of s n c q) (rendered_few s n c q asks) (behind last) m inv.on (render (rich_of s c t)) (behind (Some t)) (one_text last x next t e) long l
 
-        pub types_more : small_type (typed_of s c x) → (r : Measured) → r ≡ record { count = m.count + 1; size = m.size + (2 + long) } → CountingTypes (Typed.As t) r
+        pub types_more : small_type (typed_of s c x) → (r : Measured) → r ≡ record { count = m.count + 1; size = m.size + (2 + long) } → CountingTypes (Some t) r
         types_more h r i = record {
           small = rw e at h;
-          on = count_more (rendered_of s n c q) (rendered_few s n c q asks) (behind last) m inv.on (render (rich_of s c t)) (behind (Typed.As t)) (one_text last x next t e) long l r i;
+          on = count_more (rendered_of s n c q) (rendered_few s n c q asks) (behind last) m inv.on (render (rich_of s c t)) (behind (Some t)) (one_text last x next t e) long l r i;
         }
 
   -- the same texts, written
   module _ (t : List ℕ) (at : ℕ) (room : at + length (gather sized (rendered_of s n c q)) ≤ length t) where
-    pub texts_start : PuttingTypes t at Typed.Nothing t at
+    pub texts_start : PuttingTypes t at None t at
     texts_start = record { small = omega arith; on = rw (all_behind (rendered_of s n c q)) (put_none t at (rendered_of s n c q) (omega arith)); same = refl }
 
     module _ (last : Typed) (u : List ℕ) (place : ℕ) (inv : PuttingTypes t at last u place) (x : Typed) (next : next_rendered (rendered_of s n c q) (typed_of s c x) ≡ behind last) where
-      pub texts_over : x ≡ Typed.Nothing → Stored t at (gather sized (rendered_of s n c q)) u place
+      pub texts_over : x ≡ None → Stored t at (gather sized (rendered_of s n c q)) u place
       texts_over e = put_over t at (rendered_of s n c q) (behind last) u place inv.on (no_text last x next e)
 
-      module _ (k : Rich) (e : x ≡ Typed.As k) where
+      module _ (k : Rich) (e : x ≡ Some k) where
         pub texts_room : place + length (sized (render (rich_of s c k))) ≤ length u
-        texts_room = put_room t at (rendered_of s n c q) (behind last) u place inv.on (render (rich_of s c k)) (behind (Typed.As k)) (one_text last x next k e) room
+        texts_room = put_room t at (rendered_of s n c q) (behind last) u place inv.on (render (rich_of s c k)) (behind (Some k)) (one_text last x next k e) room
 
-        pub texts_put : small_type (typed_of s c x) → (v : List ℕ) (r : ℕ) → Stored u place (sized (render (rich_of s c k))) v r → PuttingTypes t at (Typed.As k) v r
+        pub texts_put : small_type (typed_of s c x) → (v : List ℕ) (r : ℕ) → Stored u place (sized (render (rich_of s c k))) v r → PuttingTypes t at (Some k) v r
         texts_put h v r i = record {
           small = rw e at h;
-          on = put_more t at (rendered_of s n c q) (behind last) u place inv.on (render (rich_of s c k)) (behind (Typed.As k)) (one_text last x next k e) v r i;
+          on = put_more t at (rendered_of s n c q) (behind last) u place inv.on (render (rich_of s c k)) (behind (Some k)) (one_text last x next k e) v r i;
           same = stored_length i ∙ inv.same;
         }
 

@@ -6,18 +6,16 @@ use mathlib.Core.Option.{Option, none, some}
 use Prim.Native.Nat.{ℕ}
 use borrow.Author.Rules.{rules}
 use lib.ListN.{length}
-use Rattle.names.specs.Fields.{whole, string_of}
+use Rattle.names.specs.Fields.{whole, string_of, number_of}
 use Rattle.names.specs.Names.{plain}
-use Rattle.names.specs.Read.{ending, read_number, value_or, Listed}
-use Rattle.names.specs.declared.Read.{Read}
-use Rattle.names.specs.Laws.Readers.{accept, passes, refused_by, refuses}
+use Rattle.names.specs.Read.{ending, value_or, Listed, Read, Found}
+use Rattle.names.specs.Laws.Readers.{accept, passes, refused_by}
 use Rattle.names.specs.Laws.Rows.{row_stands, row_value}
 use Rattle.reports.specs.Answers.{outcome_of, Refuses}
 use Rattle.reports.specs.declared.Answer.{Answer}
 use Rattle.schema.specs.Schema.{schema_record}
 use Rattle.schema.specs.Find.{find_action}
 use Rattle.schema.specs.Places.{schema_in, is_action, action_in, FindsAction}
-use Rattle.names.specs.declared.Found.{Found}
 use Rattle.names.specs.declared.Row.{Row}
 use Rattle.targets.specs.Targets.{Narrowing, target_record}
 use Rattle.targets.specs.PathRecord as PathRecord
@@ -29,6 +27,8 @@ use Rattle.reports.specs.Placed.{placed}
 use Rattle.lookup.specs.Lookup.{on_side_by, found_by, found, output, answered_by, answered, lookup_by, lookup}
 use Rattle.lookup.specs.Places.{Records, PathOf, SideOf, Asks, answer_to, QuestionOf}
 use Rattle.lookup.specs.declared.Question.{Question}
+use Rattle.std.specs.Prelude.{Ok, Err, Some, None}
+use Rattle.names.specs.declared.refusal.Refusal.{Refusal}
 
 -- ---- the question
 
@@ -60,17 +60,17 @@ pub ruleset asking = (rules, path_stands, principal_asked, resource_asked)
 -- ---- the target's action
 
 module _ (s n c : List ℕ) (at : ℕ) (w : List ℕ) (is_w : w ≡ (target_in n at).namespace) (v : List ℕ) (is_v : v ≡ (target_in n at).id) (x : Found) (finds : FindsAction s (find_action (schema_in s) w v) x) where
-  pub action_stands : (action : ℕ) → x ≡ Found.At action → is_action s action ≡ true
+  pub action_stands : (action : ℕ) → x ≡ Some action → is_action s action ≡ true
   action_stands action e = rw e at finds.stands
 
   module _ (b t : List ℕ) (a : Answer) where
-    pub target_unknown : x ≡ Found.Absent → outcome_of a t ≡ placed (output unknown) b → outcome_of a t ≡ placed (output (found (schema_in s) (targets_in n) (query_in c) (target_in n at))) b
+    pub target_unknown : x ≡ None → outcome_of a t ≡ placed (output unknown) b → outcome_of a t ≡ placed (output (found (schema_in s) (targets_in n) (query_in c) (target_in n at))) b
     unfolding found_by
     target_unknown e i =
         let h : none ≡ find_action (schema_in s) (target_in n at).namespace (target_in n at).id = rw (← is_w, ← is_v) (rw e at finds.value) in
         rw (← h) i
 
-    pub target_found : (action : ℕ) → x ≡ Found.At action → (q : Question) → QuestionOf s n c action q → outcome_of a t ≡ placed (output (answer_to s n c q)) b → outcome_of a t ≡ placed (output (found (schema_in s) (targets_in n) (query_in c) (target_in n at))) b
+    pub target_found : (action : ℕ) → x ≡ Some action → (q : Question) → QuestionOf s n c action q → outcome_of a t ≡ placed (output (answer_to s n c q)) b → outcome_of a t ≡ placed (output (found (schema_in s) (targets_in n) (query_in c) (target_in n at))) b
     unfolding found_by
     target_found action e q d i =
         let h : some (action_in s action) ≡ find_action (schema_in s) (target_in n at).namespace (target_in n at).id = rw (← is_w, ← is_v) (rw e at finds.value) in
@@ -81,17 +81,17 @@ pub ruleset targeting = (rules, action_stands, target_unknown, target_found)
 -- ---- the position
 
 module _ (s n c : List ℕ) (position : ℕ) (is : position ≡ (query_in c).position) (x : Found) (finds : FindsTarget n (target_at position (targets_in n).list) x) where
-  pub position_stands : (at : ℕ) → x ≡ Found.At at → is_target n at ≡ true
+  pub position_stands : (at : ℕ) → x ≡ Some at → is_target n at ≡ true
   position_stands at e = rw e at finds.stands
 
   module _ (b : List ℕ) (a : Answer) where
-    pub position_absent : x ≡ Found.Absent → Refuses 12 3 a → outcome_of a b ≡ answered (schema_in s) (targets_in n) (query_in c) b
+    pub position_absent : x ≡ None → Refuses 12 3 a → outcome_of a b ≡ answered (schema_in s) (targets_in n) (query_in c) b
     unfolding answered_by
     position_absent e r =
         let h : none ≡ target_at (query_in c).position (targets_in n).list = rw (← is) (rw e at finds.value) in
         rw (← h) (r.is b)
 
-    pub position_found : (at : ℕ) → x ≡ Found.At at → (t : List ℕ) → outcome_of a t ≡ placed (output (found (schema_in s) (targets_in n) (query_in c) (target_in n at))) b → outcome_of a t ≡ answered (schema_in s) (targets_in n) (query_in c) b
+    pub position_found : (at : ℕ) → x ≡ Some at → (t : List ℕ) → outcome_of a t ≡ placed (output (found (schema_in s) (targets_in n) (query_in c) (target_in n at))) b → outcome_of a t ≡ answered (schema_in s) (targets_in n) (query_in c) b
     unfolding answered_by
     position_found at e t i =
         let h : some (target_in n at) ≡ target_at (query_in c).position (targets_in n).list = rw (← is) (rw e at finds.value) in
@@ -102,26 +102,26 @@ pub ruleset positions = (rules, position_stands, position_absent, position_found
 -- ---- the records
 
 module _ (s n c b : List ℕ) (x : Read) (is_x : x ≡ ending (whole schema_record s)) where
-  pub schema_refused : (r : ℕ) → x ≡ Read.Refused r → (k : ℕ) → k ≡ read_number x → (a : Answer) → Refuses k 1 a → outcome_of a b ≡ lookup s n c b
+  pub schema_refused : (r : Refusal) → x ≡ Err r → (a : Answer) → Refuses (number_of r) 1 a → outcome_of a b ≡ lookup s n c b
   unfolding lookup_by
-  schema_refused r e k f a i = rw (refused_by (whole schema_record s) x r is_x e, ← refuses e f) (i.is b)
+  schema_refused r e a i = rw (refused_by (whole schema_record s) x r is_x e) (i.is b)
 
-  module _ (p : ℕ) (e : x ≡ Read.Next p) (y : Read) (is_y : y ≡ ending (whole target_record n)) where
-    pub targets_refused : (r : ℕ) → y ≡ Read.Refused r → (k : ℕ) → k ≡ read_number y → (a : Answer) → Refuses k 3 a → outcome_of a b ≡ lookup s n c b
+  module _ (p : ℕ) (e : x ≡ Ok p) (y : Read) (is_y : y ≡ ending (whole target_record n)) where
+    pub targets_refused : (r : Refusal) → y ≡ Err r → (a : Answer) → Refuses (number_of r) 3 a → outcome_of a b ≡ lookup s n c b
     unfolding lookup_by
-    targets_refused r d k f a i =
+    targets_refused r d a i =
         let g = accept (whole schema_record s) (passes (whole schema_record s) is_x e) in
-        rw (g.read, refused_by (whole target_record n) y r is_y d, ← refuses d f) (i.is b)
+        rw (g.read, refused_by (whole target_record n) y r is_y d) (i.is b)
 
-    module _ (p' : ℕ) (e' : y ≡ Read.Next p') (z : Read) (is_z : z ≡ ending (whole path_record c)) where
-      pub path_refused : (r : ℕ) → z ≡ Read.Refused r → (k : ℕ) → k ≡ read_number z → (a : Answer) → Refuses k 4 a → outcome_of a b ≡ lookup s n c b
+    module _ (p' : ℕ) (e' : y ≡ Ok p') (z : Read) (is_z : z ≡ ending (whole path_record c)) where
+      pub path_refused : (r : Refusal) → z ≡ Err r → (a : Answer) → Refuses (number_of r) 4 a → outcome_of a b ≡ lookup s n c b
       unfolding lookup_by
-      path_refused r d k f a i =
+      path_refused r d a i =
           let g = accept (whole schema_record s) (passes (whole schema_record s) is_x e) in
           let h = accept (whole target_record n) (passes (whole target_record n) is_y e') in
-          rw (g.read, h.read, refused_by (whole path_record c) z r is_z d, ← refuses d f) (i.is b)
+          rw (g.read, h.read, refused_by (whole path_record c) z r is_z d) (i.is b)
 
-      module _ (p'' : ℕ) (e'' : z ≡ Read.Next p'') where
+      module _ (p'' : ℕ) (e'' : z ≡ Ok p'') where
         pub all_read : Records s n c
         all_read = record {
           schema = passes (whole schema_record s) is_x e;

@@ -16,16 +16,13 @@ pub fn measure_types<'a>(s: &'a [u8], n: &[u8], c: &'a [u8], q: Question) -> Mea
     let narrowing = q.narrowing;
     let row = q.types;
     let path = q.path;
-    let mut last = Typed::Nothing;
+    let mut last = None;
     let mut m = Measured { count: 0, size: 0 };
-    loop {
-        let next = next_rendering(s, n, narrowing, row, c, path, last);
-        let Typed::As(t) = next else {
-            return m;
-        };
+    while let Some(t) = next_rendering(s, n, narrowing, row, c, path, last) {
         m = one_more(m, type_length(s, c, t));
-        last = Typed::As(t);
+        last = Some(t);
     }
+    m
 }
 
 pub fn put_types<'a>(
@@ -43,14 +40,11 @@ pub fn put_types<'a>(
     let narrowing = q.narrowing;
     let row = q.types;
     let path = q.path;
-    let mut last = Typed::Nothing;
+    let mut last = None;
     let mut place = at;
-    loop {
-        let next = next_rendering(s, n, narrowing, row, c, path, last);
-        let Typed::As(t) = next else {
-            return place;
-        };
+    while let Some(t) = next_rendering(s, n, narrowing, row, c, path, last) {
         place = put_type(out, place, s, c, t);
-        last = Typed::As(t);
+        last = Some(t);
     }
+    place
 }

@@ -9,8 +9,8 @@ ghost use Rattle.lookup.specs.Places.{Records, PathOf, SideOf, QuestionOf};
 
 use crate::Question;
 use crate::place::{place_path, place_unknown};
-use names::{Found, Read, Row};
-use reports::{Answer, refused};
+use names::{Refusal, Row};
+use reports::{Answer, refuse};
 use schema::Namespace;
 use targets::Side;
 
@@ -80,7 +80,7 @@ fn for_target<'a>(s: &'a [u8], n: &[u8], c: &'a [u8], at: usize, out: &mut [u8])
         Namespace::Whole,
         targets::id_of(n, at),
     );
-    let Found::At(action) = own else {
+    let Some(action) = own else {
         return place_unknown(out);
     };
     let q = question(s, n, c, action);
@@ -94,8 +94,8 @@ fn for_records<'a>(s: &'a [u8], n: &[u8], c: &'a [u8], out: &mut [u8]) -> Answer
 {
     let position = targets::path_position(c);
     let own = targets::target_at(n, position);
-    let Found::At(at) = own else {
-        return refused(12, 3);
+    let Some(at) = own else {
+        return refuse(Refusal::NoSuchTarget, 3);
     };
     for_target(s, n, c, at, out)
 }
@@ -104,17 +104,14 @@ fn for_records<'a>(s: &'a [u8], n: &[u8], c: &'a [u8], out: &mut [u8]) -> Answer
 pub fn lookup<'a>(s: &'a [u8], n: &[u8], c: &'a [u8], out: &mut [u8]) -> Answer
     ensures { outcome_of result out.new ≡ lookup s.now n.now c.now out.old }
 {
-    let first = schema::read_schema(s);
-    let Read::Next(_) = first else {
-        return refused(names::refusal_number(first), 1);
-    };
-    let second = targets::read_targets(n);
-    let Read::Next(_) = second else {
-        return refused(names::refusal_number(second), 3);
-    };
-    let third = targets::read_path(c);
-    let Read::Next(_) = third else {
-        return refused(names::refusal_number(third), 4);
-    };
+    if let Err(refusal) = schema::read_schema(s) {
+        return refuse(refusal, 1);
+    }
+    if let Err(refusal) = targets::read_targets(n) {
+        return refuse(refusal, 3);
+    }
+    if let Err(refusal) = targets::read_path(c) {
+        return refuse(refusal, 4);
+    }
     for_records(s, n, c, out)
 }

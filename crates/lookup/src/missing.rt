@@ -18,14 +18,11 @@ pub fn measure_missing(s: &[u8], n: &[u8], c: &[u8], q: Question, segment: usize
     let path = q.path;
     let mut left = q.types;
     let mut m = one_string(word_length(c, segment));
-    loop {
-        let next = next_failing(s, n, narrowing, left, c, path, segment);
-        let Next::Name(p, others) = next else {
-            return m;
-        };
+    while let Some((p, others)) = next_failing(s, n, narrowing, left, c, path, segment) {
         m = one_more(m, word_length(s, p));
         left = others;
     }
+    m
 }
 
 fn put_entities(
@@ -45,14 +42,11 @@ fn put_entities(
     let path = q.path;
     let mut left = q.types;
     let mut place = at;
-    loop {
-        let entity = next_failing(s, n, narrowing, left, c, path, segment);
-        let Next::Name(p, others) = entity else {
-            return place;
-        };
+    while let Some((p, others)) = next_failing(s, n, narrowing, left, c, path, segment) {
         place = put_word(out, place, s, p);
         left = others;
     }
+    place
 }
 
 pub fn put_missing(

@@ -14,7 +14,8 @@ use crate::ambiguous::{measure_types, put_types};
 use crate::missing::{measure_missing, put_missing};
 use crate::strings::{one_string, put_start, put_type, put_word, type_length, word_length};
 use crate::{Measured, Question};
-use reports::{Answer, refused, written};
+use names::Refusal;
+use reports::{Answer, refuse, written};
 use resolution::{ScopePath, resolve_scope_path, scope_number};
 
 // How many strings an answer has, and how many bytes they take.
@@ -71,7 +72,7 @@ fn place_answer<'a>(
 {
     let m = measure(s, n, c, q, answer);
     if out.len() < 3 + m.size {
-        return refused(11, 0);
+        return refuse(Refusal::NoSpace, 0);
     }
     let at = put_start(out, scope_number(answer), m.count);
     let next = put_strings(out, at, s, n, c, q, answer);
@@ -83,7 +84,7 @@ pub fn place_unknown(out: &mut [u8]) -> Answer
     ensures { outcome_of result out.new ≡ placed (output unknown) out.old }
 {
     if out.len() < 3 {
-        return refused(11, 0);
+        return refuse(Refusal::NoSpace, 0);
     }
     let next = put_start(out, 4, 0);
     written(next)

@@ -7,34 +7,32 @@ use native.Mathlib.Numerals.{add-one}
 use mir.Syntax.{w64}
 use mir.Val.{Fits}
 use borrow.Author.Rules.{rules, Fits-under}
-use lib.ListN.{length, get_or, drop, length-append, drop_of_length-le}
-use lib.Seq.{drop-cons}
-use Rattle.names.specs.Names.{joined}
-use Rattle.names.specs.Read.{word_at}
+use lib.ListN.{length, get_or, take, drop, length-take, drop_of_length-le}
+use lib.Seq.{get_or-take, drop-cons}
 use Rattle.names.specs.Writer.{Stored}
-use Rattle.names.specs.Laws.Writers.{stored_none, stored_more, stored_length}
+use Rattle.names.specs.Laws.Writers.{stored_none, stored_more}
 use Rattle.types.specs.Types.{display}
 use Rattle.types.specs.Laws.Texts.{Small, text_counted}
 use Rattle.types.specs.Meaning.{rich_of}
 use Rattle.types.specs.declared.Rich.{Rich}
 use Rattle.types.specs.declared.Form.TheVariants as Form
-use Rattle.nodes.specs.Parts.{segments_in, SegmentsHere}
 use Rattle.reports.specs.Messages.{part, words, text_size}
 use Rattle.reports.specs.Laws.Messages.{Composing, composing_begins, composing_room, composing_turn, last_room, composing_over, words_few, text_most, message_length}
 use Rattle.reports.specs.Pairs.{sum_of}
 use Rattle.messages.specs.Joined.{Sized}
-use Rattle.messages.specs.Words.{word_text, word_of, quoted, text_of, WordStands, Stands}
-use Rattle.messages.specs.Laws.Lengths.{quoted_count, quoted_word, Bytes, word_short, shown_short}
+use Rattle.messages.specs.Words.{word_text, word_of, quoted, text_of, WordStands}
+use Rattle.messages.specs.Laws.Lengths.{quoted_count, quoted_word, shown_short}
 use Rattle.messages.specs.declared.Word.{Word}
-use Rattle.messages.specs.declared.Word.TheVariants.{Nothing, Name, Shown, Joined}
+use Rattle.messages.specs.declared.Word.TheVariants.{Nothing, Shown}
 use Rattle.messages.specs.declared.Sentence.{Sentence}
 
 -- ---- the word of a place
 
-pub word_fourth : (m : Sentence) (i : ℕ) → i < 4 → (i ≡ 0 → ⊥) → (i ≡ 1 → ⊥) → (i ≡ 2 → ⊥) → m.fourth ≡ word_of m i
-word_fourth m i h a b c = let e : i ≡ 3 = omega arith in rw e
-
-pub ruleset picking = (rules, word_fourth)
+word_there : (m : Sentence) (i : ℕ) → i < 4 → get_or m.words i Nothing ≡ word_of m i
+word_there m zero h = refl
+word_there m (suc zero) h = refl
+word_there m (suc (suc zero)) h = refl
+word_there m (suc (suc (suc i))) h = let e : i ≡ 0 = omega arith in rw e
 
 -- ---- one word, written
 
@@ -42,95 +40,39 @@ module _ (s c : List ℕ) (w : Word) (out : List ℕ) (at : ℕ) (stands : WordS
   pub nothing_put : w ≡ Nothing → Stored out at (word_text s c w) out at
   nothing_put e = let r = rw e at room in rw e (stored_none out at (omega arith))
 
-  module _ (p : ℕ) (e : w ≡ Name p) (v : List ℕ) (is : v ≡ word_at c p) where
-    pub name_room : at + length v ≤ length out
-    name_room = rw is (rw e at room)
-
-    pub name_put : {out' : List ℕ} {r : ℕ} → Stored out at v out' r → Stored out at (word_text s c w) out' r
-    name_put q = rw (e, ← is) q
-
-  module _ (t : Rich) (e : w ≡ Shown t) where
-    pub shown_room : at + length (display (rich_of s c t)) ≤ length out
-    shown_room = rw e at room
-
-    pub shown_put : {out' : List ℕ} {r : ℕ} → Stored out at (display (rich_of s c t)) out' r → Stored out at (word_text s c w) out' r
-    shown_put q = rw e q
-
-  module _ (p : ℕ) (e : w ≡ Joined p) where
-    pub joined_stands : SegmentsHere c p
-    joined_stands = (rw e at stands).0
-
-    pub joined_room : at + length (joined (segments_in c p)) ≤ length out
-    joined_room = rw e at room
-
-    pub joined_put : {out' : List ℕ} {r : ℕ} → Stored out at (joined (segments_in c p)) out' r → Stored out at (word_text s c w) out' r
-    joined_put q = rw e q
-
-pub ruleset putting = (rules, nothing_put, name_room, name_put, shown_room, shown_put, joined_stands, joined_room, joined_put)
+pub ruleset putting = (rules, nothing_put)
 
 -- a text, and the word behind it
-module _ (s c : List ℕ) (m : Sentence) (stands : Stands s c m) (i : ℕ) (few : i < 4) where
-  stands_at : (j : ℕ) → j < 4 → WordStands s c (word_of m j)
-  stands_at zero h = stands.first
-  stands_at (suc zero) h = stands.second
-  stands_at (suc (suc zero)) h = stands.third
-  stands_at (suc (suc (suc j))) h = let e : j ≡ 0 = omega arith in rw e stands.fourth
+module _ (s c : List ℕ) (m : Sentence) (i : ℕ) (few : i < 4) (w : Word) (there : w ≡ get_or m.words i Nothing) where
+  is : w ≡ word_of m i
+  is = there ∙ word_there m i few
 
-  module _ (w : Word) (is : w ≡ word_of m i) where
-    pub word_stands : WordStands s c w
-    word_stands = rw is (stands_at i few)
+  module _ (out : List ℕ) (at : ℕ) (out' : List ℕ) (next : ℕ) (put : Stored out at (part m.which i) out' next) where
+    pub word_put : {out'' : List ℕ} {r : ℕ} → Stored out' next (word_text s c w) out'' r → Stored out at (part m.which i ++ word_text s c (word_of m i)) out'' r
+    word_put q = stored_more put (rw is at q)
 
-    module _ (out : List ℕ) (at : ℕ) (room : at + length (part m.which i ++ word_text s c (word_of m i)) ≤ length out)
-        (out' : List ℕ) (next : ℕ) (put : Stored out at (part m.which i) out' next) where
-      pub word_room : next + length (word_text s c w) ≤ length out'
-      word_room = rw is (omega (arith, room, put.next, stored_length put, length-append (part m.which i) (word_text s c (word_of m i))))
-
-      pub word_put : {out'' : List ℕ} {r : ℕ} → Stored out' next (word_text s c w) out'' r → Stored out at (part m.which i ++ word_text s c (word_of m i)) out'' r
-      word_put q = stored_more put (rw is at q)
-
-  pub text_room : (out : List ℕ) (at : ℕ) → at + length (part m.which i ++ word_text s c (word_of m i)) ≤ length out → at + length (part m.which i) ≤ length out
-  text_room out at room = omega (arith, length-append (part m.which i) (word_text s c (word_of m i)))
-
-pub ruleset parting = (rules, word_stands, word_room, word_put, text_room)
+pub ruleset parting = (rules, word_put)
 
 -- ---- one word, measured
 
-pub name_sized : (c : List ℕ) → Bytes c → (at : ℕ) (w : List ℕ) → w ≡ word_at c at → Sized (word_at c at) (length w)
-name_sized c bytes at w is = record { is = ap length is; most = omega (arith, ap length is, word_short c bytes at) }
-
 module _ (s c : List ℕ) where
-  pub shown_counted : (t : Rich) → Small (rich_of s c t) → length (display (rich_of s c t)) < 18446744073709551616
+  shown_counted : (t : Rich) → Small (rich_of s c t) → length (display (rich_of s c t)) < 18446744073709551616
   shown_counted t small = text_counted Form.Display (rich_of s c t) small
 
-  pub shown_sized : (t : Rich) → Small (rich_of s c t) → (r : ℕ) → r ≡ length (display (rich_of s c t)) → Sized (display (rich_of s c t)) r
+  shown_sized : (t : Rich) → Small (rich_of s c t) → (r : ℕ) → r ≡ length (display (rich_of s c t)) → Sized (display (rich_of s c t)) r
   shown_sized t small r is = record { is = is; most = omega (arith, shown_short s c t small) }
 
-  module _ (w : Word) where
-    pub nothing_sized : w ≡ Nothing → Sized (word_text s c w) 0
-    nothing_sized e = rw e (record { is = refl; most = omega arith })
+  module _ (w : Word) (stands : WordStands s c w) (t : Rich) (e : w ≡ Shown t) where
+    shown_small : Small (rich_of s c t)
+    shown_small = rw e at stands
 
-    pub word_name : (p : ℕ) → w ≡ Name p → (r : ℕ) → Sized (word_at c p) r → Sized (word_text s c w) r
-    word_name p e r k = rw e k
+    pub shown_fits : length (display (rich_of s c t)) < 18446744073709551616
+    shown_fits = shown_counted t shown_small
 
-    module _ (stands : WordStands s c w) where
-      module _ (t : Rich) (e : w ≡ Shown t) where
-        pub shown_small : Small (rich_of s c t)
-        shown_small = rw e at stands
+    pub word_shown : (r : ℕ) → r ≡ length (display (rich_of s c t)) → Sized (word_text s c w) r
+    word_shown r is = rw e (shown_sized t shown_small r is)
 
-        pub word_shown : (r : ℕ) → Sized (display (rich_of s c t)) r → Sized (word_text s c w) r
-        word_shown r k = rw e k
-
-      module _ (p : ℕ) (e : w ≡ Joined p) where
-        pub segments_stand : SegmentsHere c p
-        segments_stand = (rw e at stands).0
-
-        pub record_short : length c ≤ 32768
-        record_short = (rw e at stands).1
-
-        pub word_joined : (r : ℕ) → Sized (joined (segments_in c p)) r → Sized (word_text s c w) r
-        word_joined r k = rw e k
-
-pub ruleset sizing = (rules, name_sized, shown_counted, shown_sized, nothing_sized, word_name, shown_small, word_shown, segments_stand, record_short, word_joined)
+pub ruleset sizing = (rules, shown_fits, word_shown)
 
 -- ---- a message, written
 
@@ -154,15 +96,19 @@ module _ (s c : List ℕ) (m : Sentence) (n : ℕ) (count : n ≡ words m.which)
         pub turn_done : {now' : List ℕ} {at' : ℕ} → Stored now at (part m.which i ++ word_text s c (word_of m i)) now' at' → Composing m.which (quoted s c m) old start now' at' (i + 1)
         turn_done p = composing_turn m.which (quoted s c m) (quoted_count s c m) old start room now at i k turn_inside (rw (← quoted_word s c m i turn_inside) at p)
 
-      module _ (h : n ≤ i) where
-        pub last_inside : i ≤ words m.which
-        last_inside = k.inside
+      -- all of them are written: i, which is no more than n, is n
+      module _ (h : n ≤ i) (end : i ≤ n) where
+        all : i ≡ n
+        all = omega arith
 
-        pub piece_room : at + length (part m.which i) ≤ length now
-        piece_room = last_room m.which (quoted s c m) (quoted_count s c m) old start room now at i k (omega arith)
+        pub last_inside : n ≤ words m.which
+        last_inside = omega arith
 
-        pub all_written : {now' : List ℕ} {at' : ℕ} → Stored now at (part m.which i) now' at' → Stored old start (text_of s c m) now' at'
-        all_written p = composing_over m.which (quoted s c m) (quoted_count s c m) old start room now at i k (omega arith) p
+        pub piece_room : at + length (part m.which n) ≤ length now
+        piece_room = rw (← all) (last_room m.which (quoted s c m) (quoted_count s c m) old start room now at i k (omega arith))
+
+        pub all_written : {now' : List ℕ} {at' : ℕ} → Stored now at (part m.which n) now' at' → Stored old start (text_of s c m) now' at'
+        all_written p = composing_over m.which (quoted s c m) (quoted_count s c m) old start room now at i k (omega arith) (rw (← all) at p)
 
 pub ruleset writing = (rules, writing_begins, turn_inside, turn_few, turn_room, turn_done, last_inside, piece_room, all_written)
 
@@ -182,18 +128,21 @@ module _ (s c : List ℕ) (m : Sentence) (n : ℕ) (count : n ≡ words m.which)
   }
 
   module _ (size i : ℕ) (k : Measuring s c m size i) where
-    module _ (h : i < n) where
-      pub measured_few : i < 4
-      measured_few = omega (arith, words_few m.which)
+    module _ (h : i < length (take n m.words)) where
+      counted : i < n
+      counted = omega (arith, length-take n m.words)
 
-      module _ (w : Word) (is : w ≡ word_of m i) (r : ℕ) (sized : Sized (word_text s c w) r) where
+      there : get_or (take n m.words) i Nothing ≡ word_of m i
+      there = get_or-take n m.words i Nothing counted ∙ word_there m i (omega (arith, words_few m.which, counted))
+
+      module _ (r : ℕ) (sized : Sized (word_text s c (get_or (take n m.words) i Nothing)) r) where
         pub size_fits : Fits w64 (size + r)
-        size_fits = Fits-under w64 (size + r) 200000 (omega (arith, words_few m.which, k.below, k.inside, sized.most)) tt
+        size_fits = Fits-under w64 (size + r) 200000 (omega (arith, words_few m.which, k.below, counted, sized.most)) tt
 
         pub measuring_turn : Measuring s c m (size + r) (i + 1)
         measuring_turn =
-            let inside : i < words m.which = omega arith in
-            let long : r ≡ length (get_or (quoted s c m) i []) = sized.is ∙ ap (λ (v : Word). length (word_text s c v)) is ∙ ap length (sym (quoted_word s c m i inside)) in
+            let inside : i < words m.which = omega (arith, counted) in
+            let long : r ≡ length (get_or (quoted s c m) i []) = sized.is ∙ ap (λ (v : Word). length (word_text s c v)) there ∙ ap length (sym (quoted_word s c m i inside)) in
             let parts : sum_of length (drop i (quoted s c m)) ≡ length (get_or (quoted s c m) i []) + sum_of length (drop (suc i) (quoted s c m)) =
             ap (sum_of length) (drop-cons (quoted s c m) i [] (omega (arith, quoted_count s c m))) in
             rw add-one (record {
@@ -202,7 +151,9 @@ module _ (s c : List ℕ) (m : Sentence) (n : ℕ) (count : n ≡ words m.which)
               inside = inside;
             })
 
-    pub measured : n ≤ i → size ≡ length (text_of s c m)
-    measured h = omega (arith, k.same, ap (sum_of length) (drop_of_length-le (quoted s c m) {i = i} (omega (arith, quoted_count s c m))))
+    pub measured : length m.words ≡ 4 → length (take n m.words) ≤ i → size ≡ length (text_of s c m)
+    measured four h =
+        let over : n ≤ i = omega (arith, length-take n m.words, words_few m.which) in
+        omega (arith, k.same, ap (sum_of length) (drop_of_length-le (quoted s c m) {i = i} (omega (arith, quoted_count s c m))))
 
-pub ruleset measuring = (rules, word_stands, measuring_begins, measured_few, size_fits, measuring_turn, measured)
+pub ruleset measuring = (rules, measuring_begins, size_fits, measuring_turn, measured)

@@ -1,5 +1,5 @@
 -- What a word of a message is, and a message with its words: their bytes, given those of the schema s and of the condition c.
-use Rattle.std.specs.Prelude.{List, [], ◌∷◌, map, ◌≡◌, ℕ, ◌+◌, ◌≤◌, ◌<◌, length, get_or, take}
+use Rattle.std.specs.Prelude.{Option, None, Some, List, [], ◌∷◌, map, ◌≡◌, ℕ, ◌+◌, ◌≤◌, ◌<◌, length, get_or, take}
 use Rattle.names.specs.Names.{joined}
 use Rattle.names.specs.Read.{word_at}
 use Rattle.types.specs.Types.{display}
@@ -15,7 +15,6 @@ use Rattle.reports.specs.Reports.{Breach}
 use Rattle.messages.specs.declared.Word.{Word}
 use Rattle.messages.specs.declared.Word.TheVariants.{Nothing, Name, Shown, Joined}
 use Rattle.messages.specs.declared.Sentence.{Sentence}
-use Rattle.messages.specs.declared.Said.{Said}
 
 abbrev pub word_text : List ℕ → List ℕ → Word → List ℕ
 word_text s c Nothing = []
@@ -24,7 +23,7 @@ word_text s c (Shown t) = display (rich_of s c t)
 word_text s c (Joined p) = joined (segments_in c p)
 
 abbrev pub words_of : Sentence → List Word
-words_of m = m.first ∷ m.second ∷ m.third ∷ m.fourth ∷ []
+words_of m = get_or m.words 0 Nothing ∷ get_or m.words 1 Nothing ∷ get_or m.words 2 Nothing ∷ get_or m.words 3 Nothing ∷ []
 
 abbrev pub word_of : Sentence → ℕ → Word
 word_of m i = get_or (words_of m) i Nothing
@@ -54,27 +53,30 @@ WordStands s c (Shown t) = Small (rich_of s c t)
 WordStands s c (Joined p) = SegmentsHere c p × (length c ≤ 32768)
 
 pub record Stands (s c : List ℕ) (m : Sentence) : Type 0 where
-  pub first : WordStands s c m.first
-  pub second : WordStands s c m.second
-  pub third : WordStands s c m.third
-  pub fourth : WordStands s c m.fourth
+  pub first : WordStands s c (word_of m 0)
+  pub second : WordStands s c (word_of m 1)
+  pub third : WordStands s c (word_of m 2)
+  pub fourth : WordStands s c (word_of m 3)
   pub below : most m < 65536
 
--- a message that is said
+-- what is said of something: nothing, or a message
+abbrev pub Said : Type 0
+Said = Option Sentence
+
 abbrev pub say : Message → Word → Word → Word → Word → Said
-say which a b c d = Said.Message (record { which = which; first = a; second = b; third = c; fourth = d })
+say which a b c d = Some (record { which = which; words = a ∷ b ∷ c ∷ d ∷ [] })
 
 -- A rule: what is broken at a span. What is said is one, and stands.
 abbrev pub Rule : Type 0
 Rule = Span → List Breach
 
 abbrev pub said_breaches : List ℕ → List ℕ → Said → Rule
-said_breaches s c Said.Nothing at = []
-said_breaches s c (Said.Message m) at = record { start = at.start; end = at.end; message = text_of s c m } ∷ []
+said_breaches s c None at = []
+said_breaches s c (Some m) at = record { start = at.start; end = at.end; message = text_of s c m } ∷ []
 
 abbrev pub SaidStands : List ℕ → List ℕ → Said → Type 0
-SaidStands s c Said.Nothing = Unit {0}
-SaidStands s c (Said.Message m) = Stands s c m
+SaidStands s c None = Unit {0}
+SaidStands s c (Some m) = Stands s c m
 
 -- what a judgement ensures: wherever it is reported, what it says is what the rule says
 pub record Tells (s c : List ℕ) (rule : Rule) (r : Said) : Type 0 where

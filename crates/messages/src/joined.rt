@@ -26,11 +26,9 @@ fn put_segments(out: &mut [u8], start: usize, s: &[u8], count: usize, first: usi
 {
     let mut next = start;
     let mut at = first;
-    let mut rest = count;
-    while 0 < rest {
+    for _ in 0..count {
         next = put_behind(out, next, names::word(s, at));
         at = names::past_word(s, at);
-        rest -= 1;
     }
     next
 }
@@ -55,7 +53,8 @@ fn size_between(first: usize, end: usize, count: usize) -> usize
     (end - first - 1) + (count - 1)
 }
 
-// How many bytes the joined segments have: they stand one behind the other, each behind its length byte.
+// How many bytes the joined segments have: they stand one behind the other, each behind its length byte, so the two places tell and
+// no length is added up.
 pub fn joined_size(s: &[u8], segments: usize) -> usize
     requires segments_here { SegmentsHere s.now segments }
     requires s_len_bound { length s.now ≤ 32768 }
@@ -64,7 +63,7 @@ pub fn joined_size(s: &[u8], segments: usize) -> usize
     let first = segments + 1;
     let count = names::wide(s[segments]);
     let read = names::read_strings(s, segments, Class::Identifier);
-    let Read::Next(end) = read else {
+    let Ok(end) = read else {
         return 0;
     };
     size_between(first, end, count)

@@ -29,15 +29,5 @@ pub enum Word {
 #[derive(Clone, Copy)]
 pub struct Sentence {
     pub which: Message,
-    pub first: Word,
-    pub second: Word,
-    pub third: Word,
-    pub fourth: Word,
-}
-
-// What is said of something: nothing, or a message.
-#[derive(Clone, Copy)]
-pub enum Said {
-    Nothing,
-    Message(Sentence),
+    pub words: [Word; 4],
 }

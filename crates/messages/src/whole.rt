@@ -3,20 +3,17 @@ ghost use Rattle.std.specs.Prelude.{◌≡◌, ◌+◌, ◌≤◌, length};
 ghost use Rattle.names.specs.Writer.{Stored};
 ghost use Rattle.messages.specs.Words.{text_of, Stands, say};
 
-use crate::words::{put_part, word_of, word_size};
-use crate::{Said, Sentence, Word};
+use crate::words::{put_part, word_size};
+use crate::{Sentence, Word};
 use reports::Message;
 
 // A message is said.
-pub fn say(which: Message, first: Word, second: Word, third: Word, fourth: Word) -> Said
+pub fn say(which: Message, first: Word, second: Word, third: Word, fourth: Word) -> Option<Sentence>
     ensures { result ≡ say which first second third fourth }
 {
-    Said::Message(Sentence {
+    Some(Sentence {
         which,
-        first,
-        second,
-        third,
-        fourth,
+        words: [first, second, third, fourth],
     })
 }
 
@@ -34,12 +31,10 @@ pub fn put_message<'a>(
     let which = m.which;
     let count = reports::word_count(which);
     let mut at = start;
-    let mut i = 0;
-    while i < count {
+    for i in 0..count {
         at = put_part(out, at, schema, condition, m, i);
-        i += 1;
     }
-    reports::put_piece(out, at, which, i)
+    reports::put_piece(out, at, which, count)
 }
 
 pub fn message_size<'a>(schema: &'a [u8], condition: &'a [u8], m: Sentence) -> usize
@@ -49,10 +44,8 @@ pub fn message_size<'a>(schema: &'a [u8], condition: &'a [u8], m: Sentence) -> u
     let which = m.which;
     let count = reports::word_count(which);
     let mut size = reports::text_size(which);
-    let mut i = 0;
-    while i < count {
-        size += word_size(schema, condition, word_of(m, i));
-        i += 1;
+    for word in &m.words[..count] {
+        size += word_size(schema, condition, *word);
     }
     size
 }

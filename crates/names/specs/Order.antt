@@ -1,9 +1,9 @@
 -- The answers of a comparison, in numbers.
 use Rattle.std.specs.Prelude.{ℕ}
-use Rattle.names.specs.declared.Order.{Order}
-use Rattle.names.specs.declared.Order.TheVariants.{Less, Same, More}
+use Rattle.std.specs.declared.cmp.Ordering.{Ordering}
+use Rattle.std.specs.declared.cmp.Ordering.TheVariants.{Less, Equal, Greater}
 
-abbrev pub order_number : Order → ℕ
+abbrev pub order_number : Ordering → ℕ
 order_number Less = 0
-order_number Same = 1
-order_number More = 2
+order_number Equal = 1
+order_number Greater = 2

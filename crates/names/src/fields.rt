@@ -7,13 +7,13 @@ ghost use Rattle.names.specs.Read.{ending, read_number, word_at};
 
 use crate::bytewise::same;
 use crate::classes::in_class;
-use crate::{Class, Read};
+use crate::{Class, Read, Refusal};
 
 pub fn wide(b: u8) -> usize
     ensures value { result ≡ b }
     ensures upper_bound { result < 256 }
 {
-    b as usize
+    usize::from(b)
 }
 
 // A string field of a class.
@@ -21,18 +21,18 @@ pub fn read_string(s: &[u8], at: usize, class: Class) -> Read
     ensures { result ≡ ending (string_of (class_of class) s.now at) }
 {
     if s.len() <= at {
-        return Read::Refused(2);
+        return Err(Refusal::Cut);
     }
     let n = wide(s[at]);
     let b = at + 1;
     if s.len() - b < n {
-        return Read::Refused(2);
+        return Err(Refusal::Cut);
     }
     let e = b + n;
     if in_class(class, &s[b..e]) {
-        Read::Next(e)
+        Ok(e)
     } else {
-        Read::Refused(6)
+        Err(Refusal::OutsideClass)
     }
 }
 
@@ -41,19 +41,13 @@ pub fn read_strings(s: &[u8], start: usize, class: Class) -> Read
     ensures { result ≡ ending (counted (each (string_of (class_of class))) s.now start) }
 {
     if s.len() <= start {
-        return Read::Refused(2);
+        return Err(Refusal::Cut);
     }
-    let mut rest = wide(s[start]);
     let mut at = start + 1;
-    while 0 < rest {
-        let string = read_string(s, at, class);
-        let Read::Next(n) = string else {
-            return string;
-        };
-        at = n;
-        rest -= 1;
+    for _ in 0..wide(s[start]) {
+        at = read_string(s, at, class)?;
     }
-    Read::Next(at)
+    Ok(at)
 }
 
 // A path: an 8-bit count of plain strings.
@@ -67,14 +61,8 @@ pub fn read_path(s: &[u8], at: usize) -> Read
 pub fn part_of(s: &[u8], at: usize, len: usize) -> &[u8]
     ensures { result.now ≡ take len (drop at s.now) }
 {
-    if s.len() <= at {
-        return &s[..0];
-    }
-    if s.len() - at <= len {
-        return &s[at..];
-    }
-    let end = at + len;
-    &s[at..end]
+    let rest = &s[at.min(s.len())..];
+    &rest[..len.min(rest.len())]
 }
 
 // The string whose length byte stands at `at`, as far as there are so many bytes.
@@ -82,11 +70,10 @@ pub fn word(s: &[u8], at: usize) -> &[u8]
     ensures result_value { result.now ≡ word_at s.now at }
     ensures result_len_bound { length result.now ≤ 255 }
 {
-    if s.len() <= at {
-        return &s[..0];
-    }
-    let n = wide(s[at]);
-    part_of(s, at + 1, n)
+    let Some(len) = s.get(at) else {
+        return &[];
+    };
+    part_of(s, at + 1, wide(*len))
 }
 
 // Where the byte after the string at `at` stands.
@@ -101,15 +88,10 @@ pub fn past_word(s: &[u8], at: usize) -> usize
 pub fn word_after(s: &[u8], at: usize) -> &[u8]
     ensures { result.now ≡ word_at s.now (at + 1 + get_or s.now at 0) }
 {
-    if s.len() <= at {
-        return &s[..0];
-    }
-    let n = wide(s[at]);
-    let b = at + 1;
-    if s.len() - b < n {
-        return &s[..0];
-    }
-    word(s, b + n)
+    let Some(len) = s.get(at) else {
+        return &[];
+    };
+    word(s, at + 1 + wide(*len))
 }
 
 // The byte at `at`, 0 past the end.
@@ -117,32 +99,18 @@ pub fn byte_at(s: &[u8], at: usize) -> usize
     ensures value { result ≡ get_or s.now at 0 }
     ensures upper_bound { result < 256 }
 {
-    if s.len() <= at {
-        return 0;
-    }
-    wide(s[at])
-}
-
-fn pair(high: usize, low: usize) -> usize
-    requires { (high < 256) × (low < 256) }
-    ensures { result ≡ high * 256 + low }
-{
-    high * 256 + low
+    s.get(at).map_or(0, |b| wide(*b))
 }
 
 // The 16-bit number at `at`, of the bytes that there are.
 pub fn u16_at(s: &[u8], at: usize) -> usize
     ensures { result ≡ number 0 (take 2 (drop at s.now)) }
 {
-    if s.len() <= at {
-        return 0;
+    match part_of(s, at, 2) {
+        [high, low] => usize::from(u16::from_be_bytes([*high, *low])),
+        [only] => wide(*only),
+        _ => 0,
     }
-    let high = wide(s[at]);
-    let next = at + 1;
-    if s.len() <= next {
-        return high;
-    }
-    pair(high, wide(s[next]))
 }
 
 // So many bytes.
@@ -150,12 +118,12 @@ fn read_bytes(s: &[u8], at: usize, n: usize) -> Read
     ensures { result ≡ ending (bytes n s.now at) }
 {
     if s.len() < at {
-        return Read::Refused(2);
+        return Err(Refusal::Cut);
     }
     if s.len() - at < n {
-        return Read::Refused(2);
+        return Err(Refusal::Cut);
     }
-    Read::Next(at + n)
+    Ok(at + n)
 }
 
 // An 8-bit number.
@@ -163,15 +131,9 @@ pub fn read_u8(s: &[u8], at: usize) -> Read
     ensures { result ≡ ending (u8 s.now at) }
 {
     if s.len() <= at {
-        return Read::Refused(2);
+        return Err(Refusal::Cut);
     }
-    Read::Next(at + 1)
-}
-
-fn wide32(b: u8) -> u32
-    ensures { (result ≡ b) × (result < 256) }
-{
-    b as u32
+    Ok(at + 1)
 }
 
 // The 32-bit number at `at`.
@@ -179,10 +141,7 @@ pub fn u32_at(s: &[u8], at: usize) -> u32
     requires { at + 4 ≤ length s.now }
     ensures { result ≡ number 0 (take 4 (drop at s.now)) }
 {
-    wide32(s[at]) * 16777216
-        + wide32(s[at + 1]) * 65536
-        + wide32(s[at + 2]) * 256
-        + wide32(s[at + 3])
+    u32::from_be_bytes([s[at], s[at + 1], s[at + 2], s[at + 3]])
 }
 
 pub fn read_u16(s: &[u8], at: usize) -> Read
@@ -203,23 +162,20 @@ pub fn read_heading(s: &[u8], mark: &[u8], newest: usize) -> Read
 {
     let n = mark.len();
     if s.len() < n {
-        return Read::Refused(2);
+        return Err(Refusal::Cut);
     }
     if same(&s[..n], mark) {
-        let version = read_u16(s, n);
-        let Read::Next(m) = version else {
-            return version;
-        };
+        let m = read_u16(s, n)?;
         let number = u16_at(s, n);
         if number == 0 {
-            return Read::Refused(4);
+            return Err(Refusal::OtherVersion);
         }
         if number <= newest {
-            return Read::Next(m);
+            return Ok(m);
         }
-        return Read::Refused(4);
+        return Err(Refusal::OtherVersion);
     }
-    Read::Refused(3)
+    Err(Refusal::OtherMark)
 }
 
 // The front of a record: at most 32,768 bytes, a mark and a version that is known.
@@ -227,7 +183,7 @@ pub fn read_start(s: &[u8], mark: &[u8], newest: usize) -> Read
     ensures { result ≡ ending (whole (heading mark.now newest) s.now) }
 {
     if 32768 < s.len() {
-        return Read::Refused(1);
+        return Err(Refusal::TooLong);
     }
     read_heading(s, mark, newest)
 }
@@ -237,9 +193,9 @@ pub fn read_end(s: &[u8], at: usize) -> Read
     ensures { result ≡ ending (finished at s.now at) }
 {
     if at == s.len() {
-        return Read::Next(at);
+        return Ok(at);
     }
-    Read::Refused(10)
+    Err(Refusal::BytesAfter)
 }
 
 // The number of the refusal, 0 for none.
@@ -247,7 +203,7 @@ pub fn refusal_number(read: Read) -> u8
     ensures { result ≡ read_number read }
 {
     match read {
-        Read::Next(n) => 0,
-        Read::Refused(number) => number,
+        Ok(_) => 0,
+        Err(refusal) => u8::from(refusal),
     }
 }

@@ -4,6 +4,7 @@
 mod bytewise;
 mod classes;
 mod fields;
+mod refusal;
 mod simple;
 mod writer;
 
@@ -14,15 +15,12 @@ pub use fields::{
     read_strings, read_u8, read_u16, read_u32, refusal_number, u16_at, u32_at, wide, word,
     word_after,
 };
+pub use refusal::Refusal;
 pub use simple::{simple_name, simple_start};
 pub use writer::{put, put_u16, put_u32, put_u64};
 
-// Where the next byte stands, or the number of the refusal.
-#[derive(Clone, Copy)]
-pub enum Read {
-    Next(usize),
-    Refused(u8),
-}
+// Where the next byte stands, or what the bytes are refused for.
+pub type Read = Result<usize, Refusal>;
 
 // What a string may be.
 #[derive(Clone, Copy)]
@@ -34,34 +32,12 @@ pub enum Class {
 }
 
 // Where a byte of a path name stands: at the start of an identifier, inside one, between two colons; in no path name.
-#[derive(Clone, Copy)]
+#[derive(Clone, Copy, PartialEq, Eq)]
 pub enum Place {
     Start,
     Inside,
     Colon,
     Nowhere,
-}
-
-// How two strings stand to each other, bytewise.
-#[derive(Clone, Copy)]
-pub enum Order {
-    Less,
-    Same,
-    More,
-}
-
-// The name before, by the position of its length byte.
-#[derive(Clone, Copy)]
-pub enum Before {
-    Nothing,
-    At(usize),
-}
-
-// What a lookup gives: the position of what was found.
-#[derive(Clone, Copy)]
-pub enum Found {
-    At(usize),
-    Absent,
 }
 
 // So many things, one after another from a position.

@@ -8,12 +8,10 @@ use native.Mathlib.Omega.{arith}
 use borrow.Author.Rules.{rules}
 use borrow.Author.Tests.{le-leb, lt-leb}
 use lib.ListN.{length, get_or}
-use Rattle.names.specs.declared.Read.{Read}
-use Rattle.names.specs.declared.Read.TheVariants.{Next}
 use Rattle.names.specs.Fields.{Got, got, Reader, many, each, counted, string_of, levels}
 use Rattle.names.specs.Names.{plain, path_name}
 use Rattle.names.specs.Paths.{path_of}
-use Rattle.names.specs.Read.{ending, accepted, row, is_row}
+use Rattle.names.specs.Read.{ending, accepted, row, is_row, Read}
 use Rattle.names.specs.Laws.Readers.{Keeps, u8_got, string_got, string_view, StringView, accept, Accepted, is_accepted, passes}
 use Rattle.names.specs.Laws.Rows.{Opens, opens, row_cons, counted_view, counted_start, each_done, each_turn}
 use Rattle.condition.specs.Places.{version_in, term_here, is_term, term_in, is_path}
@@ -27,8 +25,9 @@ use Rattle.nodes.specs.Laws.Views.{PartView, entity_view}
 use Rattle.nodes.specs.Laws.Given.{not_given, Said, is_given, EntityView, entity_parts}
 use Rattle.nodes.specs.Laws.Opens.{Stands, term_stands, raw_term, skipped_term}
 use Rattle.nodes.specs.Laws.Pieces.{skipped_names, skipped_path, context_path, scope_path}
+use Rattle.std.specs.Prelude.{Ok}
 
-ended : {A : Type 0} {g : Got A} {a : A} {n : ℕ} → g ≡ got a n → ending g ≡ Next n
+ended : {A : Type 0} {g : Got A} {a : A} {n : ℕ} → g ≡ got a n → ending g ≡ Ok n
 unfolding ending
 ended e = rw e
 
@@ -67,19 +66,20 @@ module _ (s : List ℕ) (start : ℕ) (is : accepted (strings_at s start) ≡ tr
   unfolding strings_at
   strings_index = (counted_view any s start (accept _ is).read).inside
 
-  pub strings_begin : (n : ℕ) → n ≡ get_or s start 0 → StringsPast s (ending (strings_at s start)) n (start + 1)
+  pub strings_begin : (n : ℕ) → n ≡ get_or s start 0 → StringsPast s (ending (strings_at s start)) (n - 0) (start + 1)
   unfolding strings_at
   strings_begin n e =
       let v = counted_view any s start (accept _ is).read in
-      record { stands = rw e (is_accepted v.read); same = counted_start any s start n v.inside e }
+      let all : n - 0 ≡ n = omega arith in
+      record { stands = rw (all, e) (is_accepted v.read); same = rw all (counted_start any s start n v.inside e) }
 
-module _ (s : List ℕ) (whole : Read) (n at : ℕ) (p : StringsPast s whole n at) where
-  pub strings_done : n ≤ 0 → Next at ≡ whole
-  strings_done h = each_done any s whole n at p.same h
+module _ (s : List ℕ) (whole : Read) (end i at : ℕ) (p : StringsPast s whole (end - i) at) where
+  pub strings_done : end ≤ i → Ok at ≡ whole
+  strings_done h = each_done any s whole end i at p.same h
 
-  module _ (h : 0 < n) where
-    head : Opens any s n at (accept _ p.stands).value (accept _ p.stands).place
-    head = opens any s n at h (accept _ p.stands).read
+  module _ (h : i < end) where
+    head : Opens any s (end - i) at (accept _ p.stands).value (accept _ p.stands).place
+    head = opens any s (end - i) at (omega arith) (accept _ p.stands).read
 
     word : StringView (λ w. true) s at head.own head.p
     word = string_view (λ w. true) s at head.here
@@ -87,11 +87,12 @@ module _ (s : List ℕ) (whole : Read) (n at : ℕ) (p : StringsPast s whole n a
     pub string_inside : at + 1 + get_or s at 0 ≤ length s
     string_inside = rw (← word.place) word.inside
 
-    pub strings_turn : (m : ℕ) → m ≡ at + 1 + get_or s at 0 → StringsPast s whole (n - 1) m
+    pub strings_turn : (m : ℕ) → m ≡ at + 1 + get_or s at 0 → StringsPast s whole (end - (i + 1)) m
     strings_turn m e =
+        let left : end - (i + 1) ≡ (end - i) - 1 = omega arith in
         let q : m ≡ head.p = e ∙ sym word.place in
-        let i : Next m ≡ ending (any s at) = ap Next q ∙ sym (ended head.here) in
-        record { stands = rw q (is_accepted head.rest); same = each_turn any s whole n at p.same h (Next m) i m refl }
+        let read : Ok m ≡ ending (any s at) = ap Ok q ∙ sym (ended head.here) in
+        record { stands = rw (left, q) (is_accepted head.rest); same = each_turn any s whole end i at p.same h (Ok m) read m refl }
 
 pub ruleset along_strings = (rules, strings_index, strings_begin, strings_done, string_inside, strings_turn)
 
@@ -108,16 +109,16 @@ module _ (s : List ℕ) (at : ℕ) where
   pub names_strings : accepted (counted (each (string_of path_name)) s at) ≡ true → accepted (strings_at s at) ≡ true
   names_strings is = is_accepted (these path_name is)
 
-  pub names_past : accepted (counted (each (string_of path_name)) s at) ≡ true → (n : ℕ) → Next n ≡ ending (strings_at s at) → Skipped (counted (each (string_of path_name)) s at) at n
-  names_past is n e = skipped_names s at (Next n) n is (e ∙ ends_alike path_name is) refl
+  pub names_past : accepted (counted (each (string_of path_name)) s at) ≡ true → (n : ℕ) → Ok n ≡ ending (strings_at s at) → Skipped (counted (each (string_of path_name)) s at) at n
+  names_past is n e = skipped_names s at (Ok n) n is (e ∙ ends_alike path_name is) refl
 
   pub path_strings : is_path s at ≡ true → accepted (strings_at s at) ≡ true
   unfolding path_of
   path_strings is = is_accepted (these plain is)
 
-  pub path_past : is_path s at ≡ true → (n : ℕ) → Next n ≡ ending (strings_at s at) → Skipped (path_of s at) at n
+  pub path_past : is_path s at ≡ true → (n : ℕ) → Ok n ≡ ending (strings_at s at) → Skipped (path_of s at) at n
   unfolding path_of
-  path_past is n e = skipped_path s at (Next n) n is (e ∙ ends_alike plain is) refl
+  path_past is n e = skipped_path s at (Ok n) n is (e ∙ ends_alike plain is) refl
 
 pub ruleset by_strings = (rules, names_strings, names_past, path_strings, path_past)
 
@@ -140,7 +141,7 @@ module _ (s : List ℕ) (at : ℕ) (acc : accepted (entity_fields (version_in s)
     pub name_past : v ≤ 2 → Skipped (entity_fields (version_in s) s at) at m
     name_past h =
         let i = not_given (version_in s) (string_of plain) s parts.middle (rw (← is) (le-leb v 2 h)) parts.further in
-        record { ends = ended stood.read ∙ ap Next (i ∙ middle-is); ahead = omega arith }
+        record { ends = ended stood.read ∙ ap Ok (i ∙ middle-is); ahead = omega arith }
 
     module _ (h : 2 < v) where
       said : Said (string_of plain) s parts.middle parts.id stood.place
@@ -153,7 +154,7 @@ module _ (s : List ℕ) (at : ℕ) (acc : accepted (entity_fields (version_in s)
       id_inside = rw (← id_view.place) id_view.inside
 
       pub id_past : (n : ℕ) → n ≡ m + 1 + get_or s m 0 → Skipped (entity_fields (version_in s) s at) at n
-      id_past n i = record { ends = ended stood.read ∙ ap Next (id_view.place ∙ sym i); ahead = omega arith }
+      id_past n i = record { ends = ended stood.read ∙ ap Ok (id_view.place ∙ sym i); ahead = omega arith }
 
 pub ruleset past_entities = (rules, name_inside, name_past, id_inside, id_past)
 
@@ -171,7 +172,7 @@ module _ (s : List ℕ) (at : ℕ) (acc : is_term s at ≡ true) (k : ℕ) (o : 
     word_inside = rw (← view.place) view.inside
 
     word_past : (n : ℕ) → n ≡ p + 1 + get_or s p 0 → Skipped (term_here s at) at n
-    word_past n e = record { ends = sym i ∙ ended own.read ∙ ap Next (view.place ∙ sym e); ahead = omega (arith, term_place s at p place) }
+    word_past n e = record { ends = sym i ∙ ended own.read ∙ ap Ok (view.place ∙ sym e); ahead = omega (arith, term_place s at p place) }
 
   module _ (is : k ≡ 1) where
     named : PartView (entity_fields (version_in s)) entity s at (term_in s at) (term_stands s at acc).end

@@ -1,5 +1,5 @@
 -- The aggregates and the leaves of terms in a row, one after another, and the aggregates of a comparison's operands. Assumes nothing.
-use mathlib.Core.Path.{◌≡◌, refl, sym, ap, ◌∙◌}
+use mathlib.Core.Path.{◌≡◌, refl, sym, ap, ap₂, ◌∙◌}
 use mathlib.Core.Bool.{true}
 use mathlib.Core.List.{List, [], ◌∷◌, ◌++◌, append_assoc, append-nil}
 use mathlib.Core.Option.{Option}
@@ -21,10 +21,13 @@ use Rattle.nodes.specs.Kinds.{kind_of, span_of, term_kind_of}
 use Rattle.nodes.specs.Offsets.{first_part, term_part, left_part}
 use Rattle.nodes.specs.Laws.Inside.{place_compared, left_place, aggregate_inside}
 use Rattle.nodes.specs.Looked.{Skipped, TermKindHere}
-use Rattle.nodes.specs.Parts.{is_terms, aggregates_in, AggregateNext, OperandsHere, operand_leaves, leaves_in, LeafNext}
+use Rattle.nodes.specs.Parts.{is_terms, aggregates_in, AggregateNext, OperandsHere, operand_leaves, leaves_in, LeafNext, NextLeafIs, NextPart}
 use Rattle.nodes.specs.Laws.Opens.{term_there, Stands, stood, ends_at, term_stands, term_index, arith_here, comparison_here}
 use Rattle.nodes.specs.Laws.Pieces.{term_ahead}
-use Rattle.nodes.specs.Laws.Leaves.{leaf_itself}
+use Rattle.nodes.specs.Laws.Leaves.{leaf_itself, leaves_gather}
+use Rattle.nodes.specs.declared.Several.{Several}
+use Rattle.names.specs.Laws.Lists.{gather_append}
+use Rattle.std.specs.Prelude.{None}
 
 -- an operand that is no aggregate and no arithmetic has none
 no_aggregates : (x : Term) → (term_kind_of x ≡ 12 → ⊥) → (term_kind_of x ≡ 11 → ⊥) → operand_aggregates x ≡ []
@@ -126,52 +129,89 @@ module _ {A : Type 0} (g : Term → List A) where
                 ∙ sym (parted ∙ ap (λ t. g t ++ gather g first.others) v.whole ∙ ap (λ l. l ++ gather g first.others) (splits v.op v.left v.right));
           })
 
--- The aggregates.
-pub aggregates_left : (s : List ℕ) (n at : ℕ) → is_terms s n at ≡ true → TermsLeft operand_aggregates s (aggregates_in s n at) n at
-unfolding aggregates_in
-aggregates_left s n at acc = terms_left operand_aggregates s n at acc
+-- The leaves.
+module _ (s : List ℕ) (n at : ℕ) (acc : is_terms s n at ≡ true) where
+  pub no_leaves : n ≡ 0 → leaves_in s n at ≡ []
+  unfolding leaves_in
+  no_leaves e = none_left operand_leaves s (leaves_in s n at) n at (terms_left operand_leaves s n at acc) (omega arith)
 
-module _ (s : List ℕ) (list : List Aggregate) (n at : ℕ) (inv : TermsLeft operand_aggregates s list n at) (h : 0 < n) (k : ℕ) (o : TermKindHere s at k) where
-  module _ (m : ℕ) (z : Skipped (term_here s at) at m) where
-    pub found_next : k ≡ 11 → (p : ℕ) → p ≡ term_part s at → AggregateNext s list p (record { count = n - 1; first = m })
-    unfolding operand_aggregates aggregates_in
-    found_next is p place = let here = aggregate_inside s at (first_stands operand_aggregates s list n at inv h) p place k o is in record {
-      stands = here.stands;
-      others = others_stand operand_aggregates s list n at inv h m z;
-      value = others_are operand_aggregates s list n at inv h m z ∙ ap (λ t. operand_aggregates t ++ parts_in operand_aggregates s (n - 1) m) here.value;
-    }
+  pub leaves_left : (n ≡ 0 → ⊥) → TermsLeft operand_leaves s (leaves_in s n at) (n - 1 + 1) at
+  unfolding leaves_in
+  leaves_left h = let e : n - 1 + 1 ≡ n = omega arith in rw e (terms_left operand_leaves s n at acc)
 
-    pub bare_turn : (k ≡ 11 → ⊥) → (k ≡ 12 → ⊥) → TermsLeft operand_aggregates s list (n - 1) m
-    bare_turn i j =
-        let others = others_stand operand_aggregates s list n at inv h m z in
+module _ (s : List ℕ) (list : List Term) (n at : ℕ) (inv : TermsLeft operand_leaves s list (n + 1) at) where
+  pub leaf_first : is_term s at ≡ true
+  leaf_first = first_stands operand_leaves s list (n + 1) at inv (omega arith)
+
+  pub further_fits : n + 1 ≤ length s
+  further_fits = inv.small
+
+  module _ (k : ℕ) (o : TermKindHere s at k) where
+    pub leaf_next : (k ≡ 12 → ⊥) → (m : ℕ) → Skipped (term_here s at) at m → LeafNext s list at (record { count = n; first = m })
+    unfolding leaves_in
+    leaf_next i m z =
+        let e : n ≡ n + 1 - 1 = omega arith in
         record {
-          stands = others;
-          small = few s (n - 1) m others;
-          value = sym (others_are operand_aggregates s list n at inv h m z ∙ ap (λ l. l ++ parts_in operand_aggregates s (n - 1) m) (no_aggregates (term_in s at) (λ e. j (o.kind ∙ e)) (λ e. i (o.kind ∙ e))));
+          stands = leaf_first;
+          leaf = λ e. i (o.kind ∙ e);
+          others = rw e (others_stand operand_leaves s list (n + 1) at inv (omega arith) m z);
+          value =
+              others_are operand_leaves s list (n + 1) at inv (omega arith) m z
+              ∙ ap (λ l. l ++ parts_in operand_leaves s (n + 1 - 1) m) (leaf_itself (term_in s at) (λ e. i (o.kind ∙ e)))
+              ∙ ap (λ j. term_in s at ∷ parts_in operand_leaves s j m) (sym e);
         }
 
-  pub arith_turn : k ≡ 12 → (p : ℕ) → p ≡ left_part s at → TermsLeft operand_aggregates s list (n + 1) p
-  unfolding operand_aggregates
-  arith_turn is p place = turned operand_aggregates s list n at inv h (λ op l r. refl) k o is p place
+    pub leaf_turn : k ≡ 12 → (p : ℕ) → p ≡ left_part s at → TermsLeft operand_leaves s list (n + 1 + 1) p
+    unfolding operand_leaves
+    leaf_turn is p place = turned operand_leaves s list (n + 1) at inv (omega arith) (λ op l r. refl) k o is p place
 
--- The leaves.
-pub leaves_left : (s : List ℕ) (n at : ℕ) → is_terms s n at ≡ true → TermsLeft operand_leaves s (leaves_in s n at) n at
-unfolding leaves_in
-leaves_left s n at acc = terms_left operand_leaves s n at acc
+-- The aggregates are those of the leaves.
+gathered_leaves : (ts : List Term) → gather operand_aggregates (gather operand_leaves ts) ≡ gather operand_aggregates ts
+unfolding gather operand_aggregates
+gathered_leaves [] = refl
+gathered_leaves (t ∷ ts) = gather_append operand_aggregates (operand_leaves t) (gather operand_leaves ts) ∙ ap₂ ◌++◌ (leaves_gather operand_aggregates (λ op l r. refl) t) (gathered_leaves ts)
 
-module _ (s : List ℕ) (list : List Term) (n at : ℕ) (inv : TermsLeft operand_leaves s list n at) (h : 0 < n) (k : ℕ) (o : TermKindHere s at k) where
-  pub leaf_next : (k ≡ 12 → ⊥) → (m : ℕ) → Skipped (term_here s at) at m → LeafNext s list at (record { count = n - 1; first = m })
-  unfolding leaves_in
-  leaf_next i m z = record {
-    stands = first_stands operand_leaves s list n at inv h;
-    leaf = λ e. i (o.kind ∙ e);
-    others = others_stand operand_leaves s list n at inv h m z;
-    value = others_are operand_leaves s list n at inv h m z ∙ ap (λ l. l ++ parts_in operand_leaves s (n - 1) m) (leaf_itself (term_in s at) (λ e. i (o.kind ∙ e)));
-  }
+by_leaves : (s : List ℕ) (n at : ℕ) → gather operand_aggregates (leaves_in s n at) ≡ aggregates_in s n at
+unfolding aggregates_in leaves_in
+by_leaves s n at = gathered_leaves (row_in term_here s n at)
 
-  pub leaf_turn : k ≡ 12 → (p : ℕ) → p ≡ left_part s at → TermsLeft operand_leaves s list (n + 1) p
-  unfolding operand_leaves
-  leaf_turn is p place = turned operand_leaves s list n at inv h (λ op l r. refl) k o is p place
+pub record AggregatesLeft (s : List ℕ) (list : List Aggregate) (left : Several) : Type 0 where
+  pub stands : is_terms s left.count left.first ≡ true
+  pub value : aggregates_in s left.count left.first ≡ list
+
+pub aggregates_left : (s : List ℕ) (n at : ℕ) → is_terms s n at ≡ true → AggregatesLeft s (aggregates_in s n at) (record { count = n; first = at })
+aggregates_left s n at acc = record { stands = acc; value = refl }
+
+module _ (s : List ℕ) (list : List Aggregate) (left : Several) (inv : AggregatesLeft s list left) where
+  pub leaves_stand : is_terms s left.count left.first ≡ true
+  leaves_stand = inv.stands
+
+  pub no_leaf : (x : NextPart) → NextLeafIs s (leaves_in s left.count left.first) x → x ≡ None → list ≡ []
+  unfolding gather
+  no_leaf x is e = let none : leaves_in s left.count left.first ≡ [] = rw e at is in sym inv.value ∙ sym (by_leaves s left.count left.first) ∙ ap (gather operand_aggregates) none
+
+  module _ (p : ℕ) (rest : Several) (z : LeafNext s (leaves_in s left.count left.first) p rest) (k : ℕ) (o : TermKindHere s p k) where
+    parted_leaf : list ≡ operand_aggregates (term_in s p) ++ aggregates_in s rest.count rest.first
+    unfolding gather
+    parted_leaf =
+        sym inv.value
+        ∙ sym (by_leaves s left.count left.first)
+        ∙ ap (gather operand_aggregates) z.value
+        ∙ ap (λ l. operand_aggregates (term_in s p) ++ l) (by_leaves s rest.count rest.first)
+
+    pub found_next : k ≡ 11 → (q : ℕ) → q ≡ term_part s p → AggregateNext s list q rest
+    unfolding operand_aggregates
+    found_next is q place = let here = aggregate_inside s p z.stands q place k o is in record {
+      stands = here.stands;
+      others = z.others;
+      value = parted_leaf ∙ ap (λ t. operand_aggregates t ++ aggregates_in s rest.count rest.first) here.value;
+    }
+
+    pub bare_turn : (k ≡ 11 → ⊥) → AggregatesLeft s list rest
+    bare_turn i = record {
+      stands = z.others;
+      value = sym (parted_leaf ∙ ap (λ l. l ++ aggregates_in s rest.count rest.first) (no_aggregates (term_in s p) (λ e. z.leaf e) (λ e. i (o.kind ∙ e))));
+    }
 
 -- The operands of a comparison.
 pub operands_here : (s : List ℕ) (at : ℕ) → is_condition s at ≡ true → kind_of (condition_in s at) ≡ 8 → (p : ℕ) → p ≡ first_part s at → OperandsHere s at (record { count = 2; first = p })
@@ -189,6 +229,6 @@ operands_here s at acc is p place =
       value = ap (gather operand_aggregates) (has_value [] r) ∙ ap (λ l. operand_aggregates v.left ++ l) (append-nil (operand_aggregates v.right));
     }
 
-pub ruleset along_terms = (rules, aggregates_left, none_left, first_stands, found_next, bare_turn, arith_turn)
+pub ruleset along_aggregates = (rules, aggregates_left, leaves_stand, no_leaf, found_next, bare_turn)
 
-pub ruleset along_leaves = (rules, leaves_left, none_left, first_stands, leaf_next, leaf_turn)
+pub ruleset along_leaves = (rules, no_leaves, leaves_left, leaf_first, further_fits, leaf_next, leaf_turn)

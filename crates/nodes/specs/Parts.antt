@@ -1,10 +1,10 @@
 -- The parts of what stands at a position of an accepted record, as the code hands them out.
-use Rattle.std.specs.Prelude.{◌≡◌, Bool, true, List, [], ◌∷◌, ◌++◌, ℕ, ◌+◌, ◌-◌, ◌≤◌, ◌<◌, get_or, take, drop}
+use Rattle.std.specs.Prelude as code
+use Rattle.std.specs.Prelude.{◌≡◌, Bool, true, List, [], ◌∷◌, ◌++◌, ℕ, ◌+◌, ◌-◌, ◌≤◌, ◌<◌, get_or, take, drop, Ok, Some, None}
 use Rattle.std.proofs.Math.Option.{Option, none, some}
 use Rattle.names.specs.Lists.{gather}
 use Rattle.names.specs.Fields.{Reader, number, string_of, each, counted}
 use Rattle.names.specs.Names.{path_name, identifier}
-use Rattle.names.specs.declared.Read.TheVariants.{Next}
 use Rattle.names.specs.Read.{ending, accepted, value_or, word_at, Listed, is_row, row_in}
 use Rattle.nodes.specs.declared.Ends.{Ends}
 use Rattle.nodes.specs.declared.ComparisonAt.{ComparisonAt}
@@ -18,9 +18,6 @@ use Rattle.nodes.specs.declared.WindowAt.{WindowAt}
 use Rattle.nodes.specs.declared.WindowAt.TheVariants.{Unsaid, Parameter, Seconds}
 use Rattle.nodes.specs.declared.Bound.{Bound}
 use Rattle.nodes.specs.declared.Bound.TheVariants.{Segments, Timepoint, Nothing}
-use Rattle.nodes.specs.declared.NextAggregate.{NextAggregate}
-use Rattle.nodes.specs.declared.NextAggregate.TheVariants.{At, Done}
-use Rattle.nodes.specs.declared.NextLeaf.{NextLeaf}
 use Rattle.condition.specs.Condition.{Span, ArithOp, Window, unsaid, seconds, parameter, Slot, named, param_ref, binder_ref, Annotation, timepoint, path, Binder, Operator, Condition, Term, Aggregate, predicate, comparison, tp, argument, entity, literal, context_field, scope_field, var, wildcard, array, aggregate, arith, sigil, cons, sum, binder}
 use Rattle.condition.specs.Walk.{reached, reached_body, operand_aggregates, declared_by}
 use Rattle.condition.specs.Places.{condition_here, term_here, is_condition, condition_in, is_term, term_in, aggregate_at, is_aggregate, aggregate_in, is_arguments, arguments_in, is_elements, elements_in, is_path, path_in, is_slot, slot_in}
@@ -118,7 +115,7 @@ pub record BindersHere (s : List ℕ) (at p : ℕ) : Type 0 where
   pub stands : is_binders s p ≡ true
   pub ahead : at + 9 ≤ p
   pub value : declared_by (aggregate_in s at) ≡ binders_in s p
-  pub between : ending (counted (each binder) s p) ≡ Next body
+  pub between : ending (counted (each binder) s p) ≡ Ok body
   pub behind : is_condition s body ≡ true
   pub reaches : reached_body (aggregate_in s at) ≡ reached (condition_in s body)
   pub ends : ending (aggregate_at s at) ≡ ending (condition_here s body)
@@ -190,9 +187,13 @@ pub record AggregateNext (s : List ℕ) (list : List Aggregate) (p : ℕ) (rest 
   pub others : is_terms s rest.count rest.first ≡ true
   pub value : list ≡ aggregate_in s p ∷ aggregates_in s rest.count rest.first
 
-abbrev pub NextIs : List ℕ → List Aggregate → NextAggregate → Type 0
-NextIs s list (At p rest) = AggregateNext s list p rest
-NextIs s list Done = list ≡ []
+-- what the code finds next among terms in a row, if there is a part more: where it stands, and the terms that the others are in
+abbrev pub NextPart : Type 0
+NextPart = code.Option (ℕ × Several)
+
+abbrev pub NextIs : List ℕ → List Aggregate → NextPart → Type 0
+NextIs s list (Some (p, rest)) = AggregateNext s list p rest
+NextIs s list None = list ≡ []
 
 -- the operands of a comparison as two terms in a row
 pub record OperandsHere (s : List ℕ) (at : ℕ) (r : Several) : Type 0 where
@@ -227,6 +228,6 @@ pub record LeafNext (s : List ℕ) (list : List Term) (p : ℕ) (rest : Several)
   pub others : is_terms s rest.count rest.first ≡ true
   pub value : list ≡ term_in s p ∷ leaves_in s rest.count rest.first
 
-abbrev pub NextLeafIs : List ℕ → List Term → NextLeaf → Type 0
-NextLeafIs s list (NextLeaf.At p rest) = LeafNext s list p rest
-NextLeafIs s list NextLeaf.Done = list ≡ []
+abbrev pub NextLeafIs : List ℕ → List Term → NextPart → Type 0
+NextLeafIs s list (Some (p, rest)) = LeafNext s list p rest
+NextLeafIs s list None = list ≡ []

@@ -4,9 +4,10 @@ ghost use Rattle.condition.specs.Places.{is_condition, condition_in};
 ghost use Rattle.nodes.specs.Kinds.{kind_of};
 ghost use Rattle.nodes.specs.Parts.{is_terms, aggregates_in, NextIs, OperandsHere};
 
-use crate::offsets::{first_part, left_part, term_part};
-use crate::parts::{past_term, term_kind_at};
-use crate::{NextAggregate, Several};
+use crate::leaves::next_leaf;
+use crate::offsets::{first_part, term_part};
+use crate::parts::term_kind_at;
+use crate::{NextPart, Several};
 
 // The operands of a comparison, as two terms in a row.
 pub fn operands_at(s: &[u8], at: usize) -> Several
@@ -20,31 +21,17 @@ pub fn operands_at(s: &[u8], at: usize) -> Several
     }
 }
 
-// The next aggregate of so many terms in a row, in order: itself, or those of an arithmetic's left, then right.
-pub fn next_aggregate(s: &[u8], count: usize, first: usize) -> NextAggregate
+// The next aggregate of so many terms in a row, in order: the first of their leaves that is one.
+pub fn next_aggregate(s: &[u8], count: usize, first: usize) -> NextPart
     requires { is_terms s.now count first ≡ true }
     ensures { NextIs s.now (aggregates_in s.now count first) result }
 {
-    let mut at = first;
-    let mut rest = count;
-    while 0 < rest {
-        let kind = term_kind_at(s, at);
-        if kind == 11 {
-            let place = term_part(s, at);
-            let next = past_term(s, at);
-            let others = Several {
-                count: rest - 1,
-                first: next,
-            };
-            return NextAggregate::At(place, others);
+    let mut left = Several { count, first };
+    while let Some((at, others)) = next_leaf(s, left.count, left.first) {
+        if term_kind_at(s, at) == 11 {
+            return Some((term_part(s, at), others));
         }
-        if kind == 12 {
-            at = left_part(s, at);
-            rest += 1;
-            continue;
-        }
-        at = past_term(s, at);
-        rest -= 1;
+        left = others;
     }
-    NextAggregate::Done
+    None
 }

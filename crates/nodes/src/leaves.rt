@@ -4,28 +4,27 @@ ghost use Rattle.nodes.specs.Parts.{is_terms, leaves_in, NextLeafIs};
 
 use crate::offsets::left_part;
 use crate::parts::{past_term, term_kind_at};
-use crate::{NextLeaf, Several};
+use crate::{NextPart, Several};
 
-// The next leaf of so many terms in a row, in order: itself, or those of an arithmetic's left, then right.
-pub fn next_leaf(s: &[u8], count: usize, first: usize) -> NextLeaf
+// The next leaf of so many terms in a row, in order: the first term, or the leftmost of an
+// arithmetic, whose right then stands before the other terms. How often the loop turns is in the
+// bytes alone, so no `for` counts it.
+pub fn next_leaf(s: &[u8], count: usize, first: usize) -> NextPart
     requires { is_terms s.now count first ≡ true }
     ensures { NextLeafIs s.now (leaves_in s.now count first) result }
 {
-    let mut at = first;
-    let mut rest = count;
-    while 0 < rest {
-        let kind = term_kind_at(s, at);
-        if kind == 12 {
-            at = left_part(s, at);
-            rest += 1;
-            continue;
-        }
-        let next = past_term(s, at);
-        let others = Several {
-            count: rest - 1,
-            first: next,
-        };
-        return NextLeaf::At(at, others);
+    if count == 0 {
+        return None;
     }
-    NextLeaf::Done
+    let mut at = first;
+    let mut further = count - 1;
+    while term_kind_at(s, at) == 12 {
+        at = left_part(s, at);
+        further += 1;
+    }
+    let others = Several {
+        count: further,
+        first: past_term(s, at),
+    };
+    Some((at, others))
 }

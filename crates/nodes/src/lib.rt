@@ -104,16 +104,5 @@ pub enum Bound {
     Nothing,
 }
 
-// The next aggregate of some terms in a row: where it stands, and the terms that the others are in; or there is none.
-#[derive(Clone, Copy)]
-pub enum NextAggregate {
-    At(usize, Several),
-    Done,
-}
-
-// The next leaf of some terms in a row: where it stands, and the terms that the others are in; or there is none.
-#[derive(Clone, Copy)]
-pub enum NextLeaf {
-    At(usize, Several),
-    Done,
-}
+// The next part of some terms in a row, an aggregate or a leaf: where it stands, and the terms that the others are in; if there is one.
+pub type NextPart = Option<(usize, Several)>;

@@ -11,18 +11,12 @@ pub fn first_part(s: &[u8], at: usize) -> usize
     ensures value { result ≡ first_part s.now at }
     ensures lower_bound { at + 9 ≤ result }
 {
-    let kind = s[at];
     let next = at + 9;
-    if kind == 8 {
-        return next + 1;
+    match s[at] {
+        4..=6 => next + window_length(s, next),
+        8 => next + 1,
+        _ => next,
     }
-    if kind < 4 {
-        return next;
-    }
-    if 6 < kind {
-        return next;
-    }
-    next + window_length(s, next)
 }
 
 // In a term: a name, a path, the count of an array's elements, an aggregate.

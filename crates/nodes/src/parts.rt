@@ -16,13 +16,13 @@
 // | `path_at`, `segments_at` | `is_path`, `SegmentsHere` | `Listed` |
 // | `last_segment` | `SegmentsHere` | `word_at s r ≡ last_of (segments_in s at)` |
 // | `past_term`, `past_condition`, .. | one stands there | `Skipped`: the place behind it |
-ghost use Rattle.std.specs.Prelude.{◌≡◌, true, false, ◌+◌, ◌<◌, ◌≤◌, length};
+ghost use Rattle.std.specs.Prelude.{◌≡◌, true, false, ◌+◌, ◌<◌, ◌≤◌, length, get_or};
 ghost use Rattle.std.proofs.Math.Option.{some};
 ghost use Rattle.names.specs.Fields.{each, counted, string_of};
 ghost use Rattle.names.specs.Names.{plain, path_name, identifier, last_of};
 ghost use Rattle.names.specs.Paths.{path_of};
 ghost use Rattle.names.specs.Read.{accepted, ending, word_at, Listed};
-ghost use Rattle.names.specs.declared.Read.TheVariants.{Next};
+ghost use Rattle.std.specs.Prelude.{Ok};
 ghost use Rattle.condition.specs.Condition.{slot, binder, entity_fields};
 ghost use Rattle.condition.specs.Walk.{has_name};
 ghost use Rattle.condition.specs.Places.{version_in, condition_here, term_here, is_condition, condition_in, is_term, term_in, is_aggregate, aggregate_in, is_arguments, is_elements, is_path, path_in, is_slot, slot_in, is_annotation, annotation_in, is_binder, binder_in};
@@ -35,14 +35,12 @@ use crate::{ArgumentAt, Bound, ComparisonAt, Ends, Operands, PredicateAt, Severa
 use condition::{read_binder, read_binders, read_slot, read_subcondition, read_term};
 use names::Read;
 
-// The place behind what was read; `other` where it was refused.
+// The place behind what was read; `other` where it was refused. Its promise, in the words of
+// `Skipped`, serves all that pass a part.
 fn place_of(r: Read, other: usize) -> usize
     ensures { result ≡ place_of other r }
 {
-    match r {
-        Read::Next(n) => n,
-        Read::Refused(_) => other,
-    }
+    r.unwrap_or(other)
 }
 
 // The place behind a slot, a binder, binders with their count, path names with theirs, a path, a condition, a term.
@@ -70,13 +68,11 @@ pub fn past_binders(s: &[u8], at: usize) -> usize
 // Strings of whatever class, whose count stands at `start`, are passed by their lengths.
 fn past_strings(s: &[u8], start: usize) -> usize
     requires { accepted (strings_at s.now start) ≡ true }
-    ensures { Next result ≡ ending (strings_at s.now start) }
+    ensures { Ok result ≡ ending (strings_at s.now start) }
 {
     let mut at = start + 1;
-    let mut left = names::wide(s[start]);
-    while 0 < left {
+    for _ in 0..names::wide(s[start]) {
         at = names::past_word(s, at);
-        left -= 1;
     }
     at
 }
@@ -118,21 +114,13 @@ pub fn past_term(s: &[u8], at: usize) -> usize
     requires { is_term s.now at ≡ true }
     ensures { Skipped (term_here s.now at) at result }
 {
-    let kind = term_kind_at(s, at);
     let next = term_part(s, at);
-    if kind == 8 {
-        return names::past_word(s, next);
+    match term_kind_at(s, at) {
+        1 => past_entity(s, next),
+        6 | 7 => past_path(s, next),
+        8 => names::past_word(s, next),
+        _ => place_of(read_term(s, at, condition::version(s), 32, false), at),
     }
-    if kind == 1 {
-        return past_entity(s, next);
-    }
-    if kind == 6 {
-        return past_path(s, next);
-    }
-    if kind == 7 {
-        return past_path(s, next);
-    }
-    place_of(read_term(s, at, condition::version(s), 32, false), at)
 }
 
 // The kind of the condition at `at` by document 01's number; a SigilRef is 11, as a Call.
@@ -140,45 +128,23 @@ pub fn kind_at(s: &[u8], at: usize) -> u8
     requires { is_condition s.now at ≡ true }
     ensures { KindHere s.now at result }
 {
-    let kind = s[at];
-    if kind == 12 {
-        return 11;
+    match s[at] {
+        12 => 11,
+        kind => kind,
     }
-    kind
 }
 
 // The kinds with one condition in them, and those with two.
 pub fn has_one(kind: u8) -> bool
     ensures { result ≡ one_kind kind }
 {
-    if kind == 3 {
-        return true;
-    }
-    if kind == 4 {
-        return true;
-    }
-    if kind == 5 {
-        return true;
-    }
-    if kind == 13 {
-        return true;
-    }
-    false
+    matches!(kind, 3..=5 | 13)
 }
 
 pub fn has_two(kind: u8) -> bool
     ensures { result ≡ two_kind kind }
 {
-    if kind == 1 {
-        return true;
-    }
-    if kind == 2 {
-        return true;
-    }
-    if kind == 6 {
-        return true;
-    }
-    false
+    matches!(kind, 1 | 2 | 6)
 }
 
 // The kind of the term at `at` by document 01's number; a BinderRef is 13, as a ParamRef.
@@ -186,11 +152,10 @@ pub fn term_kind_at(s: &[u8], at: usize) -> u8
     requires { is_term s.now at ≡ true }
     ensures { TermKindHere s.now at result }
 {
-    let kind = s[at];
-    if kind == 14 {
-        return 13;
+    match s[at] {
+        14 => 13,
+        kind => kind,
     }
-    kind
 }
 
 pub fn aggregate_kind_at(s: &[u8], at: usize) -> u8
@@ -227,10 +192,7 @@ fn ends_at(s: &[u8], at: usize) -> Ends
 {
     let start = names::u32_at(s, at);
     let end = names::u32_at(s, at + 4);
-    Ends {
-        start: start,
-        end: end,
-    }
+    Ends { start, end }
 }
 
 // The span of the condition at `at`, a predicate's own span, an aggregate's span.
@@ -266,9 +228,9 @@ pub fn comparison_at(s: &[u8], at: usize) -> ComparisonAt
     let left = first_part(s, at);
     let right = past_term(s, left);
     ComparisonAt {
-        operator: operator,
-        left: left,
-        right: right,
+        operator,
+        left,
+        right,
     }
 }
 
@@ -279,10 +241,7 @@ pub fn arith_at(s: &[u8], at: usize) -> Operands
 {
     let left = left_part(s, at);
     let right = past_term(s, left);
-    Operands {
-        left: left,
-        right: right,
-    }
+    Operands { left, right }
 }
 
 // The parts of a predicate, and of the first of so many arguments.
@@ -297,10 +256,10 @@ pub fn predicate_at(s: &[u8], at: usize) -> PredicateAt
     let list = names::past_word(s, action);
     let count = names::wide(s[list]);
     PredicateAt {
-        names: names,
+        names,
         namespace: namespace + 1,
-        action: action,
-        count: count,
+        action,
+        count,
         first: list + 1,
     }
 }
@@ -313,10 +272,18 @@ pub fn argument_at(s: &[u8], count: usize, at: usize) -> ArgumentAt
     let field = names::past_word(s, at);
     let term = past_path(s, field);
     let next = past_term(s, term);
-    ArgumentAt {
-        field: field,
-        term: term,
-        next: next,
+    ArgumentAt { field, term, next }
+}
+
+// A list whose count stands at `at`.
+fn list_at(s: &[u8], at: usize) -> Several
+    requires { at < length s.now }
+    ensures count { result.count ≡ get_or s.now at 0 }
+    ensures first { result.first ≡ at + 1 }
+{
+    Several {
+        count: names::wide(s[at]),
+        first: at + 1,
     }
 }
 
@@ -326,12 +293,7 @@ pub fn elements_at(s: &[u8], at: usize) -> Several
     requires at_value_2 { term_kind_of (term_in s.now at) ≡ 10 }
     ensures { ElementsHere s.now at result }
 {
-    let list = term_part(s, at);
-    let count = names::wide(s[list]);
-    Several {
-        count: count,
-        first: list + 1,
-    }
+    list_at(s, term_part(s, at))
 }
 
 pub fn past_element(s: &[u8], count: usize, at: usize) -> usize
@@ -347,24 +309,14 @@ pub fn path_at(s: &[u8], at: usize) -> Several
     requires { is_path s.now at ≡ true }
     ensures { Listed (string_of plain) s.now (path_in s.now at) result.count result.first }
 {
-    let first = at + 1;
-    let count = names::wide(s[at]);
-    Several {
-        count: count,
-        first: first,
-    }
+    list_at(s, at)
 }
 
 pub fn segments_at(s: &[u8], at: usize) -> Several
     requires { SegmentsHere s.now at }
     ensures { Listed (string_of identifier) s.now (segments_in s.now at) result.count result.first }
 {
-    let first = at + 1;
-    let count = names::wide(s[at]);
-    Several {
-        count: count,
-        first: first,
-    }
+    list_at(s, at)
 }
 
 // Where the last segment of an annotation stands.
@@ -373,10 +325,8 @@ pub fn last_segment(s: &[u8], start: usize) -> usize
     ensures { word_at s.now result ≡ last_of (segments_in s.now start) }
 {
     let mut at = start + 1;
-    let mut rest = names::wide(s[start]);
-    while 1 < rest {
+    for _ in 1..names::wide(s[start]) {
         at = names::past_word(s, at);
-        rest -= 1;
     }
     at
 }
@@ -386,14 +336,11 @@ pub fn slot_at(s: &[u8], at: usize) -> SlotAt
     requires { is_slot s.now at ≡ true }
     ensures { SlotHere s.now at result }
 {
-    let kind = s[at];
-    if kind == 0 {
-        return SlotAt::Named(at + 1);
+    match s[at] {
+        0 => SlotAt::Named(at + 1),
+        1 => SlotAt::ParamRef,
+        _ => SlotAt::BinderRef,
     }
-    if kind == 1 {
-        return SlotAt::ParamRef;
-    }
-    SlotAt::BinderRef
 }
 
 // What an annotation binds.
@@ -412,10 +359,7 @@ pub fn is_named(s: &[u8], at: usize) -> bool
     requires { is_binder s.now at ≡ true }
     ensures { result ≡ has_name (binder_in s.now at).slot }
 {
-    if s[at] == 0 {
-        return true;
-    }
-    false
+    s[at] == 0
 }
 
 // The name of a binder that has one.

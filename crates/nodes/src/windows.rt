@@ -50,12 +50,8 @@ pub fn window_at(s: &[u8], at: usize) -> WindowAt
     requires { is_condition s.now at ≡ true }
     ensures { WindowHere s.now at result }
 {
-    let kind = s[at];
-    if kind < 4 {
-        return WindowAt::Unsaid;
+    match s[at] {
+        4..=6 => said_at(s, at + 9),
+        _ => WindowAt::Unsaid,
     }
-    if 6 < kind {
-        return WindowAt::Unsaid;
-    }
-    said_at(s, at + 9)
 }

@@ -11,11 +11,12 @@ use Rattle.schema.specs.Schema.{Declared, Key, after, ascending, attributes_of, 
 use Rattle.targets.specs.Targets.{narrowings, narrowing, target, target_record}
 use Rattle.targets.specs.PathRecord.{sides, scope_side, path_record}
 use Rattle.offence.proofs.Steady.{Steady, Ends, pure_steady, refuse_steady, holds_steady, cond_steady, then_steady, map_steady, u8_steady, u16_steady, string_steady, many_steady, counted_steady, path_steady, heading_steady, then_ends, finished_ends}
+use Rattle.names.specs.declared.refusal.Refusal.TheVariants.{NotAscending, TooDeep, UndefinedChoice}
 
 -- The schema.
 ascending_steady : (class : List ℕ → Bool) (before : Option (List ℕ)) → Steady (ascending class before)
 unfolding ascending
-ascending_steady class before = then_steady (string_steady class) (λ w. holds_steady 8 refl (after before w) w)
+ascending_steady class before = then_steady (string_steady class) (λ w. holds_steady NotAscending refl (after before w) w)
 
 names_steady : Steady (counted (ascending path_name))
 names_steady = counted_steady (ascending_steady path_name)
@@ -43,11 +44,11 @@ module _ (type : Reader Declared) (inner : Steady type) where
       (cond_steady (eqb k 7) (map_steady _ (string_steady path_name))
       (cond_steady (eqb k 8) pure_steady
       (cond_steady (eqb k 9) pure_steady
-      (cond_steady (eqb k 10) pure_steady (refuse_steady 5 refl)))))))))))
+      (cond_steady (eqb k 10) pure_steady (refuse_steady UndefinedChoice refl)))))))))))
 
 type_steady : (left : ℕ) → Steady (type_at left)
 unfolding type_at
-type_steady zero = then_steady u8_steady (λ k. cond_steady (leb k 10) (refuse_steady 7 refl) (refuse_steady 5 refl))
+type_steady zero = then_steady u8_steady (λ k. cond_steady (leb k 10) (refuse_steady TooDeep refl) (refuse_steady UndefinedChoice refl))
 type_steady (suc left) = then_steady u8_steady (λ k. kinds_steady (type_at left) (type_steady left) k)
 
 entity_steady : (before : Option (List ℕ)) → Steady (entity_type before)
@@ -60,7 +61,7 @@ unfolding action
 action_steady before =
     then_steady (string_steady path_name)
     (λ type. then_steady (string_steady plain)
-    (λ id. then_steady (holds_steady 8 refl (key_after before (record { type = type; id = id })) id)
+    (λ id. then_steady (holds_steady NotAscending refl (key_after before (record { type = type; id = id })) id)
     (λ _. then_steady names_steady (λ principals. then_steady names_steady (λ resources. then_steady (type_steady levels) (λ context. pure_steady))))))
 
 pub schema_ends : Ends schema_record
@@ -82,7 +83,7 @@ narrowing_steady =
     (cond_steady (eqb k 1) pure_steady
     (cond_steady (eqb k 2) (map_steady _ (string_steady path_name))
     (cond_steady (eqb k 3) (map_steady _ (string_steady path_name))
-    (cond_steady (eqb k 4) (map_steady _ (string_steady path_name)) (refuse_steady 5 refl))))))
+    (cond_steady (eqb k 4) (map_steady _ (string_steady path_name)) (refuse_steady UndefinedChoice refl))))))
 
 target_steady : Steady target
 unfolding target
@@ -99,7 +100,7 @@ targets_ends =
 
 side_steady : Steady scope_side
 unfolding scope_side sides choose
-side_steady = then_steady u8_steady (λ k. cond_steady (eqb k 0) pure_steady (cond_steady (eqb k 1) pure_steady (refuse_steady 5 refl)))
+side_steady = then_steady u8_steady (λ k. cond_steady (eqb k 0) pure_steady (cond_steady (eqb k 1) pure_steady (refuse_steady UndefinedChoice refl)))
 
 pub path_ends : Ends path_record
 unfolding path_record

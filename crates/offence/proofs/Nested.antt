@@ -6,11 +6,11 @@ use Prim.Native.Nat.{ℕ, zero, suc, ◌*◌}
 use lib.Dec.{leb, eqb}
 use Rattle.names.specs.Fields.{Reader, ◌<∘>◌, i64, twos_complement, choose, counted, each, levels}
 use Rattle.names.specs.Names.{identifier, path_name, plain}
-use Rattle.decimal.specs.Decimal.{decimal_of, judged, decimal_text}
-use Rattle.decimal.specs.declared.Decimal.{Decimal}
-use Rattle.decimal.specs.declared.Decimal.TheVariants.{Value, Malformed, Beyond}
+use Rattle.decimal.specs.Decimal.{decimal_of, judged, decimal_text, held, well_formed, in_range, value_of}
+use Rattle.std.specs.Prelude.{List, ℤ, cond, Ok, Err}
 use Rattle.condition.specs.Condition.{Condition, Term, Window, One, Two, seconds, units, fits, amount_of, seconds_of, window_kinds, window, given, truths, truth, arith_ops, arith_op, entity_fields, span, slot_kinds, slot, annotation, binder, operators, operator, timepoint_of, arguments, argument_list, elements, element_list, unary, binary, predicate_of, comparison_of, exists_of, condition_kinds, sum_of, count_of, aggregate_kinds, aggregate_of, arith_of, term_kinds, too_deep, condition_at, term_at, condition_record_up_to, condition_record}
 use Rattle.offence.proofs.Steady.{Steady, Ends, pure_steady, refuse_steady, cond_steady, then_steady, map_steady, u8_steady, u32_steady, u64_steady, holds_steady, string_steady, many_steady, counted_steady, path_steady, heading_steady, then_ends, finished_ends}
+use Rattle.names.specs.declared.refusal.Refusal.TheVariants.{AggregateBelowArray, DecimalOutOfRange, MalformedDecimal, TooDeep, UndefinedChoice, WindowOutOfRange}
 
 span_steady : Steady span
 unfolding span
@@ -20,7 +20,7 @@ slot_steady : Steady slot
 unfolding slot slot_kinds choose
 slot_steady =
     then_steady u8_steady (λ k.
-    cond_steady (eqb k 0) (map_steady _ (string_steady plain)) (cond_steady (eqb k 1) pure_steady (cond_steady (eqb k 2) pure_steady (refuse_steady 5 refl))))
+    cond_steady (eqb k 0) (map_steady _ (string_steady plain)) (cond_steady (eqb k 1) pure_steady (cond_steady (eqb k 2) pure_steady (refuse_steady UndefinedChoice refl))))
 
 annotation_steady : Steady annotation
 unfolding annotation
@@ -43,25 +43,25 @@ operator_steady =
     (cond_steady (eqb k 2) pure_steady
     (cond_steady (eqb k 3) pure_steady
     (cond_steady (eqb k 4) pure_steady
-    (cond_steady (eqb k 5) pure_steady (refuse_steady 5 refl)))))))
+    (cond_steady (eqb k 5) pure_steady (refuse_steady UndefinedChoice refl)))))))
 
 amount_steady : (unit : ℕ) → Steady (amount_of unit)
 unfolding amount_of
-amount_steady unit = then_steady u64_steady (λ n. holds_steady 13 refl (fits unit n) (seconds (n * unit)))
+amount_steady unit = then_steady u64_steady (λ n. holds_steady WindowOutOfRange refl (fits unit n) (seconds (n * unit)))
 
 seconds_steady : Steady seconds_of
 unfolding seconds_of units choose
 seconds_steady =
     then_steady u8_steady (λ k.
     then_steady
-    (cond_steady (eqb k 0) pure_steady (cond_steady (eqb k 1) pure_steady (cond_steady (eqb k 2) pure_steady (cond_steady (eqb k 3) pure_steady (refuse_steady 5 refl)))))
+    (cond_steady (eqb k 0) pure_steady (cond_steady (eqb k 1) pure_steady (cond_steady (eqb k 2) pure_steady (cond_steady (eqb k 3) pure_steady (refuse_steady UndefinedChoice refl)))))
     (λ unit. amount_steady unit))
 
 window_steady : (version : ℕ) → Steady (window version)
 unfolding window window_kinds choose
 window_steady version =
     cond_steady (leb version 1) pure_steady
-    (then_steady u8_steady (λ k. cond_steady (eqb k 0) seconds_steady (cond_steady (eqb k 1) pure_steady (refuse_steady 5 refl))))
+    (then_steady u8_steady (λ k. cond_steady (eqb k 0) seconds_steady (cond_steady (eqb k 1) pure_steady (refuse_steady UndefinedChoice refl))))
 
 -- what version 3 brought
 given_steady : {A : Type 0} (version : ℕ) {f : Reader A} → Steady f → Steady (given version f)
@@ -72,23 +72,28 @@ i64_steady : Steady i64
 unfolding i64
 i64_steady = map_steady twos_complement u64_steady
 
-judged_steady : (d : Decimal) → Steady (judged d)
+-- a text is a value, or one of the two refusals
+decided_steady : (shaped within : Bool) (z : ℤ) → Steady (judged (cond shaped (cond within (Ok z) (Err DecimalOutOfRange)) (Err MalformedDecimal)))
 unfolding judged
-judged_steady (Value z) = pure_steady
-judged_steady Malformed = refuse_steady 15 refl
-judged_steady Beyond = refuse_steady 16 refl
+decided_steady true true z = pure_steady
+decided_steady true false z = refuse_steady DecimalOutOfRange refl
+decided_steady false within z = refuse_steady MalformedDecimal refl
+
+judged_steady : (w : List ℕ) → Steady (judged (decimal_of w))
+unfolding decimal_of held
+judged_steady w = decided_steady (well_formed w) (in_range (value_of w)) (value_of w)
 
 decimal_steady : Steady decimal_text
 unfolding decimal_text
-decimal_steady = then_steady (string_steady plain) (λ w. judged_steady (decimal_of w))
+decimal_steady = then_steady (string_steady plain) judged_steady
 
 truth_steady : Steady truth
 unfolding truth truths choose
-truth_steady = then_steady u8_steady (λ k. cond_steady (eqb k 0) pure_steady (cond_steady (eqb k 1) pure_steady (refuse_steady 5 refl)))
+truth_steady = then_steady u8_steady (λ k. cond_steady (eqb k 0) pure_steady (cond_steady (eqb k 1) pure_steady (refuse_steady UndefinedChoice refl)))
 
 arith_op_steady : Steady arith_op
 unfolding arith_op arith_ops choose
-arith_op_steady = then_steady u8_steady (λ k. cond_steady (eqb k 0) pure_steady (cond_steady (eqb k 1) pure_steady (cond_steady (eqb k 2) pure_steady (refuse_steady 5 refl))))
+arith_op_steady = then_steady u8_steady (λ k. cond_steady (eqb k 0) pure_steady (cond_steady (eqb k 1) pure_steady (cond_steady (eqb k 2) pure_steady (refuse_steady UndefinedChoice refl))))
 
 entity_steady : (version : ℕ) → Steady (entity_fields version)
 unfolding entity_fields
@@ -161,7 +166,7 @@ module _ (version : ℕ) (f : Reader Condition) (t : Bool → Reader Term) (inne
       (cond_steady (eqb k 10) timepoint_steady
       (cond_steady (eqb k 11) (map_steady _ span_steady)
       (cond_steady (eqb k 12) (map_steady _ span_steady)
-      (cond_steady (eqb k 13) (unary_steady pure_steady) (refuse_steady 5 refl)))))))))))))
+      (cond_steady (eqb k 13) (unary_steady pure_steady) (refuse_steady UndefinedChoice refl)))))))))))))
 
   sum_steady : Steady (sum_of version f t)
   unfolding sum_of
@@ -175,7 +180,7 @@ module _ (version : ℕ) (f : Reader Condition) (t : Bool → Reader Term) (inne
   unfolding aggregate_of aggregate_kinds choose
   aggregate_steady =
       then_steady u8_steady (λ k.
-      cond_steady (eqb k 1) sum_steady (cond_steady (eqb k 2) count_steady (cond_steady (eqb k 3) (map_steady _ span_steady) (refuse_steady 5 refl))))
+      cond_steady (eqb k 1) sum_steady (cond_steady (eqb k 2) count_steady (cond_steady (eqb k 3) (map_steady _ span_steady) (refuse_steady UndefinedChoice refl))))
 
   arith_steady : (b : Bool) → Steady (arith_of version f t b)
   unfolding arith_of
@@ -194,14 +199,14 @@ module _ (version : ℕ) (f : Reader Condition) (t : Bool → Reader Term) (inne
       (cond_steady (eqb k 8) (map_steady _ (string_steady plain))
       (cond_steady (eqb k 9) pure_steady
       (cond_steady (eqb k 10) (map_steady _ element_list_steady)
-      (cond_steady (eqb k 11) (cond_steady b (refuse_steady 9 refl) (map_steady _ aggregate_steady))
+      (cond_steady (eqb k 11) (cond_steady b (refuse_steady AggregateBelowArray refl) (map_steady _ aggregate_steady))
       (cond_steady (eqb k 12) (arith_steady b)
       (cond_steady (eqb k 13) pure_steady
-      (cond_steady (eqb k 14) pure_steady (refuse_steady 5 refl))))))))))))))
+      (cond_steady (eqb k 14) pure_steady (refuse_steady UndefinedChoice refl))))))))))))))
 
 too_deep_steady : {A : Type 0} (last : ℕ) → Steady (too_deep {A = A} last)
 unfolding too_deep
-too_deep_steady last = then_steady u8_steady (λ k. cond_steady (leb 1 k && leb k last) (refuse_steady 7 refl) (refuse_steady 5 refl))
+too_deep_steady last = then_steady u8_steady (λ k. cond_steady (leb 1 k && leb k last) (refuse_steady TooDeep refl) (refuse_steady UndefinedChoice refl))
 
 mutual
   unfolding condition_at term_at

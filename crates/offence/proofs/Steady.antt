@@ -11,11 +11,13 @@ use borrow.Author.Tests.{le-leb, lt-leb, leb-true, leb-false, eqb-false, eq-eqb}
 use lib.Dec.{leb, eqb}
 use lib.ListN.{length, get_or, take, drop, take-append-drop, length-append, length-drop, get_or-append}
 use lib.Seq.{take-append-le, drop-append-le, take-take, length-take-le}
-use Rattle.names.specs.Fields.{Got, got, bad, Reader, next, ◌>>=◌, ◌<∘>◌, pure, refuse, holds, bytes, u8, u16, u32, u64, string_of, each, many, counted, heading, finished, whole}
+use Rattle.names.specs.Fields.{Got, got, bad, Reader, next, ◌>>=◌, ◌<∘>◌, pure, refuse, holds, bytes, u8, u16, u32, u64, string_of, each, many, counted, heading, finished, whole, number_of}
 use Rattle.names.specs.Names.{same, plain}
 use Rattle.names.specs.Paths.{path_of}
 use Rattle.names.specs.Read.{refusal_number}
 use Rattle.names.specs.Laws.Readers.{split, u8_got, u8-end, bytes_got, bytes-end}
+use Rattle.names.specs.declared.refusal.Refusal.TheVariants.{Cut, BytesAfter, OtherMark, OtherVersion, OutsideClass}
+use Rattle.names.specs.declared.refusal.Refusal.{Refusal}
 
 -- a front of a front, and what is left of the longer one
 pub longer_front : (s : List ℕ) (m n : ℕ) → m ≤ n → take m s ++ drop m (take n s) ≡ take n s
@@ -29,10 +31,10 @@ pub record Onward (s : List ℕ) (at n : ℕ) : Type 0 where
 -- what a reader that goes left to right gives: on more bytes the same, unless the bytes ended too early; what it accepts it accepts in the bytes up to where it ends
 -- alone; and it never speaks of bytes behind the end (10)
 pub record Steady {A : Type 0} (f : Reader A) : Type 0 where
-  pub keeps : (s t : List ℕ) (at : ℕ) → (f s at ≡ bad 2) ⊎ (f (s ++ t) at ≡ f s at)
+  pub keeps : (s t : List ℕ) (at : ℕ) → (f s at ≡ bad Cut) ⊎ (f (s ++ t) at ≡ f s at)
   pub onward : (s : List ℕ) (at : ℕ) (a : A) (n : ℕ) → f s at ≡ got a n → Onward s at n
   pub tight : (s : List ℕ) (at : ℕ) (a : A) (n : ℕ) → f s at ≡ got a n → f (take n s) at ≡ got a n
-  pub other : (s : List ℕ) (at r : ℕ) → f s at ≡ bad r → r ≡ 10 → ⊥
+  pub other : (s : List ℕ) (at : ℕ) (r : Refusal) → f s at ≡ bad r → number_of r ≡ 10 → ⊥
 
 module _ {A : Type 0} where
   -- what is accepted is accepted in every front that reaches so far
@@ -42,7 +44,7 @@ module _ {A : Type 0} where
       shorter : f (take p s) at ≡ got a p
       shorter = steady.tight s at a p e
 
-      go : (f (take p s) at ≡ bad 2) ⊎ (f (take n s) at ≡ f (take p s) at) → f (take n s) at ≡ got a p
+      go : (f (take p s) at ≡ bad Cut) ⊎ (f (take n s) at ≡ f (take p s) at) → f (take n s) at ≡ got a p
       go (inl i) = let j = shorter in let z : ◌≡◌ {A = ℕ} 0 1 = cc in absurd (omega arith)
       go (inr i) = i ∙ shorter
 
@@ -57,16 +59,16 @@ module _ {A : Type 0} where
         other = λ s at r e _. let z : ◌≡◌ {A = ℕ} 0 1 = cc in omega arith;
       }
 
-  pub refuse_steady : (r : ℕ) → eqb r 10 ≡ false → Steady (refuse {A = A} r)
+  pub refuse_steady : (r : Refusal) → eqb (number_of r) 10 ≡ false → Steady (refuse {A = A} r)
   refuse_steady r h =
       record {
         keeps = λ s t at. inr refl;
         onward = λ s at b n e. let z : ◌≡◌ {A = ℕ} 0 1 = cc in absurd (omega arith);
         tight = λ s at b n e. e;
-        other = λ s at q e i. let j : r ≡ q = cc in eqb-false _ _ h (j ∙ i);
+        other = λ s at q e i. let j : r ≡ q = cc in eqb-false _ _ h (ap number_of j ∙ i);
       }
 
-  pub holds_steady : (r : ℕ) → eqb r 10 ≡ false → (b : Bool) (a : A) → Steady (holds r b a)
+  pub holds_steady : (r : Refusal) → eqb (number_of r) 10 ≡ false → (b : Bool) (a : A) → Steady (holds r b a)
   holds_steady r h true a = pure_steady
   holds_steady r h false a = refuse_steady r h
 
@@ -75,16 +77,16 @@ module _ {A : Type 0} where
   cond_steady false x y = y
 
 module _ {A B : Type 0} where
-  next_steady : (g : Got A) (f k : A → ℕ → Got B) → ((a : A) (n : ℕ) → (f a n ≡ bad 2) ⊎ (k a n ≡ f a n)) → (next g f ≡ bad 2) ⊎ (next g k ≡ next g f)
+  next_steady : (g : Got A) (f k : A → ℕ → Got B) → ((a : A) (n : ℕ) → (f a n ≡ bad Cut) ⊎ (k a n ≡ f a n)) → (next g f ≡ bad Cut) ⊎ (next g k ≡ next g f)
   next_steady (got a n) f k rest = rest a n
   next_steady (bad r) f k rest = inr refl
 
-  next_other : (g : Got A) (f : A → ℕ → Got B) → ((r : ℕ) → g ≡ bad r → r ≡ 10 → ⊥) → ((a : A) (n r : ℕ) → f a n ≡ bad r → r ≡ 10 → ⊥) → (r : ℕ) → next g f ≡ bad r → r ≡ 10 → ⊥
+  next_other : (g : Got A) (f : A → ℕ → Got B) → ((r : Refusal) → g ≡ bad r → number_of r ≡ 10 → ⊥) → ((a : A) (n : ℕ) (r : Refusal) → f a n ≡ bad r → number_of r ≡ 10 → ⊥) → (r : Refusal) → next g f ≡ bad r → number_of r ≡ 10 → ⊥
   next_other (got a n) f first rest r e i = rest a n r e i
-  next_other (bad q) f first rest r e i = let j : q ≡ r = cc in first q refl (j ∙ i)
+  next_other (bad q) f first rest r e i = let j : q ≡ r = cc in first q refl (ap number_of j ∙ i)
 
   module _ {m : Reader A} {f : A → Reader B} (first : Steady m) (rest : (a : A) → Steady (f a)) where
-    then_keeps : (s t : List ℕ) (at : ℕ) → (m s at ≡ bad 2) ⊎ (m (s ++ t) at ≡ m s at) → ((m >>= f) s at ≡ bad 2) ⊎ ((m >>= f) (s ++ t) at ≡ (m >>= f) s at)
+    then_keeps : (s t : List ℕ) (at : ℕ) → (m s at ≡ bad Cut) ⊎ (m (s ++ t) at ≡ m s at) → ((m >>= f) s at ≡ bad Cut) ⊎ ((m >>= f) (s ++ t) at ≡ (m >>= f) s at)
     then_keeps s t at (inl e) = inl (rw e)
     then_keeps s t at (inr e) = rw e (next_steady (m s at) (λ a n. f a s n) (λ a n. f a (s ++ t) n) (λ a n. (rest a).keeps s t n))
 
@@ -117,9 +119,9 @@ module _ {A B : Type 0} where
 -- Fields: so many bytes, or 2; and what they give is told by these bytes alone.
 module _ {A : Type 0} (f : Reader A) (w : ℕ) (v : List ℕ → ℕ → A)
     (fits : (s : List ℕ) (at : ℕ) → at + w ≤ length s → f s at ≡ got (v s at) (at + w))
-    (short : (s : List ℕ) (at : ℕ) → length s < at + w → f s at ≡ bad 2)
+    (short : (s : List ℕ) (at : ℕ) → length s < at + w → f s at ≡ bad Cut)
     (told : (s t : List ℕ) (at : ℕ) → at + w ≤ length s → v (s ++ t) at ≡ v s at) where
-  field_keeps : (s t : List ℕ) (at : ℕ) (b : Bool) → leb (at + w) (length s) ≡ b → (f s at ≡ bad 2) ⊎ (f (s ++ t) at ≡ f s at)
+  field_keeps : (s t : List ℕ) (at : ℕ) (b : Bool) → leb (at + w) (length s) ≡ b → (f s at ≡ bad Cut) ⊎ (f (s ++ t) at ≡ f s at)
   field_keeps s t at false h = inl (short s at (leb-false _ _ h))
   field_keeps s t at true h =
       let i : at + w ≤ length s = leb-true _ _ h in
@@ -136,8 +138,8 @@ module _ {A : Type 0} (f : Reader A) (w : ℕ) (v : List ℕ → ℕ → A)
       let i : v s at ≡ v (take (at + w) s) at = rw (take-append-drop (at + w) s) at (told (take (at + w) s) (drop (at + w) s) at l) in
       fits (take (at + w) s) at l ∙ ap (λ (b : A). got b (at + w)) (sym i) ∙ sym (fits s at h) ∙ e
 
-  field_other : (s : List ℕ) (at r : ℕ) (b : Bool) → leb (at + w) (length s) ≡ b → f s at ≡ bad r → r ≡ 10 → ⊥
-  field_other s at r false h e k = let i = short s at (leb-false _ _ h) in let j : r ≡ 2 = cc in omega arith
+  field_other : (s : List ℕ) (at : ℕ) (r : Refusal) (b : Bool) → leb (at + w) (length s) ≡ b → f s at ≡ bad r → number_of r ≡ 10 → ⊥
+  field_other s at r false h e k = let i = short s at (leb-false _ _ h) in let j : r ≡ Cut = cc in let z : number_of Cut ≡ 10 = ap number_of (sym j) ∙ k in omega arith
   field_other s at r true h e k = let i = fits s at (leb-true _ _ h) in let z : ◌≡◌ {A = ℕ} 0 1 = cc in omega arith
 
   field_steady : Steady f
@@ -178,7 +180,7 @@ u64_steady = then_steady (bytes_steady 8) (λ w. pure_steady)
 
 pub string_steady : (class : List ℕ → Bool) → Steady (string_of class)
 unfolding string_of
-string_steady class = then_steady u8_steady (λ n. then_steady (bytes_steady n) (λ w. holds_steady 6 refl (class w) w))
+string_steady class = then_steady u8_steady (λ n. then_steady (bytes_steady n) (λ w. holds_steady OutsideClass refl (class w) w))
 
 pub many_steady : {A K : Type 0} (key : A → K) {f : Option K → Reader A} → ((before : Option K) → Steady (f before)) → (n : ℕ) (before : Option K) → Steady (many key f n before)
 unfolding many
@@ -195,7 +197,7 @@ path_steady = counted_steady (λ before. string_steady plain)
 
 pub heading_steady : (mark : List ℕ) (newest : ℕ) → Steady (heading mark newest)
 unfolding heading
-heading_steady mark newest = then_steady (bytes_steady (length mark)) (λ m. then_steady (holds_steady 3 refl (same m mark) m) (λ _. then_steady u16_steady (λ v. holds_steady 4 refl (leb 1 v && leb v newest) v)))
+heading_steady mark newest = then_steady (bytes_steady (length mark)) (λ m. then_steady (holds_steady OtherMark refl (same m mark) m) (λ _. then_steady u16_steady (λ v. holds_steady OtherVersion refl (leb 1 v && leb v newest) v)))
 
 -- The number that refuses some bytes, and that of more of them: the bytes ended too early (2); or it is the same; or both times the record was read to its end,
 -- and only what stands behind it differs (0 or 10).
@@ -225,7 +227,7 @@ module _ {A B : Type 0} where
   next_ends (bad r) f k rest = alike refl
 
   module _ {m : Reader A} {f : A → Reader B} (first : Steady m) (rest : (a : A) → Ends (f a)) where
-    then_sure : (s t : List ℕ) (at : ℕ) → (m s at ≡ bad 2) ⊎ (m (s ++ t) at ≡ m s at) → Sure (refusal_number ((m >>= f) s at)) (refusal_number ((m >>= f) (s ++ t) at))
+    then_sure : (s t : List ℕ) (at : ℕ) → (m s at ≡ bad Cut) ⊎ (m (s ++ t) at ≡ m s at) → Sure (refusal_number ((m >>= f) s at)) (refusal_number ((m >>= f) (s ++ t) at))
     unfolding refusal_number
     then_sure s t at (inl e) = early (rw e)
     then_sure s t at (inr e) = rw e (next_ends (m s at) (λ a n. f a s n) (λ a n. f a (s ++ t) n) (λ a n. (rest a).ends s t n))
@@ -247,7 +249,7 @@ module _ {A : Type 0} (a : A) where
   unfolding finished refusal_number
   at-end s at = go (eqb at (length s))
     where
-      go : (b : Bool) → Over (refusal_number (holds 10 b a s at))
+      go : (b : Bool) → Over (refusal_number (holds BytesAfter b a s at))
       go true = inl refl
       go false = inr refl
 

@@ -7,11 +7,11 @@ mod find;
 
 pub use find::{has_mark, kind_of, number_of, place_of, record_of};
 
-// The four records.
-#[derive(Clone, Copy)]
+// The four records, by document 01's numbers.
+#[derive(Clone, Copy, PartialEq, Eq)]
 pub enum Kind {
-    Schema,
-    Condition,
-    Targets,
-    Path,
+    Schema = 1,
+    Condition = 2,
+    Targets = 3,
+    Path = 4,
 }

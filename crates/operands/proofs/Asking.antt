@@ -7,15 +7,13 @@ use Prim.Native.Nat.{ℕ}
 use borrow.Author.Rules.{rules}
 use lib.Seq.{length-take-le}
 use Rattle.names.specs.Fields.{whole}
-use Rattle.names.specs.Read.{ending, read_number, value_or}
-use Rattle.names.specs.declared.Read.{Read}
-use Rattle.names.specs.Laws.Readers.{accept, passes, refused_by, refuses}
+use Rattle.names.specs.Read.{ending, value_or, Read, Found}
+use Rattle.names.specs.Laws.Readers.{accept, passes, refused_by}
 use Rattle.types.specs.Types.{dated, plain}
 use Rattle.types.specs.Meaning.{profile_in}
 use Rattle.schema.specs.Schema.{schema_record}
 use Rattle.schema.specs.Find.{find_action}
 use Rattle.schema.specs.Places.{schema_in, is_action, action_in, found_in, found_stands, FindsAction, ActionsOf}
-use Rattle.names.specs.declared.Found.{Found}
 use Rattle.targets.specs.Targets.{target_record}
 use Rattle.targets.specs.PathRecord.{target_at}
 use Rattle.targets.specs.Places.{targets_in, is_target, target_in, FindsTarget}
@@ -30,7 +28,6 @@ use Rattle.walk.specs.declared.Binding.TheVariants as code
 use Rattle.nodes.specs.declared.ComparisonAt.{ComparisonAt}
 use Rattle.condition.specs.Laws.Records.{record_starts, record_value}
 use Rattle.resolution.specs.Places.{typed_of}
-use Rattle.resolution.specs.declared.Typed.{Typed}
 use Rattle.terms.specs.Terms.{facts_among, facts_of, term_type}
 use Rattle.terms.specs.Facts.{facts_in, Known, FactsOf}
 use Rattle.terms.specs.Answers.{TypeOf}
@@ -41,6 +38,10 @@ use Rattle.operands.specs.Operands.{operand_in, shown, answered, under_target, a
 use Rattle.operands.specs.Answers.{outcome_of, place_of, Records}
 use Rattle.operands.specs.declared.Operand.{Operand}
 use Rattle.operands.specs.declared.Answer.{Answer}
+use Rattle.std.specs.Prelude.{Ok, Err, Some, None}
+use Rattle.resolution.specs.Coded.{Typed}
+use Rattle.names.specs.declared.refusal.Refusal.{Refusal}
+use Rattle.names.specs.declared.refusal.Refusal.TheVariants.{NoSuchTarget}
 
 -- ---- the operand
 
@@ -131,17 +132,17 @@ pub ruleset by_target = (rules, action_stands, target_answered)
 -- ---- the position
 
 module _ (s c n : List ℕ) (position : ℕ) (x : Found) (finds : FindsTarget n (target_at position (targets_in n).list) x) where
-  pub position_stands : (at : ℕ) → x ≡ Found.At at → is_target n at ≡ true
+  pub position_stands : (at : ℕ) → x ≡ Some at → is_target n at ≡ true
   position_stands at e = rw e at finds.stands
 
   module _ (which : Operand) (b : List ℕ) where
-    pub position_absent : x ≡ Found.Absent → outcome_of (Answer.Refused 12 3) b ≡ at_position (schema_in s) (record_in c) (targets_in n) position which b
+    pub position_absent : x ≡ None → outcome_of (Answer.Refused NoSuchTarget 3) b ≡ at_position (schema_in s) (record_in c) (targets_in n) position which b
     unfolding at_position outcome_of
     position_absent e =
         let h : none ≡ target_at position (targets_in n).list = rw e at finds.value in
         rw (← h)
 
-    pub position_found : (at : ℕ) → x ≡ Found.At at → (a : Answer) (t : List ℕ) → outcome_of a t ≡ under_target (schema_in s) (record_in c) (targets_in n) which b (target_in n at)
+    pub position_found : (at : ℕ) → x ≡ Some at → (a : Answer) (t : List ℕ) → outcome_of a t ≡ under_target (schema_in s) (record_in c) (targets_in n) which b (target_in n at)
         → outcome_of a t ≡ at_position (schema_in s) (record_in c) (targets_in n) position which b
     unfolding at_position
     position_found at e a t i =
@@ -153,26 +154,26 @@ pub ruleset positions = (rules, position_stands, position_absent, position_found
 -- ---- the records
 
 module _ (s c n : List ℕ) (position : ℕ) (which : Operand) (b : List ℕ) (x : Read) (is_x : x ≡ ending (whole schema_record s)) where
-  pub schema_refused : (r : ℕ) → x ≡ Read.Refused r → (k : ℕ) → k ≡ read_number x → outcome_of (Answer.Refused k 1) b ≡ operand_type s c n position which b
+  pub schema_refused : (r : Refusal) → x ≡ Err r → outcome_of (Answer.Refused r 1) b ≡ operand_type s c n position which b
   unfolding operand_type outcome_of
-  schema_refused r e k f = rw (refused_by (whole schema_record s) x r is_x e, ← refuses e f)
+  schema_refused r e = rw (refused_by (whole schema_record s) x r is_x e)
 
-  module _ (p : ℕ) (e : x ≡ Read.Next p) (y : Read) (is_y : y ≡ ending (whole condition_record c)) where
-    pub condition_refused : (r : ℕ) → y ≡ Read.Refused r → (k : ℕ) → k ≡ read_number y → outcome_of (Answer.Refused k 2) b ≡ operand_type s c n position which b
+  module _ (p : ℕ) (e : x ≡ Ok p) (y : Read) (is_y : y ≡ ending (whole condition_record c)) where
+    pub condition_refused : (r : Refusal) → y ≡ Err r → outcome_of (Answer.Refused r 2) b ≡ operand_type s c n position which b
     unfolding operand_type outcome_of
-    condition_refused r d k f =
+    condition_refused r d =
         let g = accept (whole schema_record s) (passes (whole schema_record s) is_x e) in
-        rw (g.read, refused_by (whole condition_record c) y r is_y d, ← refuses d f)
+        rw (g.read, refused_by (whole condition_record c) y r is_y d)
 
-    module _ (p' : ℕ) (e' : y ≡ Read.Next p') (z : Read) (is_z : z ≡ ending (whole target_record n)) where
-      pub targets_refused : (r : ℕ) → z ≡ Read.Refused r → (k : ℕ) → k ≡ read_number z → outcome_of (Answer.Refused k 3) b ≡ operand_type s c n position which b
+    module _ (p' : ℕ) (e' : y ≡ Ok p') (z : Read) (is_z : z ≡ ending (whole target_record n)) where
+      pub targets_refused : (r : Refusal) → z ≡ Err r → outcome_of (Answer.Refused r 3) b ≡ operand_type s c n position which b
       unfolding operand_type outcome_of
-      targets_refused r d k f =
+      targets_refused r d =
           let g = accept (whole schema_record s) (passes (whole schema_record s) is_x e) in
           let h = accept (whole condition_record c) (passes (whole condition_record c) is_y e') in
-          rw (g.read, h.read, refused_by (whole target_record n) z r is_z d, ← refuses d f)
+          rw (g.read, h.read, refused_by (whole target_record n) z r is_z d)
 
-      pub all_read : (p'' : ℕ) → z ≡ Read.Next p'' → Records s c n
+      pub all_read : (p'' : ℕ) → z ≡ Ok p'' → Records s c n
       all_read p'' e'' = record {
         schema = passes (whole schema_record s) is_x e;
         condition = passes (whole condition_record c) is_y e';

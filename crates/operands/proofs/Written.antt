@@ -15,17 +15,19 @@ use Rattle.types.specs.Meaning.{rich_of}
 use Rattle.types.specs.declared.Form.TheVariants as Form
 use Rattle.types.specs.declared.Rich.{Rich}
 use Rattle.resolution.specs.Places.{typed_of, small_type}
-use Rattle.resolution.specs.declared.Typed.{Typed}
 use Rattle.operands.specs.Operands.{placed, shown}
 use Rattle.operands.specs.Answers.{outcome_of}
 use Rattle.operands.specs.declared.Answer.{Answer}
+use Rattle.resolution.specs.Coded.{Typed}
+use Rattle.std.specs.Prelude.{Some, None}
+use Rattle.names.specs.declared.refusal.Refusal.TheVariants.{NoSpace}
 
 pub type_counted : (t : Ty) → Small t → length (render t) < 18446744073709551616
 type_counted t small = text_counted Form.Render t small
 
 -- a text that was measured
 module _ (w b : List ℕ) where
-  pub place_not : (long : ℕ) → long ≡ length w → length b < long → outcome_of (Answer.Refused 11 0) b ≡ placed w b
+  pub place_not : (long : ℕ) → long ≡ length w → length b < long → outcome_of (Answer.Refused NoSpace 0) b ≡ placed w b
   unfolding placed outcome_of
   place_not long is h = rw (lt-leb (length w) (length b) (omega (arith, is)))
 
@@ -44,11 +46,11 @@ pub ruleset placing = (rules, stored_length, type_counted, place_not, place_room
 
 -- a type, if there is one
 module _ (s c b : List ℕ) (x : Typed) where
-  pub show_untyped : x ≡ Typed.Nothing → outcome_of Answer.Untyped b ≡ shown (typed_of s c x) b
+  pub show_untyped : x ≡ None → outcome_of Answer.Untyped b ≡ shown (typed_of s c x) b
   unfolding outcome_of
   show_untyped e = rw e
 
-  module _ (t : Rich) (e : x ≡ Typed.As t) where
+  module _ (t : Rich) (e : x ≡ Some t) where
     pub show_small : small_type (typed_of s c x) → Small (rich_of s c t)
     show_small h = rw e at h
 

@@ -8,13 +8,14 @@ use Rattle.operands.specs.Operands.{written, untyped, no_comparison, refused, Ou
 use Rattle.operands.specs.Operands as Operands
 use Rattle.operands.specs.declared.Operand.{Operand}
 use Rattle.operands.specs.declared.Answer.{Answer}
+use Rattle.names.specs.Fields.{number_of}
 
 -- the code's answer
 abbrev pub answer_of : Answer → Operands.Answer
 answer_of (Answer.Written n) = written n
 answer_of Answer.Untyped = untyped
 answer_of Answer.NoComparison = no_comparison
-answer_of (Answer.Refused number which) = refused number which
+answer_of (Answer.Refused r which) = refused (number_of r) which
 
 -- with what the code leaves in the buffer
 unfoldable pub outcome_of : Answer → List ℕ → Outcome

@@ -4,6 +4,7 @@
 mod run;
 mod text;
 
+use names::Refusal;
 pub use run::operand_type;
 
 // An operand of a comparison.
@@ -13,12 +14,12 @@ pub enum Operand {
     Right,
 }
 
-// What is answered of an operand: its type is written, in so many bytes; it has no type; the condition is no comparison; or the number of the
-// refusal and of the record.
+// What is answered of an operand: its type is written, in so many bytes; it has no type; the condition is no comparison; or it is
+// refused, with the number of the record.
 #[derive(Clone, Copy)]
 pub enum Answer {
     Written(usize),
     Untyped,
     NoComparison,
-    Refused(u8, u8),
+    Refused(Refusal, u8),
 }

@@ -14,7 +14,7 @@ ghost use Rattle.operands.specs.Answers.{place_of, outcome_of, Records};
 
 use crate::text::show_type;
 use crate::{Answer, Operand};
-use names::{Found, Read};
+use names::Refusal;
 use nodes::ComparisonAt;
 use schema::Namespace;
 use terms::{Common, Facts};
@@ -60,7 +60,7 @@ fn with_common<'a>(
     targets: &[u8],
     env: &[u16],
     common: Common,
-    own: Found,
+    own: Option<usize>,
     which: Operand,
     out: &mut [u8],
 ) -> Answer
@@ -80,7 +80,7 @@ fn over_places<'a>(
     condition: &'a [u8],
     targets: &[u8],
     places: &[u16],
-    own: Found,
+    own: Option<usize>,
     which: Operand,
     out: &mut [u8],
 ) -> Answer
@@ -113,7 +113,7 @@ fn under_action<'a>(
     schema: &'a [u8],
     condition: &'a [u8],
     targets: &[u8],
-    own: Found,
+    own: Option<usize>,
     which: Operand,
     out: &mut [u8],
 ) -> Answer
@@ -161,8 +161,8 @@ fn at_position<'a>(
     ensures { outcome_of result out.new ≡ at_position (schema_in schema.now) (record_in condition.now) (targets_in targets.now) position which out.old }
 {
     let own = targets::target_at(targets, position);
-    let Found::At(at) = own else {
-        return Answer::Refused(12, 3);
+    let Some(at) = own else {
+        return Answer::Refused(Refusal::NoSuchTarget, 3);
     };
     under_target(schema, condition, targets, at, which, out)
 }
@@ -178,17 +178,14 @@ pub fn operand_type<'a>(
 ) -> Answer
     ensures { outcome_of result out.new ≡ operand_type schema.now condition.now targets.now position which out.old }
 {
-    let first = schema::read_schema(schema);
-    let Read::Next(_) = first else {
-        return Answer::Refused(names::refusal_number(first), 1);
-    };
-    let second = condition::read_condition(condition);
-    let Read::Next(_) = second else {
-        return Answer::Refused(names::refusal_number(second), 2);
-    };
-    let third = targets::read_targets(targets);
-    let Read::Next(_) = third else {
-        return Answer::Refused(names::refusal_number(third), 3);
-    };
+    if let Err(refusal) = schema::read_schema(schema) {
+        return Answer::Refused(refusal, 1);
+    }
+    if let Err(refusal) = condition::read_condition(condition) {
+        return Answer::Refused(refusal, 2);
+    }
+    if let Err(refusal) = targets::read_targets(targets) {
+        return Answer::Refused(refusal, 3);
+    }
     at_position(schema, condition, targets, position, which, out)
 }

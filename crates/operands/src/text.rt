@@ -8,6 +8,7 @@ ghost use Rattle.operands.specs.Operands.{placed, shown};
 ghost use Rattle.operands.specs.Answers.{outcome_of};
 
 use crate::Answer;
+use names::Refusal;
 use resolution::Typed;
 use types::{Form, Rich};
 
@@ -18,7 +19,7 @@ fn place_type<'a>(schema: &'a [u8], condition: &'a [u8], t: Rich, out: &mut [u8]
 {
     let long = types::text_length(schema, condition, Form::Render, t);
     if out.len() < long {
-        return Answer::Refused(11, 0);
+        return Answer::Refused(Refusal::NoSpace, 0);
     }
     let next = types::render(out, 0, schema, condition, t);
     Answer::Written(next)
@@ -29,7 +30,7 @@ pub fn show_type<'a>(schema: &'a [u8], condition: &'a [u8], typed: Typed, out: &
     requires { small_type (typed_of schema.now condition.now typed) }
     ensures { outcome_of result out.new ≡ shown (typed_of schema.now condition.now typed) out.old }
 {
-    let Typed::As(t) = typed else {
+    let Some(t) = typed else {
         return Answer::Untyped;
     };
     place_type(schema, condition, t, out)

@@ -1,75 +1,52 @@
-// What the programs share: a record read from a file into a lent buffer, words, numbers and reports printed.
+// What the programs share: a record read from a file into space of its own, and what a run answers
+// printed.
 #![tactic(auto)]
 
+mod fields;
 mod printed;
 
-ghost use Rattle.std.specs.Prelude.{◌≡◌, ◌≤◌, length, take};
+ghost use Rattle.std.specs.Prelude.{◌≡◌, ◌^◌, ◌<◌, ◌≤◌, None, Some, length, take};
 ghost use Rattle.std.specs.Io.KnownBytes.{Consumes};
-ghost use Rattle.program.specs.Program.{Within, Took, zeros, contented, number_at};
+ghost use Rattle.program.specs.Program.{Within, Took, contented};
 
-pub use printed::{print_run, report_space};
+pub use fields::{print_u32, split_field, u64_at};
+pub use printed::{print_refusal, print_run};
 use std::env::{Env, FillError};
 use std::io::{Cursor, Read, Write};
 use std::rt::Files;
 use std::{fs, io, str};
 
-// How many bytes of a file were put at the front of a buffer, or that it could not be read.
-#[derive(Clone, Copy)]
-pub enum Loaded {
-    Bytes(usize),
-    Unread,
-}
-
-// Room for a record and more: a file that is longer than a record may be is refused as one. The length is what lending the
-// array needs.
-pub fn record_space() -> [u8; 40960]
-    ensures value { result ≡ zeros 40960 }
-    ensures value_2 { 40960 ≡ length result }
-{
-    [0; 40960]
-}
+// Room for a record and more: a file that is longer than a record may be is refused as one.
+pub const RECORD_SPACE: usize = 40960;
 
 // Whether a program that reads so many files can run with so many arguments, its own name among them.
+#[tactic(auto, unfolding(crate::specs::Program::contented))]
 pub fn fits(count: usize, files: usize) -> bool
     ensures { result ≡ contented count files }
 {
-    if count <= 1 {
-        return true;
-    }
-    count - 1 == files
-}
-
-// What is said where the arguments do not fit, apart from what a program answers.
-pub fn print_usage(err: &impl Print, text: &[u8]) -> io::Result<()> {
-    print(err, text)
+    count <= 1 || count - 1 == files
 }
 
 // ---- arguments
 
 // How many arguments the program was started with, its own name among them.
 pub fn argument_count(env: &impl Env) -> usize {
-    for i in 0..usize::MAX {
-        if !has_argument(env, i) {
-            return i;
-        }
-    }
-    usize::MAX
+    (0..usize::MAX)
+        .find(|&i| !has_argument(env, i))
+        .unwrap_or(usize::MAX)
 }
 
 // Whether there is an argument of this number: one that does not fit is there too.
 fn has_argument(env: &impl Env, i: usize) -> bool {
-    let mut first = [0u8; 1];
-    !matches!(env.arg(i, &mut first), Err(FillError::NotPresent))
+    !matches!(env.arg(i, &mut [0; 1]), Err(FillError::NotPresent))
 }
 
-// Puts an argument at the front of a space. It has no bytes where there is no such argument, or where it is longer than the space.
+// Puts an argument at the front of a space. It has no bytes where there is no such argument, or
+// where it is longer than the space.
 pub fn argument(env: &impl Env, i: usize, space: &mut [u8]) -> usize
-    ensures { Within space.new (Loaded.Bytes result) }
+    ensures { Within space.new (Some result) }
 {
-    match env.arg(i, space) {
-        Ok(n) => n,
-        Err(_) => 0,
-    }
+    env.arg(i, space).unwrap_or(0)
 }
 
 // ---- files
@@ -91,18 +68,18 @@ fn say(err: &impl Print, name: &[u8], error: &io::Error) -> io::Result<()> {
     write!(said, "{error}")?;
     let n = said.position() as usize;
     let text = said.into_inner();
-    print(err, name)?;
-    print(err, b": ")?;
-    print(err, reason(names::part_of(&text, 0, n)))?;
-    print(err, b"\n")
+    err.write_all(name)?;
+    err.write_all(b": ")?;
+    err.write_all(reason(names::part_of(&text, 0, n)))?;
+    err.write_all(b"\n")
 }
 
 // A file that cannot be read, which is said. Where it cannot be said either, nobody is left to tell.
-fn unread(err: &impl Print, name: &[u8], error: &io::Error) -> Loaded
-    ensures { result ≡ Loaded.Unread }
+fn unread(err: &impl Print, name: &[u8], error: &io::Error) -> Option<usize>
+    ensures { result ≡ None }
 {
     let _ = say(err, name, error);
-    Loaded::Unread
+    None
 }
 
 // Opens the file of a name. The names of std's files are UTF-8.
@@ -113,7 +90,9 @@ fn open<F: Files>(files: &F, name: &[u8]) -> io::Result<F::File> {
     }
 }
 
-// Reads until the space is full, the file ends or a read fails, and gives how many bytes it put at the front of the space.
+// Reads until the space is full, the file ends or a read fails, and gives how many bytes it put at
+// the front of the space. The loop stays: std's `read_to_end` fills a `Vec`, and `read_exact` wants
+// the whole space filled.
 fn read_full<F: Read>(file: &mut F, space: &mut [u8]) -> usize
     ensures bound { result ≤ length space.new }
     ensures bytes { Consumes (F.remaining file.old) (F.remaining file.new) (take result space.new) }
@@ -130,19 +109,20 @@ fn read_full<F: Read>(file: &mut F, space: &mut [u8]) -> usize
 }
 
 // What a first read gives, and what more the file has. A first read that fails is said.
-fn read_on<F: Read>(file: &mut F, err: &impl Print, name: &[u8], space: &mut [u8]) -> Loaded
+fn read_on<F: Read>(file: &mut F, err: &impl Print, name: &[u8], space: &mut [u8]) -> Option<usize>
     ensures within { Within space.new result }
     ensures bytes { Took (F.remaining file.old) (F.remaining file.new) space.new result }
 {
     match file.read(space) {
-        Ok(n) => Loaded::Bytes(n + read_full(file, &mut space[n..])),
+        Ok(n) => Some(n + read_full(file, &mut space[n..])),
         Err(error) => unread(err, name, &error),
     }
 }
 
-// Reads the file of a name, as far as the space reaches. One that cannot be read is said, with the reason. What a file
-// has no contract can say, as std's of `read` does not: its bytes lie in the space.
-pub fn load(files: &impl Files, err: &impl Print, name: &[u8], space: &mut [u8]) -> Loaded
+// Reads the file of a name, as far as the space reaches, and gives how many bytes it put at the
+// front of it. A file that cannot be read is said, with the reason. What a file has no contract can
+// say, as std's of `read` does not: its bytes lie in the space.
+pub fn load(files: &impl Files, err: &impl Print, name: &[u8], space: &mut [u8]) -> Option<usize>
     ensures { Within space.new result }
 {
     match open(files, name) {
@@ -151,78 +131,57 @@ pub fn load(files: &impl Files, err: &impl Print, name: &[u8], space: &mut [u8])
     }
 }
 
-// The same of the file that an argument names, or of another where there is no such argument.
+// The same of the file that an argument names, or of another where there is no such argument. The
+// space of the name is free again before a program goes on.
 pub fn load_argument(
     rt: &(impl Files + Env),
     err: &impl Print,
     i: usize,
     other: &[u8],
     space: &mut [u8],
-) -> Loaded
+) -> Option<usize>
     ensures { Within space.new result }
 {
     if argument_count(rt) <= i {
         return load(rt, err, other, space);
     }
-    let mut name = [0u8; 4096];
+    let mut name = [0; 4096];
     let n = argument(rt, i, &mut name);
     load(rt, err, &name[..n], space)
 }
 
-// ---- printing
-
-// Bytes, which need not be text.
-pub fn print(out: &impl Print, text: &[u8]) -> io::Result<()> {
-    out.write_all(text)
-}
-
-pub fn print_number(out: &impl Print, n: usize) -> io::Result<()> {
-    out.print(n)
-}
-
-// A number between two words.
-pub fn print_between(out: &impl Print, before: &[u8], n: usize, after: &[u8]) -> io::Result<()> {
-    print(out, before)?;
-    print_number(out, n)?;
-    print(out, after)
-}
-
-// The 32-bit number at a place; nothing where there are not so many bytes.
-pub fn print_u32(out: &impl Print, s: &[u8], at: usize) -> io::Result<()> {
-    if s.len() <= at {
-        return Ok(());
-    }
-    if s.len() - at < 4 {
-        return Ok(());
-    }
-    print_number(out, names::u32_at(s, at) as usize)
-}
-
-// The 64-bit number at a place; 0 where there are not so many bytes.
-pub fn u64_at(s: &[u8], at: usize) -> u64
-    ensures { result ≡ number_at s.now at }
+// Has a program go on with the bytes of the file of a name, as far as `N` bytes reach. It ends here
+// where there are none: the reason is said.
+pub fn with_file<const N: usize, F: FnOnce(&[u8]) -> io::Result<()>>(
+    files: &impl Files,
+    err: &impl Print,
+    name: &[u8],
+    go_on: F,
+) -> io::Result<()>
+    requires callable { F.IsAlwaysCallable go_on }
+    requires size { N < 2 ^ 63 }
 {
-    if s.len() <= at {
-        return 0;
+    let mut space = [0; N];
+    match load(files, err, name, &mut space) {
+        Some(n) => go_on(&space[..n]),
+        None => Ok(()),
     }
-    if s.len() - at < 8 {
-        return 0;
+}
+
+// The same with the record in the file that an argument names, or in another where there is no such
+// argument.
+pub fn with_record<F: FnOnce(&[u8]) -> io::Result<()>>(
+    rt: &(impl Files + Env),
+    err: &impl Print,
+    i: usize,
+    other: &[u8],
+    go_on: F,
+) -> io::Result<()>
+    requires { F.IsAlwaysCallable go_on }
+{
+    let mut space = [0; RECORD_SPACE];
+    match load_argument(rt, err, i, other, &mut space) {
+        Some(n) => go_on(&space[..n]),
+        None => Ok(()),
     }
-    names::word_at(s, at)
-}
-
-pub fn print_u64(out: &impl Print, n: u64) -> io::Result<()> {
-    out.print(n)
-}
-
-// A byte, in two hexadecimal digits.
-pub fn print_byte(out: &impl Print, b: usize) -> io::Result<()> {
-    print!(out; "{b:02x}")
-}
-
-// The line of a refusal: its number and the record.
-pub fn print_refusal(out: &impl Print, number: u8, which: u8) -> io::Result<()> {
-    print_between(out, b"refused ", number as usize, b" ")?;
-    print_number(out, which as usize)?;
-    print(out, b"\n")
 }

@@ -1,19 +1,15 @@
-// The reports of a run, printed.
-ghost use Rattle.std.specs.Prelude.{◌≡◌, length};
-ghost use Rattle.program.specs.Program.{zeros};
-
-use crate::{print, print_between, print_refusal, print_u32};
+// Refusals, and the reports of a run, printed.
+use crate::{print_u32, split_field};
 use std::io;
 
-// The buffer of the reports. The length is what lending it needs.
-pub fn report_space() -> [u8; 65536]
-    ensures value { result ≡ zeros 65536 }
-    ensures value_2 { 65536 ≡ length result }
-{
-    [0; 65536]
+// The line of a refusal: its number and the record.
+pub fn print_refusal(out: &impl Print, number: u8, which: u8) -> io::Result<()> {
+    println!(out; "refused {number} {which}")
 }
 
-// What a run answered: a refusal, 11 too, prints no report; else the count, then each report.
+// What a run answered: a refusal, 11 too, prints no report; else the count, then each report. The
+// numbers come one by one, since the answers of the library are of two types, which this crate does
+// not see.
 pub fn print_run(
     console: &impl Print,
     number: u8,
@@ -24,31 +20,22 @@ pub fn print_run(
     if number != 0 {
         return print_refusal(console, number, which);
     }
-    print_between(console, b"reports ", count, b"\n")?;
-    print_reports(console, out, count)
-}
-
-fn print_reports(console: &impl Print, out: &[u8], count: usize) -> io::Result<()> {
-    let mut at = 0;
+    println!(console; "reports {count}")?;
+    let mut rest = out;
     for _ in 0..count {
-        at = print_report(console, out, at)?;
+        rest = print_report(console, rest)?;
     }
     Ok(())
 }
 
-// The report at a place: its start, its end, its message; where the next one stands. A place never comes near the largest number.
-fn print_report(console: &impl Print, out: &[u8], at: usize) -> io::Result<usize> {
-    print_place(console, out, at)?;
-    print_place(console, out, at.wrapping_add(4))?;
-    let long = names::u16_at(out, at.wrapping_add(8));
-    let message = at.wrapping_add(10);
-    print(console, names::part_of(out, message, long))?;
-    print(console, b"\n")?;
-    Ok(message.wrapping_add(long))
-}
-
-// A start or an end.
-fn print_place(console: &impl Print, out: &[u8], at: usize) -> io::Result<()> {
-    print_u32(console, out, at)?;
-    print(console, b" ")
+// The report in front of some bytes: its start, its end, its message. What follows it is given.
+fn print_report<'a>(console: &impl Print, report: &'a [u8]) -> io::Result<&'a [u8]> {
+    let (message, rest) = split_field(report.get(8..).unwrap_or(&[]));
+    print_u32(console, report, 0)?;
+    console.write_all(b" ")?;
+    print_u32(console, report, 4)?;
+    console.write_all(b" ")?;
+    console.write_all(message)?;
+    console.write_all(b"\n")?;
+    Ok(rest)
 }

@@ -5,9 +5,14 @@ use Rattle.std.specs.Prelude.{◌≡◌, Bool, true, false, cond, not, ◌&&◌,
 use Rattle.names.specs.Lists.{any_of, gather}
 use Rattle.names.specs.Writer.{store}
 use Rattle.reports.specs.declared.State.{State}
+use Rattle.reports.specs.declared.Report.{Report}
 use Rattle.reports.specs.Reports.{Breach, same_pair, encoded, Answer, Outcome}
 use Rattle.reports.specs.Decode.{width, reports}
 use Rattle.reports.specs.Kept.{fold, Log}
+
+-- the breach that the code reports
+abbrev pub breach_of : Report → Breach
+breach_of r = record { start = r.start; end = r.end; message = r.message.now }
 
 pub record Sink : Type 0 where
   pub bytes : List ℕ

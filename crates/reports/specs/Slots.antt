@@ -4,12 +4,10 @@
 -- A slot is 0 where it is free, else one more than the place of a report in the buffer. A report stands in the first slot that was free when it came, from
 -- its own first slot on and from the last slot to the first one again. (Of reports with one pair, which only a buffer that was handed back can hold, the first does.)
 -- Every function that reports a (message, start) once says: `requires` Lent (sink (now buf) state) (now table), and `ensures` Pushed of its breaches.
-use Rattle.std.specs.Prelude.{◌≡◌, Bool, true, false, cond, ◌&&◌, List, [], ◌∷◌, ◌++◌, ℕ, zero, suc, ◌+◌, ◌-◌, ◌*◌, ◌/◌, ◌%◌, ◌≤◌, ◌<◌, length, get_or, take, drop, ltb, eqb}
+use Rattle.std.specs.Prelude.{Option, None, Some, ◌≡◌, Bool, true, false, cond, ◌&&◌, List, [], ◌∷◌, ◌++◌, ℕ, zero, suc, ◌+◌, ◌-◌, ◌*◌, ◌/◌, ◌%◌, ◌≤◌, ◌<◌, length, get_or, take, drop, ltb, eqb}
 use Rattle.names.specs.Fields.{number}
 use Rattle.names.specs.Lists.{any_of}
 use Rattle.reports.specs.declared.State.{State}
-use Rattle.reports.specs.declared.Slot.{Slot}
-use Rattle.reports.specs.declared.Slot.TheVariants.{Seen, Free}
 use Rattle.reports.specs.Reports.{Breach, same_pair}
 use Rattle.reports.specs.Decode.{size}
 use Rattle.reports.specs.Sink.{Sink, sink, held, push, Sound, Recorded}
@@ -118,15 +116,15 @@ pub record FreeFor (key : ℕ) (bs : List Breach) (slots : List ℕ) (b : Breach
   pub passed : (k : ℕ) → k < steps → 0 < get_or slots (slot_at (length slots) (first_slot key (length slots) b) k) 0
 
 -- what the search for a pair says
-abbrev pub Finds : ℕ → List Breach → List ℕ → Breach → Slot → Type 0
-Finds key bs slots b Seen = any_of (same_pair b) bs ≡ true
-Finds key bs slots b (Free j) = FreeFor key bs slots b j
+abbrev pub Finds : ℕ → List Breach → List ℕ → Breach → Option ℕ → Type 0
+Finds key bs slots b None = any_of (same_pair b) bs ≡ true
+Finds key bs slots b (Some j) = FreeFor key bs slots b j
 
 -- a slot of the table of a buffer is free for a pair that none of its reports is
-pub record FreeIn (s : List ℕ) (st : State) (table : List ℕ) (start : ℕ) (message : List ℕ) (j : ℕ) : Type 0 where
+pub record FreeIn (s : List ℕ) (st : State) (table : List ℕ) (b : Breach) (j : ℕ) : Type 0 where
   pub filed : Filed (sink s st) table
   pub tabled : Tabled (key_of table) (held (sink s st)) (slots_of table)
-  pub slot : FreeFor (key_of table) (held (sink s st)) (slots_of table) (record { start = start; end = 0; message = message }) j
+  pub slot : FreeFor (key_of table) (held (sink s st)) (slots_of table) b j
   pub inside : j + 1 < length table
   pub place : st.used < 4294967295
 

@@ -1,7 +1,5 @@
 -- The reports that stand whole at the front of some bytes, whatever the bytes are: what a buffer that was handed back holds. Assumes nothing.
-use Rattle.std.specs.Prelude.{◌≡◌, false, cond, List, [], ◌∷◌, ◌++◌, ℕ, zero, suc, ◌+◌, ◌≤◌, ◌<◌, length, take, drop, leb, eqb}
-use Rattle.names.specs.declared.Found.{Found}
-use Rattle.names.specs.declared.Found.TheVariants.{At, Absent}
+use Rattle.std.specs.Prelude.{Option, None, Some, ◌≡◌, false, cond, List, [], ◌∷◌, ◌++◌, ℕ, zero, suc, ◌+◌, ◌≤◌, ◌<◌, length, take, drop, leb, eqb}
 use Rattle.reports.specs.declared.State.{State}
 use Rattle.reports.specs.declared.Header.{Header}
 use Rattle.reports.specs.declared.Resumed.{Resumed}
@@ -41,9 +39,9 @@ pub record Stands (s : List ℕ) (at next : ℕ) : Type 0 where
   pub is : drop at s ≡ encoded (report (drop at s)) ++ drop next s
 
 -- where the report at a place ends, if it stands there whole
-abbrev pub EndsAt : List ℕ → ℕ → Found → Type 0
-EndsAt s at (At next) = Stands s at next
-EndsAt s at Absent = length (drop at s) < 10 + long (drop at s)
+abbrev pub EndsAt : List ℕ → ℕ → Option ℕ → Type 0
+EndsAt s at (Some next) = Stands s at next
+EndsAt s at None = length (drop at s) < 10 + long (drop at s)
 
 -- how many of its bytes may be used, and the state of these
 pub record Resumes (s : List ℕ) (used : ℕ) (r : Resumed) : Type 0 where

@@ -1,6 +1,8 @@
 // Reports in a lent buffer: each a message with its start and end, as many whole ones as fit.
 #![tactic(auto)]
 
+ghost use Rattle.std.specs.Prelude.{◌<◌, length};
+
 mod buffer;
 mod earlier;
 mod pieces;
@@ -9,19 +11,29 @@ mod standing;
 mod tabled;
 
 pub use buffer::{
-    answer_of, append_report, has_room, one_more, put_header, refused, stopped, written,
+    answer_of, append_report, has_room, one_more, put_header, refuse, refused, stopped, written,
 };
 pub use pieces::{put_piece, text_size, word_count};
 pub use slots::clear;
 pub use standing::{refile, resume};
-pub use tabled::push_scratch;
+pub use tabled::{push, push_scratch};
 
-// What the buffer holds: the bytes used, the reports in them, and whether one did not fit.
-#[derive(Clone, Copy)]
+// What the buffer holds: the bytes used, the reports in them, and whether one did not fit. (The flag is no Option's shape: the
+// bytes and the reports stand and count on where one did not fit.)
+#[derive(Clone, Copy, Default)]
 pub struct State {
     pub used: usize,
     pub count: usize,
     pub full: bool,
+}
+
+// What is reported: a message with its start and end. A report gives its length in 16 bits.
+#[derive(Clone, Copy)]
+pub struct Report<'a> {
+    pub start: u32,
+    pub end: u32,
+    pub message: &'a [u8],
+    ghost short: { length message.now < 65536 },
 }
 
 // What stands before a report's message: its start, its end, and the message's length.
@@ -40,6 +52,7 @@ pub struct Resumed {
 }
 
 // What a run answers: the number of a refusal, 0 for none; the record that it is about, 0 for none; how many reports the buffer holds.
+// (It crosses the C interface, so it has these numbers, and neither an Option nor a Result.)
 #[repr(C)]
 #[derive(Clone, Copy)]
 pub struct Answer {
@@ -60,11 +73,4 @@ pub enum Message {
     CannotSum,
     CannotSumTimepoint,
     CannotSumDecimal,
-}
-
-// What the search for a report in the table says: it is there, or the slot that it is put into.
-#[derive(Clone, Copy)]
-pub enum Slot {
-    Seen,
-    Free(usize),
 }

@@ -16,6 +16,8 @@ const STARTS: [usize; 30] = [
     537, 543, 545, 557, 596, 768, 780, 819, 899,
 ];
 
+// The numbers of a message are a match each: an array of them by a message's rank would not show which number is whose.
+
 // The place of a message's first text in the table.
 fn first_piece(which: Message) -> usize
     ensures { result ≡ first_of which }

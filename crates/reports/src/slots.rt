@@ -2,106 +2,73 @@
 // Its first entry is a key, which the caller may choose, and the slots are the entries behind it.
 ghost use Rattle.std.specs.Prelude.{◌≡◌, ◌+◌, ◌*◌, ◌<◌, ◌≤◌, length, get_or, set, take, drop};
 ghost use Rattle.names.specs.Fields.{number};
-ghost use Rattle.reports.specs.Sink.{sink, Sound, held};
+ghost use Rattle.reports.specs.Sink.{sink, breach_of, Sound, held};
 ghost use Rattle.reports.specs.Slots.{key_of, slots_of, multiplier, middle, mixed, mixed_bytes, joined, hashed_message, hashed, slot_at, Tabled, Finds, is_open, Empty};
 
 use crate::earlier::is_repeat;
-use crate::{Slot, State};
-use names::{u32_at, wide};
-
-fn from_u32(n: u32) -> usize
-    ensures value { result ≡ n }
-    ensures upper_bound { result < 4294967296 }
-{
-    n as usize
-}
+use crate::{Report, State};
+use names::u32_at;
 
 // What the numbers of a hash are multiplied by under a key.
-fn multiplier_of(key: u32) -> usize
-    ensures value { result ≡ multiplier key }
-    ensures upper_bound { result < 4294967296 }
+fn multiplier_of(key: u32) -> u32
+    ensures { result ≡ multiplier key }
 {
-    (from_u32(key) * 2 + 2654435761) % 4294967296
+    ((u64::from(key) * 2 + 2654435761) % 4294967296) as u32
 }
 
 // The middle of a product.
-fn middle(a: usize, b: usize) -> usize
-    requires { (a < 4294967296) × (b < 4294967296) }
-    ensures value { result ≡ middle a b }
-    ensures upper_bound { result < 4294967296 }
+fn middle(a: u32, b: u32) -> u32
+    ensures { result ≡ middle a b }
 {
-    a * b / 65536 % 4294967296
+    (u64::from(a) * u64::from(b) / 65536 % 4294967296) as u32
 }
 
 // One number more in a hash.
-fn mix(by: usize, h: usize, n: usize) -> usize
-    requires { (by < 4294967296) × (h < 4294967296) × (n < 4294967296) }
-    ensures value { result ≡ mixed by h n }
-    ensures upper_bound { result < 4294967296 }
+fn mix(by: u32, h: u32, n: u32) -> u32
+    ensures { result ≡ mixed by h n }
 {
-    middle((h + n) % 4294967296, by)
+    middle(h.wrapping_add(n), by)
 }
 
-// The bytes of a message from a place on.
-fn mix_bytes(by: usize, h: usize, message: &[u8], from: usize) -> usize
-    requires { (by < 4294967296) × (h < 4294967296) × (from ≤ length message.now) }
-    ensures value { result ≡ mixed_bytes by h (drop from message.now) }
-    ensures upper_bound { result < 4294967296 }
+// Some bytes in a hash, one by one.
+fn mix_bytes(by: u32, h: u32, bytes: &[u8]) -> u32
+    ensures { result ≡ mixed_bytes by h bytes.now }
 {
     let mut mixed = h;
-    let mut at = from;
-    while at < message.len() {
-        mixed = mix(by, mixed, wide(message[at]));
-        at += 1;
+    for byte in bytes {
+        mixed = mix(by, mixed, u32::from(*byte));
     }
     mixed
 }
 
 // The two numbers of a message's words in one.
-fn join(by: usize, one: usize, two: usize) -> usize
-    requires { (by < 4294967296) × (one < 4294967296) × (two < 4294967296) }
-    ensures value { result ≡ joined by one two }
-    ensures upper_bound { result < 4294967296 }
+fn join(by: u32, one: u32, two: u32) -> u32
+    ensures { result ≡ joined by one two }
 {
-    let first = mix(by, 0, one);
-    mix(by, first, two)
-}
-
-// One number more in a hash, the four bytes at a place.
-fn mix_word(by: usize, h: usize, message: &[u8], at: usize) -> usize
-    requires by_bound { (by < 4294967296) × (h < 4294967296) }
-    requires at_in_bounds { at + 4 ≤ length message.now }
-    ensures value { result ≡ mixed by h (number 0 (take 4 (drop at message.now))) }
-    ensures upper_bound { result < 4294967296 }
-{
-    mix(by, h, from_u32(u32_at(message, at)))
+    mix(by, mix(by, 0, one), two)
 }
 
 // The number of a message.
-fn hash_message(by: usize, message: &[u8]) -> usize
-    requires { by < 4294967296 }
-    ensures value { result ≡ hashed_message by message.now }
-    ensures upper_bound { result < 4294967296 }
+fn hash_message(by: u32, message: &[u8]) -> u32
+    ensures { result ≡ hashed_message by message.now }
 {
+    let (words, rest) = message.as_chunks::<8>();
     let mut one = 0;
     let mut two = 0;
-    let mut at = 0;
-    let mut left = message.len() / 8;
-    while 0 < left {
-        one = mix_word(by, one, message, at);
-        two = mix_word(by, two, message, at + 4);
-        at += 8;
-        left -= 1;
+    for word in words {
+        one = mix(by, one, u32_at(word, 0));
+        two = mix(by, two, u32_at(word, 4));
     }
-    mix_bytes(by, join(by, one, two), message, at)
+    mix_bytes(by, join(by, one, two), rest)
 }
 
 // The number of a start and a message. Without the square the starts' slots would stand about as far from each other under one message as under another.
-fn hash(key: u32, start: u32, message: &[u8]) -> usize
-    ensures { result ≡ hashed key start message.now }
+#[tactic(auto, unfolding(crate::specs::Slots::hashed))]
+fn hash(key: u32, it: Report<'_>) -> u32
+    ensures { result ≡ hashed key it.entry.start it.entry.message.now }
 {
     let by = multiplier_of(key);
-    let mixed = mix(by, hash_message(by, message), from_u32(start));
+    let mixed = mix(by, hash_message(by, it.message), it.start);
     middle(mixed, mixed)
 }
 
@@ -109,11 +76,7 @@ fn hash(key: u32, start: u32, message: &[u8]) -> usize
 fn slots_in(table: &[u32]) -> usize
     ensures { result ≡ length (slots_of table.now) }
 {
-    let size = table.len();
-    if size == 0 {
-        return 0;
-    }
-    size - 1
+    table.len().saturating_sub(1)
 }
 
 // The slot that is k behind the first of a search.
@@ -123,10 +86,7 @@ fn slot_at(size: usize, first: usize, k: usize) -> usize
     ensures upper_bound { result < size }
 {
     let behind = size - first;
-    if k < behind {
-        return first + k;
-    }
-    k - behind
+    if k < behind { first + k } else { k - behind }
 }
 
 // What a slot holds.
@@ -134,31 +94,29 @@ fn entry_at(table: &[u32], at: usize) -> usize
     requires { at + 1 < length table.now }
     ensures { result ≡ get_or (slots_of table.now) at 0 }
 {
-    from_u32(table[at + 1])
+    table[at + 1] as usize
 }
 
-// Whether a report with this start and message is in the table, or the slot that it is put into: the first free one from its own slot on.
-pub fn find(buf: &[u8], state: State, table: &[u32], start: u32, message: &[u8]) -> Slot
+// The slot that a report is put into, the first free one from its own slot on; none, where the table has its start and message.
+pub fn find(buf: &[u8], state: State, table: &[u32], it: Report<'_>) -> Option<usize>
     requires sound { Sound (sink buf.now state) }
     requires tabled { Tabled (key_of table.now) (held (sink buf.now state)) (slots_of table.now) }
     requires state_in_bounds { length (held (sink buf.now state)) < length (slots_of table.now) }
-    ensures { Finds (key_of table.now) (held (sink buf.now state)) (slots_of table.now) (record { start = start; end = 0; message = message.now }) result }
+    ensures { Finds (key_of table.now) (held (sink buf.now state)) (slots_of table.now) (breach_of it.entry) result }
 {
     let size = slots_in(table);
-    let first = hash(table[0], start, message) % size;
-    let mut k = 0;
-    while k < size {
+    let first = hash(table[0], it) as usize % size;
+    for k in 0..size {
         let at = slot_at(size, first, k);
         let entry = entry_at(table, at);
         if entry == 0 {
-            return Slot::Free(at);
+            return Some(at);
         }
-        if is_repeat(buf, entry - 1, start, message) {
-            return Slot::Seen;
+        if is_repeat(buf, entry - 1, it) {
+            return None;
         }
-        k += 1;
     }
-    Slot::Seen
+    None
 }
 
 // A report that stands at a place is put into a slot.
@@ -173,10 +131,8 @@ pub fn file(table: &mut [u32], slot: usize, place: usize)
 pub fn clear(table: &mut [u32])
     ensures { Empty table.new }
 {
-    let mut at = 1;
-    while at < table.len() {
-        table[at] = 0;
-        at += 1;
+    if !table.is_empty() {
+        table[1..].fill(0);
     }
 }
 
@@ -186,8 +142,5 @@ pub fn is_open(buf: &[u8], table: &[u32], state: State) -> bool
     ensures { result ≡ is_open (sink buf.now state) table.now }
 {
     let size = slots_in(table);
-    if state.count < size - size / 4 {
-        return buf.len() < 4294967295;
-    }
-    false
+    state.count < size - size / 4 && buf.len() < 4294967295
 }

@@ -1,5 +1,5 @@
 // A buffer that is handed back: the reports that stand whole at its front, and their places in a table.
-ghost use Rattle.std.specs.Prelude.{◌≡◌, true, false, ◌+◌, ◌≤◌, length};
+ghost use Rattle.std.specs.Prelude.{◌≡◌, true, false, ◌+◌, ◌<◌, ◌≤◌, length};
 ghost use Rattle.reports.specs.Decode.{long_at};
 ghost use Rattle.reports.specs.Sink.{sink, Sound, more};
 ghost use Rattle.reports.specs.Slots.{is_open, Filed};
@@ -7,13 +7,14 @@ ghost use Rattle.reports.specs.Standing.{standing_state, HeaderAt, EndsAt, Resum
 
 use crate::buffer::one_more;
 use crate::slots::{clear, file, find, is_open};
-use crate::{Header, Resumed, Slot, State};
-use names::{Found, part_of, wide, word_at};
+use crate::{Header, Report, Resumed, State};
+use names::{part_of, wide, word_at};
 
-// The header of the report at a place.
+// The header of the report at a place. The start and the end come by one load of eight bytes: each by itself would be four loads.
 fn header_at(buf: &[u8], at: usize) -> Header
     requires { at + 10 ≤ length buf.now }
-    ensures { HeaderAt buf.now at result }
+    ensures here { HeaderAt buf.now at result }
+    ensures long_bound { result.long < 65536 }
 {
     let both = word_at(buf, at);
     let high = wide(buf[at + 8]);
@@ -26,19 +27,19 @@ fn header_at(buf: &[u8], at: usize) -> Header
 }
 
 // Where the report at a place ends, if it stands there whole.
-fn report_end(buf: &[u8], at: usize) -> Found
+fn report_end(buf: &[u8], at: usize) -> Option<usize>
     requires { at ≤ length buf.now }
     ensures { EndsAt buf.now at result }
 {
     let left = buf.len() - at;
     if left < 10 {
-        return Found::Absent;
+        return None;
     }
     let header = header_at(buf, at);
     if left - 10 < header.long {
-        return Found::Absent;
+        return None;
     }
-    Found::At(at + 10 + header.long)
+    Some(at + 10 + header.long)
 }
 
 // The state of a buffer that holds nothing but the reports that stand whole at the front of some bytes.
@@ -46,18 +47,11 @@ fn standing_state(bytes: &[u8]) -> State
     ensures value { result ≡ standing_state bytes.now }
     ensures sound { Sound (sink bytes.now result) }
 {
-    let mut state = State {
-        used: 0,
-        count: 0,
-        full: false,
-    };
-    loop {
-        let end = report_end(bytes, state.used);
-        let Found::At(next) = end else {
-            return state;
-        };
+    let mut state = State::default();
+    while let Some(next) = report_end(bytes, state.used) {
         state = one_more(state, next);
     }
+    state
 }
 
 // What a buffer holds of which so many bytes are used: the reports that stand whole at the front of these bytes, and how many of its bytes may be used further. All
@@ -66,16 +60,12 @@ pub fn resume(buf: &[u8], used: usize) -> Resumed
     ensures { Resumes buf.now used result }
 {
     let state = standing_state(part_of(buf, 0, used));
-    if state.used == used {
-        return Resumed {
-            state,
-            size: buf.len(),
-        };
-    }
-    Resumed {
-        state,
-        size: state.used,
-    }
+    let size = if state.used == used {
+        buf.len()
+    } else {
+        state.used
+    };
+    Resumed { state, size }
 }
 
 // The report that stands behind those of a state, put into a table that takes one more, where the table does not have its pair.
@@ -90,13 +80,15 @@ fn file_next(buf: &[u8], table: &mut [u32], state: State) -> State
 {
     let at = state.used;
     let header = header_at(buf, at);
-    let message = part_of(buf, at + 10, header.long);
-    let next = one_more(state, at + 10 + header.long);
-    let slot = find(buf, state, table, header.start, message);
-    let Slot::Free(free) = slot else {
-        return next;
+    let it = Report {
+        start: header.start,
+        end: header.end,
+        message: part_of(buf, at + 10, header.long),
     };
-    file(table, free, at);
+    let next = one_more(state, at + 10 + header.long);
+    if let Some(slot) = find(buf, state, table, it) {
+        file(table, slot, at);
+    }
     next
 }
 
@@ -106,11 +98,8 @@ pub fn refile(buf: &[u8], state: State, table: &mut [u32])
     ensures { Filed (sink buf.now state) table.new }
 {
     clear(table);
-    let mut filed = State {
-        used: 0,
-        count: 0,
-        full: false,
-    };
+    let mut filed = State::default();
+    // The count of what is filed lies in the state that `file_next` returns: no index is counted beside it.
     while filed.count < state.count {
         if !is_open(buf, table, filed) {
             return;

@@ -1,100 +1,69 @@
 // One breach into the buffer, where no report has its message and start: the reports so far are looked up in a table, and one by one only where it takes no more.
 ghost use Rattle.std.specs.Prelude.{◌≡◌, true, false, [], ◌∷◌, ◌<◌, length, take};
-ghost use Rattle.reports.specs.Sink.{sink, Sound, push};
+ghost use Rattle.reports.specs.Sink.{sink, breach_of, Sound, push};
 ghost use Rattle.reports.specs.Slots.{is_open, Filed, FreeIn, Lent, Pushed};
 
 use crate::buffer::append_report;
 use crate::earlier::seen;
 use crate::slots::{file, find, is_open};
-use crate::{Slot, State};
+use crate::{Report, State};
 use names::part_of;
 
 // One breach that no report is, put into the buffer and, where it fits, into a slot that is free for it.
-fn add_filed(
-    buf: &mut [u8],
-    table: &mut [u32],
-    at: usize,
-    state: State,
-    start: u32,
-    end: u32,
-    message: &[u8],
-) -> State
-    requires sound { Sound (sink buf.old state) × (length message.now < 65536) }
-    requires free_in { FreeIn buf.old state table.old start message.now at }
-    ensures result_after { sink buf.new result ≡ push (sink buf.old state) (record { start = start; end = end; message = message.now }) }
+fn add_filed(buf: &mut [u8], table: &mut [u32], slot: usize, state: State, it: Report<'_>) -> State
+    requires sound { Sound (sink buf.old state) }
+    requires free_in { FreeIn buf.old state table.old (breach_of it) slot }
+    ensures result_after { sink buf.new result ≡ push (sink buf.old state) (breach_of it.entry) }
     ensures filed { Filed (sink buf.new result) table.new }
 {
-    let after = append_report(buf, state, start, end, message);
+    let after = append_report(buf, state, it);
     if after.full {
         return after;
     }
-    file(table, at, state.used);
+    file(table, slot, state.used);
     after
 }
 
 // One breach that is looked for in the table, which takes one more.
-fn push_filed(
-    buf: &mut [u8],
-    table: &mut [u32],
-    state: State,
-    start: u32,
-    end: u32,
-    message: &[u8],
-) -> State
-    requires sound { Sound (sink buf.old state) × (length message.now < 65536) }
+fn push_filed(buf: &mut [u8], table: &mut [u32], state: State, it: Report<'_>) -> State
+    requires sound { Sound (sink buf.old state) }
     requires filed { Filed (sink buf.old state) table.old }
     requires table_value { is_open (sink buf.old state) table.old ≡ true }
-    ensures result_after { sink buf.new result ≡ push (sink buf.old state) (record { start = start; end = end; message = message.now }) }
+    ensures result_after { sink buf.new result ≡ push (sink buf.old state) (breach_of it.entry) }
     ensures filed_2 { Filed (sink buf.new result) table.new }
 {
-    let slot = find(buf, state, table, start, message);
-    let Slot::Free(at) = slot else {
+    let Some(slot) = find(buf, state, table, it) else {
         return state;
     };
-    add_filed(buf, table, at, state, start, end, message)
+    add_filed(buf, table, slot, state, it)
 }
 
 // One breach where the table takes no more: the reports are asked one by one.
-fn push_searched(
-    buf: &mut [u8],
-    table: &[u32],
-    state: State,
-    start: u32,
-    end: u32,
-    message: &[u8],
-) -> State
-    requires sound { Sound (sink buf.old state) × (length message.now < 65536) }
+fn push_searched(buf: &mut [u8], table: &[u32], state: State, it: Report<'_>) -> State
+    requires sound { Sound (sink buf.old state) }
     requires filed { Filed (sink buf.old state) table.now }
     requires table_value { is_open (sink buf.old state) table.now ≡ false }
-    ensures result_after { sink buf.new result ≡ push (sink buf.old state) (record { start = start; end = end; message = message.now }) }
+    ensures result_after { sink buf.new result ≡ push (sink buf.old state) (breach_of it.entry) }
     ensures filed_2 { Filed (sink buf.new result) table.now }
 {
-    if seen(buf, state.count, start, message) {
+    if seen(buf, state.count, it) {
         return state;
     }
-    append_report(buf, state, start, end, message)
+    append_report(buf, state, it)
 }
 
 // One breach, where no report has its message and start: the table tells, and where it takes no more the reports do.
-fn push_tabled(
-    buf: &mut [u8],
-    table: &mut [u32],
-    state: State,
-    start: u32,
-    end: u32,
-    message: &[u8],
-) -> State
-    requires lent { Lent (sink buf.old state) table.old }
-    requires message_len_bound { length message.now < 65536 }
-    ensures { Pushed buf.old state (record { start = start; end = end; message = message.now } ∷ []) buf.new result table.new }
+pub fn push(buf: &mut [u8], table: &mut [u32], state: State, it: Report<'_>) -> State
+    requires { Lent (sink buf.old state) table.old }
+    ensures { Pushed buf.old state (breach_of it.entry ∷ []) buf.new result table.new }
 {
     if state.full {
         return state;
     }
     if is_open(buf, table, state) {
-        return push_filed(buf, table, state, start, end, message);
+        return push_filed(buf, table, state, it);
     }
-    push_searched(buf, table, state, start, end, message)
+    push_searched(buf, table, state, it)
 }
 
 // The same of a message that was composed in a scratch: its first n bytes.
@@ -111,5 +80,15 @@ pub fn push_scratch(
     requires n_bound { n < 65536 }
     ensures { Pushed buf.old state (record { start = start; end = end; message = take n scratch.now } ∷ []) buf.new result table.new }
 {
-    push_tabled(buf, table, state, start, end, part_of(scratch, 0, n))
+    let message = part_of(scratch, 0, n);
+    push(
+        buf,
+        table,
+        state,
+        Report {
+            start,
+            end,
+            message,
+        },
+    )
 }

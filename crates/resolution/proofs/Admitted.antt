@@ -1,6 +1,6 @@
 -- What a narrowing admits, and the passes over the entity types of a side. Assumes nothing.
 use mathlib.Core.Path.{◌≡◌, refl, sym, ap, ◌∙◌}
-use mathlib.Core.Bool.{Bool, true, false, cond, ◌||◌}
+use mathlib.Core.Bool.{Bool, true, false, cond, ◌||◌, false≢true}
 use mathlib.Core.List.{List, [], ◌∷◌}
 use mathlib.Core.Option.{Option, none, some}
 use Prim.Native.Nat.{ℕ, ◌+◌, ◌-◌, ◌≤◌, ◌<◌}
@@ -10,7 +10,7 @@ use borrow.Author.Rules.{rules}
 use Rattle.names.specs.Lists.{any_of, select}
 use Rattle.names.specs.Fields.{string_of}
 use Rattle.names.specs.Names.{path_name, same, simple_name}
-use Rattle.names.specs.Read.{word_at, Listed}
+use Rattle.names.specs.Read.{word_at, Listed, Found}
 use Rattle.names.specs.Laws.Rows.{Remaining, remaining_all, remaining_over, StringsLeft, strings_left}
 use Rattle.types.specs.Meaning.{tag_of, layered, rich_of}
 use Rattle.types.specs.Laws.Texts.{layers_in, tag_in, Small}
@@ -20,7 +20,6 @@ use Rattle.schema.specs.Schema.{Schema}
 use Rattle.schema.specs.Find.{find_entity}
 use Rattle.schema.specs.Places.{schema_in, is_entity, entity_in, action_in, FindsEntity, Nearby, Near}
 use Rattle.schema.specs.Laws.Nearby.{nearby_all, near_word}
-use Rattle.names.specs.declared.Found.{Found}
 use Rattle.names.specs.declared.Row.{Row}
 use Rattle.targets.specs.Targets.{Narrowing}
 use Rattle.targets.specs.Places.{narrowed, targets_in}
@@ -28,9 +27,9 @@ use Rattle.targets.specs.declared.Narrowed.{Narrowed}
 use Rattle.resolution.specs.Resolution.{ancestors_of, admits, admitted_by, side_admits, admitted, admits_any_env, entity_of, scope_type}
 use Rattle.resolution.specs.Places.{are_types, types_in, is_absent, Nearer, Follows, NextOf, NextNearOf, NextPlaced, typed_of, small_type}
 use Rattle.resolution.specs.Laws.Sizes.{Bytes, simple_short, word_short}
-use Rattle.resolution.specs.declared.Next.{Next}
-use Rattle.resolution.specs.declared.NextNear.{NextNear}
-use Rattle.resolution.specs.declared.Typed.{Typed}
+use Rattle.std.specs.Prelude.{Some, None, is_some}
+use Rattle.types.specs.declared.Rich.{Rich}
+use Rattle.resolution.specs.Coded.{NextNear, Next}
 
 -- A type is the one named, or lists it among its ancestors.
 module _ (s name group : List ℕ) (b : Bool) (is_b : b ≡ same name group) where
@@ -41,16 +40,16 @@ module _ (s name group : List ℕ) (b : Bool) (is_b : b ≡ same name group) whe
   in_itself e = rw (← is_b, e)
 
   module _ (e : b ≡ false) (x : Found) (finds : FindsEntity s (find_entity (schema_in s) name) x) where
-    pub in_undeclared : x ≡ Found.Absent → Among false
+    pub in_undeclared : x ≡ None → Among false
     unfolding ancestors_of any_of
     in_undeclared g =
         let i : find_entity (schema_in s) name ≡ none = sym finds.value ∙ rw g in
         rw (← is_b, e, i)
 
-    pub in_declared : (at : ℕ) → x ≡ Found.At at → is_entity s at ≡ true
+    pub in_declared : (at : ℕ) → x ≡ Some at → is_entity s at ≡ true
     in_declared at g = rw g at finds.stands
 
-    pub in_ancestors : (at : ℕ) → x ≡ Found.At at → (r : Bool) → r ≡ any_of (λ a. same a group) (entity_in s at).ancestors → Among r
+    pub in_ancestors : (at : ℕ) → x ≡ Some at → (r : Bool) → r ≡ any_of (λ a. same a group) (entity_in s at).ancestors → Among r
     unfolding ancestors_of
     in_ancestors at g r is =
         let i : find_entity (schema_in s) name ≡ some (entity_in s at) = sym finds.value ∙ rw g in
@@ -107,28 +106,28 @@ module _ (s name : List ℕ) (x : Narrowed) (r : Row) where
 
 -- What a pass found, and where it goes on.
 module _ (s : List ℕ) (test : List ℕ → Bool) (row : Row) (x : NextNear) where
-  pub next_from : NextNearOf s test row x → (p : ℕ) (rest near : Row) → x ≡ NextNear.Name p rest near → Nearby s near
+  pub next_from : NextNearOf s test row x → (p : ℕ) (rest near : Row) → x ≡ Some (p, rest, near) → Nearby s near
   next_from l p rest near e = rw e at l.near
 
-  pub plain_name : NextNearOf s test row x → (p : ℕ) (rest near : Row) → x ≡ NextNear.Name p rest near → NextOf s test row (Next.Name p rest)
+  pub plain_name : NextNearOf s test row x → (p : ℕ) (rest near : Row) → x ≡ Some (p, rest, near) → NextOf s test row (Some (p, rest))
   plain_name l p rest near e = rw e at l.next
 
-  pub plain_over : NextNearOf s test row x → x ≡ NextNear.Over → NextOf s test row Next.Over
+  pub plain_over : NextNearOf s test row x → x ≡ None → NextOf s test row None
   plain_over l e = rw e at l.next
 
 -- The same with the search for its entity type.
 module _ (s : List ℕ) (test : List ℕ → Bool) (row : Row) (x : NextNear) where
   module _ (l : NextNearOf s test row x) where
-    pub placed_name : (p : ℕ) (rest around : Row) → x ≡ NextNear.Name p rest around → (w : List ℕ) → w ≡ word_at s p → (near : Row) → Near s w near → NextPlaced s test row (NextNear.Name p rest near)
+    pub placed_name : (p : ℕ) (rest around : Row) → x ≡ Some (p, rest, around) → (w : List ℕ) → w ≡ word_at s p → (near : Row) → Near s w near → NextPlaced s test row (Some (p, rest, near))
     placed_name p rest around e w is_w near at = record { next = plain_name s test row x l p rest around e; near = rw (← is_w) at }
 
-    pub placed_over : x ≡ NextNear.Over → NextPlaced s test row NextNear.Over
+    pub placed_over : x ≡ None → NextPlaced s test row None
     placed_over e = record { next = plain_over s test row x l e; near = omega arith }
 
-  pub placed_near : NextPlaced s test row x → (p : ℕ) (rest near : Row) → x ≡ NextNear.Name p rest near → Near s (word_at s p) near
+  pub placed_near : NextPlaced s test row x → (p : ℕ) (rest near : Row) → x ≡ Some (p, rest, near) → Near s (word_at s p) near
   placed_near l p rest near e = rw e at l.near
 
-  pub placed_nearby : NextPlaced s test row x → (p : ℕ) (rest near : Row) → x ≡ NextNear.Name p rest near → Nearby s near
+  pub placed_nearby : NextPlaced s test row x → (p : ℕ) (rest near : Row) → x ≡ Some (p, rest, near) → Nearby s near
   placed_nearby l p rest near e = (placed_near l p rest near e).row
 
 pub ruleset placing = (rules, next_from, placed_name, placed_over)
@@ -153,7 +152,7 @@ module _ (s : List ℕ) (test : List ℕ → Bool) (row : Row) where
   pub scan_start : are_types s row ≡ true → Scanning row.count row.at
   scan_start are = record { there = remaining_all (string_of path_name) s (select test) row.count row.at are; fewer = omega arith }
 
-  pub scan_over : (n at : ℕ) → Scanning n at → n ≤ 0 → NextOf s test row Next.Over
+  pub scan_over : (n at : ℕ) → Scanning n at → n ≤ 0 → NextOf s test row None
   unfolding select
   scan_over n at l h = record { value = remaining_over (string_of path_name) s (select test) (select test (types_in s row)) n at h l.there; follows = omega arith }
 
@@ -165,7 +164,7 @@ module _ (s : List ℕ) (test : List ℕ → Bool) (row : Row) where
     scan_inside = opened.inside
 
     module _ (w : List ℕ) (is_w : w ≡ word_at s at) (b : Bool) (is_b : b ≡ test w) (m : ℕ) (place : m ≡ at + 1 + get_or s at 0) where
-      pub scan_found : b ≡ true → NextOf s test row (Next.Name at (record { count = n - 1; at = m }))
+      pub scan_found : b ≡ true → NextOf s test row (Some (at, (record { count = n - 1; at = m })))
       unfolding select
       scan_found e =
           let t : test (word_at s at) ≡ true = rw (← is_w, ← is_b) e in
@@ -234,13 +233,20 @@ module _ (S : Schema) (n : List ℕ) (x : Narrowed) where
     side_free e = side_unasked (types_in s row) (sym is_b ∙ e)
 
     module _ (e : b ≡ false) (y : Next) (next : NextOf s (admitted_by S (narrowed n x)) row y) where
-      pub side_empty : y ≡ Next.Over → false ≡ side_admits S (narrowed n x) (types_in s row)
+      side_empty : y ≡ None → false ≡ side_admits S (narrowed n x) (types_in s row)
       side_empty g = any_none _ (types_in s row) (rw g at next.value) ∙ side_asked (types_in s row) (sym is_b ∙ e)
 
-      pub side_some : (p : ℕ) (rest : Row) → y ≡ Next.Name p rest → true ≡ side_admits S (narrowed n x) (types_in s row)
+      side_some : (p : ℕ) (rest : Row) → y ≡ Some (p, rest) → true ≡ side_admits S (narrowed n x) (types_in s row)
       side_some p rest g = any_some _ _ _ (types_in s row) (rw g at next.value) ∙ side_asked (types_in s row) (sym is_b ∙ e)
 
-pub ruleset sides = (rules, side_free, side_empty, side_some)
+      pub side_found : (r : Bool) → r ≡ is_some y → r ≡ side_admits S (narrowed n x) (types_in s row)
+      side_found r is = is ∙ go y refl
+        where
+          go : (z : Next) → y ≡ z → is_some z ≡ side_admits S (narrowed n x) (types_in s row)
+          go None g = side_empty g
+          go (Some (p, rest)) g = side_some p rest g
+
+pub ruleset sides = (rules, side_free, side_found)
 
 -- Both sides.
 module _ (s n : List ℕ) (a : ℕ) (ps : Row) (is_ps : Listed (string_of path_name) s (action_in s a).principals ps.count ps.at) (p : Narrowed) (is_p : narrowed n p ≡ (targets_in n).scope.principal) (b : Bool) (is_b : b ≡ side_admits (schema_in s) (narrowed n p) (types_in s ps)) where
@@ -260,11 +266,11 @@ pub ruleset environments = (rules, env_none, env_by)
 
 -- The type of a bare root.
 module _ (s : List ℕ) (S : Schema) (o : Option Narrowing) (row : Row) (x : Next) (next : NextOf s (admitted_by S o) row x) where
-  pub type_none : x ≡ Next.Over → (c : List ℕ) → typed_of s c Typed.Nothing ≡ scope_type S o (types_in s row)
+  pub type_none : x ≡ None → (c : List ℕ) → typed_of s c None ≡ scope_type S o (types_in s row)
   unfolding scope_type admitted entity_of
   type_none e c = rw (← (rw e at next.value))
 
-  module _ (p : ℕ) (rest : Row) (e : x ≡ Next.Name p rest) where
+  module _ (p : ℕ) (rest : Row) (e : x ≡ Some (p, rest)) where
     follows : Follows s row p rest
     follows = rw e at next.follows
 
@@ -275,24 +281,33 @@ module _ (s : List ℕ) (S : Schema) (o : Option Narrowing) (row : Row) (x : Nex
     type_inside = follows.inside
 
     module _ (y : Next) (more : NextOf s (admitted_by S o) rest y) where
-      pub type_several : (q : ℕ) (others : Row) → y ≡ Next.Name q others → (c : List ℕ) → typed_of s c (Typed.As (record { layers = 0; base = Base.Untagged })) ≡ scope_type S o (types_in s row)
-      unfolding scope_type admitted entity_of layered
-      type_several q others g c = rw (← (rw e at next.value), ← (rw g at more.value))
+      module _ (b : Bool) (is_b : b ≡ is_some y) (r : Rich) where
+        pub type_several : b ≡ true → r ≡ record { layers = 0; base = Base.Untagged } → (c : List ℕ) → typed_of s c (Some r) ≡ scope_type S o (types_in s row)
+        unfolding scope_type admitted entity_of layered
+        type_several h j c = go y refl
+          where
+            go : (z : Next) → y ≡ z → typed_of s c (Some r) ≡ scope_type S o (types_in s row)
+            go None g = let i : true ≡ false = sym h ∙ is_b ∙ ap is_some g in absurd (false≢true (sym i))
+            go (Some (q, others)) g = rw (j, ← (rw e at next.value), ← (rw g at more.value))
 
-      pub type_one : y ≡ Next.Over → (tag : Tag) → ((c : List ℕ) → tag_of s c tag ≡ simple_name (word_at s p)) → (c : List ℕ) → typed_of s c (Typed.As (record { layers = 0; base = Base.Tagged tag })) ≡ scope_type S o (types_in s row)
-      unfolding scope_type admitted entity_of layered
-      type_one g tag is c = rw (← (rw e at next.value), ← (rw g at more.value), is c)
+        pub type_one : b ≡ false → (tag : Tag) → r ≡ record { layers = 0; base = Base.Tagged tag } → ((c : List ℕ) → tag_of s c tag ≡ simple_name (word_at s p)) → (c : List ℕ) → typed_of s c (Some r) ≡ scope_type S o (types_in s row)
+        unfolding scope_type admitted entity_of layered
+        type_one h tag j is c = go y refl
+          where
+            go : (z : Next) → y ≡ z → typed_of s c (Some r) ≡ scope_type S o (types_in s row)
+            go None g = rw (j, ← (rw e at next.value), ← (rw g at more.value), is c)
+            go (Some (q, others)) g = let i : false ≡ true = sym h ∙ is_b ∙ ap is_some g in absurd (false≢true i)
 
 -- a bare root's type is small
-pub nothing_small : (s c : List ℕ) → small_type (typed_of s c Typed.Nothing)
+pub nothing_small : (s c : List ℕ) → small_type (typed_of s c None)
 nothing_small s c = omega arith
 
-pub untagged_small : (s c : List ℕ) → Small (rich_of s c (record { layers = 0; base = Base.Untagged }))
+pub untagged_small : (s : List ℕ) (r : Rich) → r ≡ record { layers = 0; base = Base.Untagged } → (c : List ℕ) → Small (rich_of s c r)
 unfolding layered layers_in tag_in
-untagged_small s c = record { layers = omega arith; tag = omega arith }
+untagged_small s r j c = rw j record { layers = omega arith; tag = omega arith }
 
-pub tagged_small : (s : List ℕ) → Bytes s → (test : List ℕ → Bool) (row : Row) (x : Next) → NextOf s test row x → (p : ℕ) (rest : Row) → x ≡ Next.Name p rest → (tag : Tag) → ((c : List ℕ) → tag_of s c tag ≡ simple_name (word_at s p)) → (c : List ℕ) → Small (rich_of s c (record { layers = 0; base = Base.Tagged tag }))
+pub tagged_small : (s : List ℕ) → Bytes s → (test : List ℕ → Bool) (row : Row) (x : Next) → NextOf s test row x → (p : ℕ) (rest : Row) → x ≡ Some (p, rest) → (tag : Tag) (r : Rich) → r ≡ record { layers = 0; base = Base.Tagged tag } → ((c : List ℕ) → tag_of s c tag ≡ simple_name (word_at s p)) → (c : List ℕ) → Small (rich_of s c r)
 unfolding layered layers_in tag_in
-tagged_small s bytes test row x next p rest e tag is c = record { layers = omega arith; tag = rw (is c) (simple_short (word_at s p) (word_short s bytes p)) }
+tagged_small s bytes test row x next p rest e tag r j is c = rw j record { layers = omega arith; tag = rw (is c) (simple_short (word_at s p) (word_short s bytes p)) }
 
 pub ruleset tagging = (rules, type_none, type_rest, type_inside, type_several, type_one, nothing_small, untagged_small, tagged_small)

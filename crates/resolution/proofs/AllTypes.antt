@@ -7,7 +7,7 @@ use Prim.Native.Nat.{ℕ, ◌<◌}
 use native.Mathlib.Omega.{arith}
 use borrow.Author.Rules.{rules}
 use Rattle.names.specs.Lists.{maybe, first, every, select}
-use Rattle.names.specs.Read.{word_at}
+use Rattle.names.specs.Read.{word_at, Found}
 use Rattle.types.specs.Types.{Ty, same_type}
 use Rattle.types.specs.Meaning.{rich_of}
 use Rattle.types.specs.declared.Rich.{Rich}
@@ -15,17 +15,17 @@ use Rattle.schema.specs.Schema.{Schema, EntityType}
 use Rattle.schema.specs.Find.{find_entity}
 use Rattle.schema.specs.Places.{schema_in, is_entity, entity_in, FindsEntity}
 use Rattle.schema.specs.Laws.Nearby.{nearby_all}
-use Rattle.names.specs.declared.Found.{Found}
 use Rattle.names.specs.declared.Row.{Row}
 use Rattle.targets.specs.Targets.{Narrowing}
 use Rattle.resolution.specs.Resolution as Resolution
 use Rattle.resolution.specs.Resolution.{OnType, ambiguous, unknown, typed, types_of, failed, agreed, failure, verdict, on_entity, on_types_by, on_types, declared_all, admitted_by, admitted, scope_path_by, scope_path, renderings}
 use Rattle.resolution.specs.Places.{are_segments, segments_in, Behind, are_types, types_in, Follows, NextPlaced, end_of, small_end, small_path}
 use Rattle.resolution.specs.Passes.{scope_of, briefly, end_alone, end_beside, end_among, with_end, alone_of, among_of}
-use Rattle.resolution.specs.declared.NextNear.{NextNear}
 use Rattle.resolution.specs.declared.PathEnd.{PathEnd}
 use Rattle.resolution.specs.declared.ScopePath.{ScopePath}
 use Rattle.resolution.specs.Laws.Segments.{no_segments}
+use Rattle.std.specs.Prelude.{Some, None}
+use Rattle.resolution.specs.Coded.{NextNear}
 
 -- One more entity type, in the code's answers.
 module _ (e : PathEnd) where
@@ -249,11 +249,11 @@ module _ (s c : List ℕ) (N : Option Narrowing) (head : ℕ) (rest : Row) (o : 
   pass_small row a l = l.small
 
   module _ (row : Row) (a : ScopePath) (l : Passing row a) (x : NextNear) (next : NextPlaced s (admitted_by (schema_in s) N) row x) where
-    pub pass_over : x ≡ NextNear.Over → scope_of s c a ≡ o
+    pub pass_over : x ≡ None → scope_of s c a ≡ o
     unfolding declared_all on_types_by onward
     pass_over e = rw (← (rw e at next.next.value)) at l.same
 
-    module _ (p : ℕ) (others near : Row) (e : x ≡ NextNear.Name p others near) where
+    module _ (p : ℕ) (others near : Row) (e : x ≡ Some (p, others, near)) where
       pub pass_fewer : others.count < row.count
       pass_fewer = let f : Follows s row p others = rw e at next.next.follows in f.fewer
 
@@ -261,15 +261,15 @@ module _ (s c : List ℕ) (N : Option Narrowing) (head : ℕ) (rest : Row) (o : 
       here = ap (over (schema_in s) (word_at c head) (segments_in c rest) (scope_of s c a)) (rw e at next.next.value) ∙ l.same
 
       module _ (w : List ℕ) (is_w : w ≡ word_at s p) (y : Found) (finds : FindsEntity s (find_entity (schema_in s) w) y) where
-        pub pass_undeclared : y ≡ Found.Absent → scope_of s c ScopePath.Unknown ≡ o
+        pub pass_undeclared : y ≡ None → scope_of s c ScopePath.Unknown ≡ o
         pass_undeclared g =
             let i : find_entity (schema_in s) (word_at s p) ≡ none = rw (← is_w) (sym finds.value ∙ rw g) in
             sym (over_undeclared (schema_in s) (word_at c head) (segments_in c rest) (scope_of s c a) (word_at s p) (select (admitted_by (schema_in s) N) (types_in s others)) i) ∙ here
 
-        pub pass_declared : (at : ℕ) → y ≡ Found.At at → is_entity s at ≡ true
+        pub pass_declared : (at : ℕ) → y ≡ Some at → is_entity s at ≡ true
         pass_declared at g = rw g at finds.stands
 
-        pub pass_on : (at : ℕ) → y ≡ Found.At at → (end : PathEnd) → end_of s c end ≡ on_entity (word_at c head) (segments_in c rest) (entity_in s at) → small_end (end_of s c end) → (b : ScopePath) → scope_of s c b ≡ with_end (scope_of s c a) (end_of s c end) → Passing others b
+        pub pass_on : (at : ℕ) → y ≡ Some at → (end : PathEnd) → end_of s c end ≡ on_entity (word_at c head) (segments_in c rest) (entity_in s at) → small_end (end_of s c end) → (b : ScopePath) → scope_of s c b ≡ with_end (scope_of s c a) (end_of s c end) → Passing others b
         pass_on at g end is fits b joins =
             let i : find_entity (schema_in s) (word_at s p) ≡ some (entity_in s at) = rw (← is_w) (sym finds.value ∙ rw g) in
             let f : Follows s row p others = rw e at next.next.follows in

@@ -9,12 +9,11 @@ use borrow.Author.Rules.{rules}
 use lib.ListN.{length, get_or, take}
 use Rattle.names.specs.Fields.{string_of}
 use Rattle.names.specs.Names.{same, path_name, simple_name, last_of, joined}
-use Rattle.names.specs.Read.{word_at, is_row, row_in, Listed}
+use Rattle.names.specs.Read.{word_at, is_row, row_in, Listed, Found}
 use Rattle.names.specs.Text.{text}
 use Rattle.names.specs.Laws.Rows.{Remaining, remaining_all, strings_left, listed_length, listed_over, listed_front}
 use Rattle.schema.specs.Find.{find_action}
 use Rattle.schema.specs.Places.{schema_in, is_action, action_in, Answers}
-use Rattle.names.specs.declared.Found.{Found}
 use Rattle.names.specs.declared.Row.{Row}
 use Rattle.resolution.specs.Resolution.{without_action, predicate_action}
 
@@ -23,8 +22,8 @@ use Rattle.resolution.specs.Resolution.{without_action, predicate_action}
 abbrev pub NamesLeft : List ℕ → List ℕ → ℕ → ℕ → Type 0
 NamesLeft s o n at = Remaining (string_of path_name) s last_of o n at
 
-pub names_start : (s : List ℕ) (n at : ℕ) → is_row (string_of path_name) s n at ≡ true → NamesLeft s (last_of (row_in (string_of path_name) s n at)) n at
-names_start s n at is = remaining_all (string_of path_name) s last_of n at is
+pub names_start : (s : List ℕ) (n at : ℕ) → is_row (string_of path_name) s n at ≡ true → NamesLeft s (last_of (row_in (string_of path_name) s n at)) (n + 1 - 1) at
+names_start s n at is = let all : n + 1 - 1 ≡ n = omega arith in rw all (remaining_all (string_of path_name) s last_of n at is)
 
 last_behind : (w : List ℕ) (l : List (List ℕ)) → 0 < length l → last_of (w ∷ l) ≡ last_of l
 unfolding last_of
@@ -35,19 +34,23 @@ last_alone : (w : List ℕ) (l : List (List ℕ)) → l ≡ [] → last_of (w �
 unfolding last_of
 last_alone w l e = ap (λ (k : List (List ℕ)). last_of (w ∷ k)) e
 
-module _ (s o : List ℕ) (n at : ℕ) (l : NamesLeft s o n at) where
-  pub name_inside : 1 < n → at + 1 + get_or s at 0 ≤ length s
+module _ (s o : List ℕ) (end i at : ℕ) (l : NamesLeft s o (end + 1 - i) at) where
+  abbrev n : ℕ
+  n = end + 1 - i
+
+  pub name_inside : i < end → at + 1 + get_or s at 0 ≤ length s
   name_inside h = (strings_left path_name s last_of o n at (omega arith) l).inside
 
-  pub names_turn : 1 < n → (m : ℕ) → m ≡ at + 1 + get_or s at 0 → NamesLeft s o (n - 1) m
+  pub names_turn : i < end → (m : ℕ) → m ≡ at + 1 + get_or s at 0 → NamesLeft s o (end + 1 - (i + 1)) m
   names_turn h m e =
       let v = strings_left path_name s last_of o n at (omega arith) l in
       let k : length v.others ≡ n - 1 = listed_length (string_of path_name) s v.others (n - 1) (at + 1 + get_or s at 0) v.there in
-      record { left = v.others; there = rw e v.there; same = sym (last_behind (word_at s at) v.others (omega arith)) ∙ v.same }
+      let less : end + 1 - (i + 1) ≡ n - 1 = omega arith in
+      rw less record { left = v.others; there = rw e v.there; same = sym (last_behind (word_at s at) v.others (omega arith)) ∙ v.same }
 
-  pub name_last : 0 < n → n ≤ 1 → (w : List ℕ) → w ≡ word_at s at → w ≡ o
-  name_last h i w e =
-      let v = strings_left path_name s last_of o n at h l in
+  pub name_last : i ≤ end → end ≤ i → (w : List ℕ) → w ≡ word_at s at → w ≡ o
+  name_last h j w e =
+      let v = strings_left path_name s last_of o n at (omega arith) l in
       let k : v.others ≡ [] = listed_over (string_of path_name) s v.others (n - 1) (at + 1 + get_or s at 0) (omega arith) v.there in
       e ∙ sym (last_alone (word_at s at) v.others k) ∙ v.same
 

@@ -9,7 +9,7 @@ use lib.ListN.{length, take}
 use borrow.Author.Rules.{rules}
 use Rattle.names.specs.Lists.{select}
 use Rattle.names.specs.Names.{below}
-use Rattle.names.specs.Read.{word_at}
+use Rattle.names.specs.Read.{word_at, Found}
 use Rattle.names.specs.Writer.{Stored}
 use Rattle.names.specs.Laws.Writers.{stored_text}
 use Rattle.types.specs.Types.{Ty, render}
@@ -20,17 +20,16 @@ use Rattle.types.specs.declared.Form.TheVariants as Form
 use Rattle.schema.specs.Schema.{Schema}
 use Rattle.schema.specs.Find.{find_entity}
 use Rattle.schema.specs.Places.{schema_in, is_entity, entity_in, FindsEntity}
-use Rattle.names.specs.declared.Found.{Found}
 use Rattle.names.specs.declared.Row.{Row}
 use Rattle.targets.specs.Targets.{Narrowing}
 use Rattle.resolution.specs.Resolution.{typed, on_entity, admitted_by, renderings}
 use Rattle.resolution.specs.Places.{are_segments, segments_in, Behind, are_types, types_in, Follows, NextPlaced, end_of, typed_of, small_end, small_type}
 use Rattle.resolution.specs.Passes.{rendered, above, under, closest, type_on, types_on, renderings_on, next_rendered, end_type}
-use Rattle.resolution.specs.declared.NextNear.{NextNear}
 use Rattle.resolution.specs.declared.PathEnd.{PathEnd}
-use Rattle.resolution.specs.declared.Typed.{Typed}
 use Rattle.resolution.specs.Laws.Segments.{no_segments}
 use Rattle.resolution.proofs.Texts.{picked, picked_next}
+use Rattle.std.specs.Prelude.{Some, None}
+use Rattle.resolution.specs.Coded.{Typed, NextNear}
 
 -- Two texts, each in a scratch of 512 bytes.
 pub text_room : (t : Ty) → Small t → 0 + length (render t) ≤ 512
@@ -46,20 +45,20 @@ text_counted a a' t n st = rw (stored_text st) (omega (arith, st.next))
 
 -- The tests on what may be a type.
 module _ (s c : List ℕ) (x : Typed) where
-  pub as_small : (u : Rich) → x ≡ Typed.As u → small_type (typed_of s c x) → Small (rich_of s c u)
+  pub as_small : (u : Rich) → x ≡ Some u → small_type (typed_of s c x) → Small (rich_of s c u)
   as_small u e h = rw e at h
 
   module _ (t : Rich) where
-    pub above_one : (u : Rich) → x ≡ Typed.As u → (r : Bool) → r ≡ below (render (rich_of s c u)) (render (rich_of s c t)) → r ≡ above (rendered (typed_of s c x)) (render (rich_of s c t))
+    pub above_one : (u : Rich) → x ≡ Some u → (r : Bool) → r ≡ below (render (rich_of s c u)) (render (rich_of s c t)) → r ≡ above (rendered (typed_of s c x)) (render (rich_of s c t))
     above_one u e r is = rw e is
 
-    pub above_none : x ≡ Typed.Nothing → true ≡ above (rendered (typed_of s c x)) (render (rich_of s c t))
+    pub above_none : x ≡ None → true ≡ above (rendered (typed_of s c x)) (render (rich_of s c t))
     above_none e = rw e
 
-    pub under_one : (u : Rich) → x ≡ Typed.As u → (r : Bool) → r ≡ below (render (rich_of s c t)) (render (rich_of s c u)) → r ≡ under (rendered (typed_of s c x)) (render (rich_of s c t))
+    pub under_one : (u : Rich) → x ≡ Some u → (r : Bool) → r ≡ below (render (rich_of s c t)) (render (rich_of s c u)) → r ≡ under (rendered (typed_of s c x)) (render (rich_of s c t))
     under_one u e r is = rw e is
 
-    pub under_none : x ≡ Typed.Nothing → true ≡ under (rendered (typed_of s c x)) (render (rich_of s c t))
+    pub under_none : x ≡ None → true ≡ under (rendered (typed_of s c x)) (render (rich_of s c t))
     under_none e = rw e
 
 pub ruleset comparing = (rules, text_room, text_counted, texts_below, as_small, above_one, above_none, under_one, under_none)
@@ -69,11 +68,11 @@ module _ (s c : List ℕ) (last best other : Typed) where
   abbrev Closest : Typed → Type 0
   Closest r = typed_of s c r ≡ closest (rendered (typed_of s c last)) (typed_of s c best) (typed_of s c other)
 
-  pub closer_none : other ≡ Typed.Nothing → Closest best
+  pub closer_none : other ≡ None → Closest best
   unfolding closest
   closer_none e = rw e
 
-  module _ (t : Rich) (e : other ≡ Typed.As t) where
+  module _ (t : Rich) (e : other ≡ Some t) where
     pub closer_small : small_type (typed_of s c other) → Small (rich_of s c t)
     closer_small h = rw e at h
 
@@ -83,7 +82,7 @@ module _ (s c : List ℕ) (last best other : Typed) where
       closer_not h = rw (e, ← is_a, h)
 
       module _ (h : a ≡ true) (b : Bool) (is_b : b ≡ under (rendered (typed_of s c best)) (render (rich_of s c t))) where
-        pub closer_yes : b ≡ true → Closest (Typed.As t)
+        pub closer_yes : b ≡ true → Closest (Some t)
         unfolding closest
         closer_yes k = rw (e, ← is_a, h, ← is_b, k)
 
@@ -94,7 +93,7 @@ module _ (s c : List ℕ) (last best other : Typed) where
 pub ruleset closing = (rules, closer_none, closer_small, closer_not, closer_yes, closer_behind)
 
 -- The type on one entity type.
-pub end_resolved : (e : PathEnd) (t : Rich) → e ≡ PathEnd.Resolved t → Typed.As t ≡ end_type e
+pub end_resolved : (e : PathEnd) (t : Rich) → e ≡ PathEnd.Resolved t → Some t ≡ end_type e
 end_resolved e t i = rw i
 
 module _ (s c : List ℕ) where
@@ -113,16 +112,16 @@ module _ (s c : List ℕ) where
   type-small-end e h r i = rw i (end_small e h)
 
   module _ (p head : ℕ) (rest : Row) (w : List ℕ) (is_w : w ≡ word_at s p) (x : Found) (finds : FindsEntity s (find_entity (schema_in s) w) x) where
-    pub type_undeclared : x ≡ Found.Absent → typed_of s c Typed.Nothing ≡ type_on (schema_in s) (word_at c head ∷ segments_in c rest) (word_at s p)
+    pub type_undeclared : x ≡ None → typed_of s c None ≡ type_on (schema_in s) (word_at c head ∷ segments_in c rest) (word_at s p)
     unfolding type_on
     type_undeclared g =
         let i : find_entity (schema_in s) (word_at s p) ≡ none = rw (← is_w) (sym finds.value ∙ rw g) in
         rw i
 
-    pub type_declared : (at : ℕ) → x ≡ Found.At at → is_entity s at ≡ true
+    pub type_declared : (at : ℕ) → x ≡ Some at → is_entity s at ≡ true
     type_declared at g = rw g at finds.stands
 
-    pub type_by : (at : ℕ) → x ≡ Found.At at → (e : PathEnd) → end_of s c e ≡ on_entity (word_at c head) (segments_in c rest) (entity_in s at) → (r : Typed) → r ≡ end_type e → typed_of s c r ≡ type_on (schema_in s) (word_at c head ∷ segments_in c rest) (word_at s p)
+    pub type_by : (at : ℕ) → x ≡ Some at → (e : PathEnd) → end_of s c e ≡ on_entity (word_at c head) (segments_in c rest) (entity_in s at) → (r : Typed) → r ≡ end_type e → typed_of s c r ≡ type_on (schema_in s) (word_at c head ∷ segments_in c rest) (word_at s p)
     unfolding type_on
     type_by at g e is r j =
         let i : find_entity (schema_in s) (word_at s p) ≡ some (entity_in s at) = rw (← is_w) (sym finds.value ∙ rw g) in
@@ -141,11 +140,11 @@ module _ (s c : List ℕ) (S : Schema) (N : Option Narrowing) (path : List (List
   pick_small row best l = l.small
 
   module _ (row : Row) (best : Typed) (l : Picking row best) (x : NextNear) (next : NextPlaced s (admitted_by S N) row x) where
-    pub pick_over : x ≡ NextNear.Over → typed_of s c best ≡ o
+    pub pick_over : x ≡ None → typed_of s c best ≡ o
     unfolding picked
     pick_over e = rw (← (rw e at next.next.value)) at l.same
 
-    module _ (p : ℕ) (others near : Row) (e : x ≡ NextNear.Name p others near) where
+    module _ (p : ℕ) (others near : Row) (e : x ≡ Some (p, others, near)) where
       pub pick_fewer : others.count < row.count
       pick_fewer = let f : Follows s row p others = rw e at next.next.follows in f.fewer
 
@@ -162,7 +161,7 @@ module _ (s c : List ℕ) (S : Schema) (N : Option Narrowing) (path : List (List
             small = fits;
           }
 
-pub pick_start : (s c : List ℕ) (S : Schema) (N : Option Narrowing) (path : List (List ℕ)) (last : Option (List ℕ)) (row : Row) → are_types s row ≡ true → Picking s c S N path last (picked S path last none (select (admitted_by S N) (types_in s row))) row Typed.Nothing
+pub pick_start : (s c : List ℕ) (S : Schema) (N : Option Narrowing) (path : List (List ℕ)) (last : Option (List ℕ)) (row : Row) → are_types s row ≡ true → Picking s c S N path last (picked S path last none (select (admitted_by S N) (types_in s row))) row None
 pick_start s c S N path last row are = record { stands = are; same = refl; small = omega arith }
 
 pub pick_next : (s c : List ℕ) (S : Schema) (N : Option Narrowing) (path : List (List ℕ)) (last : Option (List ℕ)) (row : Row) (best : Typed) → typed_of s c best ≡ picked S path last none (select (admitted_by S N) (types_in s row)) → next_rendered (renderings_on S N (types_in s row) path) (typed_of s c best) ≡ select (above last) (renderings_on S N (types_in s row) path)
@@ -177,7 +176,7 @@ module _ (s c : List ℕ) (S : Schema) (N : Option Narrowing) (names : List (Lis
   no_types [] = refl
   no_types (n ∷ ns) = no_types ns
 
-  pub picking_empty : path.count ≡ 0 → next_rendered (renderings_on S N names (segments_in c path)) (typed_of s c Typed.Nothing) ≡ select (above last) (renderings_on S N names (segments_in c path))
+  pub picking_empty : path.count ≡ 0 → next_rendered (renderings_on S N names (segments_in c path)) (typed_of s c None) ≡ select (above last) (renderings_on S N names (segments_in c path))
   unfolding renderings select
   picking_empty e = rw (← no_segments c path are (omega arith), no_types (select (admitted_by S N) names))
 

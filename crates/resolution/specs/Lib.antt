@@ -1,3 +1,4 @@
+pub mod Coded
 pub mod Resolution
 pub mod Places
 pub mod Passes

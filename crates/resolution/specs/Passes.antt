@@ -1,5 +1,5 @@
 -- What one pass over a scope's entity types knows, and what the passes list.
-use Rattle.std.specs.Prelude.{ℕ, Bool, true, false, cond, ◌&&◌, List, [], ◌∷◌}
+use Rattle.std.specs.Prelude.{ℕ, Bool, true, false, cond, ◌&&◌, List, [], ◌∷◌, Some, None}
 use Rattle.std.proofs.Math.Option.{Option, none, some}
 use Rattle.names.specs.Lists.{maybe, select}
 use Rattle.names.specs.Names.{below}
@@ -13,8 +13,8 @@ use Rattle.resolution.specs.Resolution as Resolution
 use Rattle.resolution.specs.Resolution.{PathEnd, missing_at, typed, on_entity, admitted_by, renderings}
 use Rattle.resolution.specs.declared.ScopePath.{ScopePath}
 use Rattle.resolution.specs.declared.PathEnd as declared
-use Rattle.resolution.specs.declared.Typed.{Typed}
 use Rattle.resolution.specs.declared.PathEnd.TheVariants as End
+use Rattle.resolution.specs.Coded.{Typed}
 
 -- document 01's numbers of the answers
 abbrev pub scope_number : ScopePath → ℕ
@@ -135,6 +135,6 @@ next_rendered words o = maybe [] (λ t. render t ∷ select (below (render t)) w
 
 -- the type at an end
 abbrev pub end_type : declared.PathEnd → Typed
-end_type (End.Resolved t) = Typed.As t
-end_type (End.Missing at) = Typed.Nothing
-end_type (End.NonRecord at) = Typed.Nothing
+end_type (End.Resolved t) = Some t
+end_type (End.Missing at) = None
+end_type (End.NonRecord at) = None

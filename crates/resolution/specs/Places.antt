@@ -1,5 +1,5 @@
 -- What the code's answers stand for: a type's tag lies in the schema's bytes s, a segment in the bytes c that hold the path.
-use Rattle.std.specs.Prelude.{ℕ, ◌+◌, ◌≤◌, ◌<◌, ◌≡◌, Bool, true, false, List, [], ◌∷◌, length, get_or}
+use Rattle.std.specs.Prelude.{ℕ, ◌+◌, ◌≤◌, ◌<◌, ◌≡◌, Bool, true, false, List, [], ◌∷◌, length, get_or, Some, None}
 use Rattle.std.proofs.Math.Option.{Option, none, some}
 use Rattle.names.specs.Lists.{select}
 use Rattle.names.specs.Fields.{string_of}
@@ -12,11 +12,9 @@ use Rattle.names.specs.declared.Row.{Row}
 use Rattle.schema.specs.Places.{Nearby, Near}
 use Rattle.targets.specs.declared.Narrowed.{Narrowed}
 use Rattle.resolution.specs.Resolution as Resolution
-use Rattle.resolution.specs.declared.Next.{Next}
-use Rattle.resolution.specs.declared.NextNear.{NextNear}
-use Rattle.resolution.specs.declared.Typed.{Typed}
 use Rattle.resolution.specs.declared.PathResolution.{PathResolution}
 use Rattle.resolution.specs.declared.PathEnd.{PathEnd}
+use Rattle.resolution.specs.Coded.{Typed, NextNear, Next}
 
 -- the segments of a path, so many plain strings from a position
 abbrev pub are_segments : List ℕ → Row → Bool
@@ -38,8 +36,8 @@ abbrev pub types_in : List ℕ → Row → List (List ℕ)
 types_in s r = row_in (string_of path_name) s r.count r.at
 
 abbrev pub typed_of : List ℕ → List ℕ → Typed → Option Ty
-typed_of s c (Typed.As t) = some (rich_of s c t)
-typed_of s c Typed.Nothing = none
+typed_of s c (Some t) = some (rich_of s c t)
+typed_of s c None = none
 
 abbrev pub resolution_of : List ℕ → List ℕ → PathResolution → Resolution.PathResolution
 resolution_of s c (PathResolution.Resolved t) = Resolution.PathResolution.resolved (rich_of s c t)
@@ -49,10 +47,10 @@ resolution_of s c (PathResolution.NonRecord at) = Resolution.PathResolution.non_
 
 -- the type at its end
 abbrev pub leaf_of : PathResolution → Typed
-leaf_of (PathResolution.Resolved t) = Typed.As t
-leaf_of PathResolution.HeadMissing = Typed.Nothing
-leaf_of (PathResolution.NestedMissing at) = Typed.Nothing
-leaf_of (PathResolution.NonRecord at) = Typed.Nothing
+leaf_of (PathResolution.Resolved t) = Some t
+leaf_of PathResolution.HeadMissing = None
+leaf_of (PathResolution.NestedMissing at) = None
+leaf_of (PathResolution.NonRecord at) = None
 
 abbrev pub end_of : List ℕ → List ℕ → PathEnd → Resolution.PathEnd
 end_of s c (PathEnd.Resolved t) = Resolution.PathEnd.resolved (rich_of s c t)
@@ -92,8 +90,8 @@ is_absent (Narrowed.Member p) = false
 
 -- what a pass over a row of names finds next: one that passes a test, and those that pass it behind
 abbrev pub next_in : List ℕ → (List ℕ → Bool) → Next → List (List ℕ)
-next_in s test (Next.Name p rest) = word_at s p ∷ select test (types_in s rest)
-next_in s test Next.Over = []
+next_in s test (Some (p, rest)) = word_at s p ∷ select test (types_in s rest)
+next_in s test None = []
 
 pub record Follows (s : List ℕ) (row : Row) (p : ℕ) (rest : Row) : Type 0 where
   pub inside : p + 1 + get_or s p 0 ≤ length s
@@ -101,8 +99,8 @@ pub record Follows (s : List ℕ) (row : Row) (p : ℕ) (rest : Row) : Type 0 wh
   pub fewer : rest.count < row.count
 
 abbrev pub next_follows : List ℕ → Row → Next → Type 0
-next_follows s row (Next.Name p rest) = Follows s row p rest
-next_follows s row Next.Over = 0 ≤ row.count
+next_follows s row (Some (p, rest)) = Follows s row p rest
+next_follows s row None = 0 ≤ row.count
 
 pub record NextOf (s : List ℕ) (test : List ℕ → Bool) (row : Row) (r : Next) : Type 0 where
   pub value : next_in s test r ≡ select test (types_in s row)
@@ -122,12 +120,12 @@ pub record Nearer (s name : List ℕ) (x : Narrowed) (r : Row) : Type 0 where
 
 -- what a pass finds next, and from where on the next search goes
 abbrev pub next_of : NextNear → Next
-next_of (NextNear.Name p rest near) = Next.Name p rest
-next_of NextNear.Over = Next.Over
+next_of (Some (p, rest, near)) = Some (p, rest)
+next_of None = None
 
 abbrev pub near_of : List ℕ → NextNear → Type 0
-near_of s (NextNear.Name p rest near) = Nearby s near
-near_of s NextNear.Over = 0 ≤ 0
+near_of s (Some (p, rest, near)) = Nearby s near
+near_of s None = 0 ≤ 0
 
 pub record NextNearOf (s : List ℕ) (test : List ℕ → Bool) (row : Row) (r : NextNear) : Type 0 where
   pub next : NextOf s test row (next_of r)
@@ -135,8 +133,8 @@ pub record NextNearOf (s : List ℕ) (test : List ℕ → Bool) (row : Row) (r :
 
 -- the same where the entity type of what it finds was looked for besides
 abbrev pub placed_of : List ℕ → NextNear → Type 0
-placed_of s (NextNear.Name p rest near) = Near s (word_at s p) near
-placed_of s NextNear.Over = 0 ≤ 0
+placed_of s (Some (p, rest, near)) = Near s (word_at s p) near
+placed_of s None = 0 ≤ 0
 
 pub record NextPlaced (s : List ℕ) (test : List ℕ → Bool) (row : Row) (r : NextNear) : Type 0 where
   pub next : NextOf s test row (next_of r)

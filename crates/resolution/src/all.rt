@@ -12,7 +12,7 @@ use crate::along::behind;
 use crate::entity::resolve_one;
 use crate::scope::next_placed;
 use crate::{NextNear, PathEnd, ScopePath};
-use names::{Found, Row};
+use names::Row;
 use targets::Narrowed;
 use types::Rich;
 
@@ -105,13 +105,8 @@ fn over_types<'a>(
     let mut left = row;
     let mut known = ScopePath::Unknown;
     let mut near = from;
-    loop {
-        let next = next_placed(s, n, narrowing, left, near);
-        let NextNear::Name(p, others, around) = next else {
-            return known;
-        };
-        let own = schema::entity_here(s, around, names::word(s, p));
-        let Found::At(at) = own else {
+    while let Some((p, others, around)) = next_placed(s, n, narrowing, left, near) {
+        let Some(at) = schema::entity_here(s, around, names::word(s, p)) else {
             return ScopePath::Unknown;
         };
         let end = resolve_one(s, at, c, head, rest);
@@ -119,6 +114,7 @@ fn over_types<'a>(
         left = others;
         near = around;
     }
+    known
 }
 
 // An attribute path under a scope, whose entity types stand in a row of the schema.

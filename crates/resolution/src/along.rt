@@ -7,7 +7,7 @@ ghost use Rattle.resolution.specs.Resolution.{resolve_in, context_path, context_
 ghost use Rattle.resolution.specs.Places.{are_segments, segments_in, Behind, resolution_of, leaf_of, typed_of, small_resolution, small_type};
 
 use crate::{PathResolution, Typed};
-use names::{Found, Row};
+use names::Row;
 
 // The path of a head and the other segments, into the attributes whose count stands at `fields`.
 pub fn resolve_in(s: &[u8], fields: usize, c: &[u8], head: usize, rest: Row) -> PathResolution
@@ -17,24 +17,22 @@ pub fn resolve_in(s: &[u8], fields: usize, c: &[u8], head: usize, rest: Row) -> 
     ensures small_resolution { small_resolution (resolution_of s.now c.now result) }
 {
     let first = schema::attribute(s, fields, names::word(c, head));
-    let Found::At(start) = first else {
+    let Some(start) = first else {
         return PathResolution::HeadMissing;
     };
     let mut t = start;
     let mut at = rest.at;
-    let mut left = rest.count;
-    while 0 < left {
+    for _ in 0..rest.count {
         let inner = schema::record_fields(s, t);
-        let Found::At(attributes) = inner else {
+        let Some(attributes) = inner else {
             return PathResolution::NonRecord(at);
         };
         let found = schema::attribute(s, attributes, names::word(c, at));
-        let Found::At(u) = found else {
+        let Some(u) = found else {
             return PathResolution::NestedMissing(at);
         };
         t = u;
         at = names::past_word(c, at);
-        left -= 1;
     }
     let leaf = schema::rich_type(s, t);
     PathResolution::Resolved(leaf)
@@ -66,7 +64,7 @@ pub fn context_path(s: &[u8], context: usize, c: &[u8], path: Row) -> PathResolu
         return PathResolution::HeadMissing;
     }
     let inner = schema::record_fields(s, context);
-    let Found::At(fields) = inner else {
+    let Some(fields) = inner else {
         return PathResolution::HeadMissing;
     };
     let head = path.at;
@@ -79,10 +77,8 @@ fn type_at_end(end: PathResolution) -> Typed
     ensures { result ≡ leaf_of end }
 {
     match end {
-        PathResolution::Resolved(t) => Typed::As(t),
-        PathResolution::HeadMissing => Typed::Nothing,
-        PathResolution::NestedMissing(_) => Typed::Nothing,
-        PathResolution::NonRecord(_) => Typed::Nothing,
+        PathResolution::Resolved(t) => Some(t),
+        _ => None,
     }
 }
 

@@ -10,16 +10,13 @@ ghost use Rattle.resolution.specs.Places.{are_segments, segments_in, end_of, sma
 use crate::along::resolve_in;
 use crate::{PathEnd, PathResolution};
 use names::Row;
-use types::{Base, Rich, Scalar};
+use types::{Rich, Scalar};
 
 // The names of an entity's own parts.
 fn is_part(name: &[u8]) -> bool
     ensures { result ≡ (same name.now (text "id") || same name.now (text "type")) }
 {
-    if names::same(name, b"id") {
-        return true;
-    }
-    names::same(name, b"type")
+    names::same(name, b"id") || names::same(name, b"type")
 }
 
 // Where the head is no attribute: `id` and `type` are strings, which have no fields.
@@ -30,10 +27,7 @@ fn without_attribute(c: &[u8], head: usize, rest: Row) -> PathEnd
     if is_part(names::word(c, head)) {
         let count = rest.count;
         if count == 0 {
-            return PathEnd::Resolved(Rich {
-                layers: 0,
-                base: Base::Plain(Scalar::String),
-            });
+            return PathEnd::Resolved(Rich::from(Scalar::String));
         }
         let next = rest.at;
         return PathEnd::NonRecord(next);

@@ -20,11 +20,7 @@ pub use scope::{admits, admits_any_env, next_admitted, scope_type};
 use types::Rich;
 
 // A type, where there is one.
-#[derive(Clone, Copy)]
-pub enum Typed {
-    As(Rich),
-    Nothing,
-}
+pub type Typed = Option<Rich>;
 
 // How a path into a record ends.
 #[derive(Clone, Copy)]
@@ -53,16 +49,8 @@ pub enum ScopePath {
     Unknown,
 }
 
-// What a pass over a row of names finds next: where the name stands, and the names behind it.
-#[derive(Clone, Copy)]
-pub enum Next {
-    Name(usize, Row),
-    Over,
-}
+// What a pass over a row of names finds next, if there is one: where the name stands, and the names behind it.
+pub type Next = Option<(usize, Row)>;
 
 // The same, with the row of entity types from which the next search for one begins.
-#[derive(Clone, Copy)]
-pub enum NextNear {
-    Name(usize, Row, Row),
-    Over,
-}
+pub type NextNear = Option<(usize, Row, Row)>;

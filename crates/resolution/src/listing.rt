@@ -11,16 +11,15 @@ use crate::along::behind;
 use crate::entity::resolve_one;
 use crate::scope::next_placed;
 use crate::{Next, NextNear, PathEnd};
-use names::{Found, Row};
+use names::Row;
 use targets::Narrowed;
 
 fn is_missing_at(c: &[u8], segment: usize, end: PathEnd) -> bool
     ensures { (s : List ℕ) → result ≡ missing_at (word_at c.now segment) (end_of s c.now end) }
 {
     match end {
-        PathEnd::Resolved(_) => false,
         PathEnd::Missing(p) => names::same(names::word(c, segment), names::word(c, p)),
-        PathEnd::NonRecord(_) => false,
+        _ => false,
     }
 }
 
@@ -38,8 +37,7 @@ fn fails_at(
     requires rest_value { are_segments c.now rest ≡ true }
     ensures { result ≡ fails_at (schema_in s.now) (word_at c.now head ∷ segments_in c.now rest) (word_at c.now segment) (word_at s.now name) }
 {
-    let own = schema::entity_here(s, near, names::word(s, name));
-    let Found::At(at) = own else {
+    let Some(at) = schema::entity_here(s, near, names::word(s, name)) else {
         return false;
     };
     let end = resolve_one(s, at, c, head, rest);
@@ -63,17 +61,14 @@ fn failing_from(
 {
     let mut left = row;
     let mut near = schema::entity_row(s);
-    loop {
-        let next = next_placed(s, n, narrowing, left, near);
-        let NextNear::Name(p, others, around) = next else {
-            return Next::Over;
-        };
+    while let Some((p, others, around)) = next_placed(s, n, narrowing, left, near) {
         if fails_at(s, around, p, c, head, rest, segment) {
-            return Next::Name(p, others);
+            return Some((p, others));
         }
         left = others;
         near = around;
     }
+    None
 }
 
 // The next entity type of a row that is admitted and on which the path fails by the missing segment at `segment`.
@@ -93,7 +88,7 @@ pub fn next_failing(
 {
     let count = path.count;
     if count == 0 {
-        return Next::Over;
+        return None;
     }
     let head = path.at;
     let rest = behind(c, path);

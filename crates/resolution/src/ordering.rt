@@ -16,7 +16,7 @@ use crate::along::behind;
 use crate::entity::resolve_one;
 use crate::scope::next_placed;
 use crate::{NextNear, PathEnd, Typed};
-use names::{Found, Row};
+use names::Row;
 use targets::Narrowed;
 use types::Rich;
 
@@ -39,8 +39,8 @@ fn is_above<'a>(s: &'a [u8], c: &'a [u8], last: Typed, t: Rich) -> bool
     ensures { result ≡ above (rendered (typed_of s.now c.now last)) (render (rich_of s.now c.now t)) }
 {
     match last {
-        Typed::As(u) => renders_below(s, c, u, t),
-        Typed::Nothing => true,
+        Some(u) => renders_below(s, c, u, t),
+        None => true,
     }
 }
 
@@ -50,8 +50,8 @@ fn is_under<'a>(s: &'a [u8], c: &'a [u8], best: Typed, t: Rich) -> bool
     ensures { result ≡ under (rendered (typed_of s.now c.now best)) (render (rich_of s.now c.now t)) }
 {
     match best {
-        Typed::As(u) => renders_below(s, c, t, u),
-        Typed::Nothing => true,
+        Some(u) => renders_below(s, c, t, u),
+        None => true,
     }
 }
 
@@ -63,14 +63,11 @@ fn closer<'a>(s: &'a [u8], c: &'a [u8], last: Typed, best: Typed, other: Typed) 
     ensures result_value { typed_of s.now c.now result ≡ closest (rendered (typed_of s.now c.now last)) (typed_of s.now c.now best) (typed_of s.now c.now other) }
     ensures small_type_4 { small_type (typed_of s.now c.now result) }
 {
-    let Typed::As(t) = other else {
+    let Some(t) = other else {
         return best;
     };
-    if is_above(s, c, last, t) {
-        if is_under(s, c, best, t) {
-            return Typed::As(t);
-        }
-        return best;
+    if is_above(s, c, last, t) && is_under(s, c, best, t) {
+        return Some(t);
     }
     best
 }
@@ -79,9 +76,8 @@ fn end_type(end: PathEnd) -> Typed
     ensures { result ≡ end_type end }
 {
     match end {
-        PathEnd::Resolved(t) => Typed::As(t),
-        PathEnd::Missing(_) => Typed::Nothing,
-        PathEnd::NonRecord(_) => Typed::Nothing,
+        PathEnd::Resolved(t) => Some(t),
+        _ => None,
     }
 }
 
@@ -92,10 +88,7 @@ fn type_on(s: &[u8], near: Row, name: usize, c: &[u8], head: usize, rest: Row) -
     ensures result_value { typed_of s.now c.now result ≡ type_on (schema_in s.now) (word_at c.now head ∷ segments_in c.now rest) (word_at s.now name) }
     ensures small_type { small_type (typed_of s.now c.now result) }
 {
-    let own = schema::entity_here(s, near, names::word(s, name));
-    let Found::At(at) = own else {
-        return Typed::Nothing;
-    };
+    let at = schema::entity_here(s, near, names::word(s, name))?;
     let end = resolve_one(s, at, c, head, rest);
     end_type(end)
 }
@@ -118,18 +111,15 @@ fn rendering_from<'a>(
     ensures small_type_2 { small_type (typed_of s.now c.now result) }
 {
     let mut left = row;
-    let mut best = Typed::Nothing;
+    let mut best = None;
     let mut near = schema::entity_row(s);
-    loop {
-        let next = next_placed(s, n, narrowing, left, near);
-        let NextNear::Name(p, others, around) = next else {
-            return best;
-        };
+    while let Some((p, others, around)) = next_placed(s, n, narrowing, left, near) {
         let own = type_on(s, around, p, c, head, rest);
         best = closer(s, c, last, best, own);
         left = others;
         near = around;
     }
+    best
 }
 
 // The type whose text is the next behind that of the last one written, or the first where none is.
@@ -151,7 +141,7 @@ pub fn next_rendering<'a>(
 {
     let count = path.count;
     if count == 0 {
-        return Typed::Nothing;
+        return None;
     }
     let head = path.at;
     let rest = behind(c, path);

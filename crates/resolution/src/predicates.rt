@@ -6,7 +6,7 @@ ghost use Rattle.names.specs.Read.{word_at, is_row, row_in, Listed};
 ghost use Rattle.schema.specs.Places.{schema_in, FindsAction, ActionsOf};
 ghost use Rattle.resolution.specs.Resolution.{without_action, predicate_action};
 
-use names::{Found, Row};
+use names::Row;
 use schema::Namespace;
 
 // The last of so many names.
@@ -16,10 +16,8 @@ fn last_name(c: &[u8], count: usize, start: usize) -> &[u8]
     ensures { result.now ≡ last_of (row_in (string_of path_name) c.now count start) }
 {
     let mut at = start;
-    let mut left = count;
-    while 1 < left {
+    for _ in 1..count {
         at = names::past_word(c, at);
-        left -= 1;
     }
     names::word(c, at)
 }
@@ -43,7 +41,7 @@ fn namespace_of(c: &[u8], count: usize, start: usize) -> Row
 }
 
 // The action of the path and the name, which stands at `name`, among the actions of the schema.
-pub fn predicate_action(s: &[u8], actions: Row, c: &[u8], path: Row, name: usize) -> Found
+pub fn predicate_action(s: &[u8], actions: Row, c: &[u8], path: Row, name: usize) -> Option<usize>
     requires actions_of { ActionsOf s.now actions }
     requires at_value { is_row (string_of path_name) c.now path.count path.at ≡ true }
     ensures { FindsAction s.now (predicate_action (schema_in s.now) (row_in (string_of path_name) c.now path.count path.at) (word_at c.now name)) result }

@@ -8,7 +8,7 @@ ghost use Rattle.resolution.specs.Resolution.{ancestors_of, admitted_by, side_ad
 ghost use Rattle.resolution.specs.Places.{are_types, types_in, is_absent, Nearer, NextOf, NextNearOf, NextPlaced, typed_of, small_type};
 
 use crate::{Next, NextNear, Typed};
-use names::{Found, Row};
+use names::Row;
 use targets::Narrowed;
 use types::{Base, Rich};
 
@@ -20,11 +20,10 @@ fn is_in(s: &[u8], near: Row, name: &[u8], group: &[u8]) -> bool
     if names::same(name, group) {
         return true;
     }
-    let own = schema::entity_here(s, near, name);
-    let Found::At(at) = own else {
-        return false;
-    };
-    schema::has_ancestor(s, at, group)
+    match schema::entity_here(s, near, name) {
+        Some(at) => schema::has_ancestor(s, at, group),
+        None => false,
+    }
 }
 
 // The entity types from the one of a name on, where the narrowing asks for its ancestors; else those that there were.
@@ -34,11 +33,8 @@ fn nearer(s: &[u8], narrowing: Narrowed, near: Row, name: &[u8]) -> Row
     ensures { Nearer s.now name.now narrowing result }
 {
     match narrowing {
-        Narrowed::Absent => near,
-        Narrowed::Any => near,
-        Narrowed::IsType(_) => near,
-        Narrowed::Uid(_) => near,
         Narrowed::Member(_) => schema::entity_near(s, near, name),
+        _ => near,
     }
 }
 
@@ -47,10 +43,8 @@ fn admits_near(s: &[u8], n: &[u8], narrowing: Narrowed, near: Row, name: &[u8]) 
     ensures { result ≡ admitted_by (schema_in s.now) (narrowed n.now narrowing) name.now }
 {
     match narrowing {
-        Narrowed::Absent => true,
-        Narrowed::Any => true,
-        Narrowed::IsType(p) => names::same(name, names::word(n, p)),
-        Narrowed::Uid(p) => names::same(name, names::word(n, p)),
+        Narrowed::Absent | Narrowed::Any => true,
+        Narrowed::IsType(p) | Narrowed::Uid(p) => names::same(name, names::word(n, p)),
         Narrowed::Member(p) => is_in(s, near, name, names::word(n, p)),
     }
 }
@@ -73,26 +67,21 @@ fn next_near(s: &[u8], n: &[u8], narrowing: Narrowed, row: Row, from: Row) -> Ne
     ensures { NextNearOf s.now (admitted_by (schema_in s.now) (narrowed n.now narrowing)) row result }
 {
     let mut at = row.at;
-    let mut left = row.count;
     let mut near = from;
-    while 0 < left {
+    for left in (0..row.count).rev() {
         let next = names::past_word(s, at);
-        left -= 1;
         let name = names::word(s, at);
         near = nearer(s, narrowing, near, name);
         if admits_near(s, n, narrowing, near, name) {
-            return NextNear::Name(
-                at,
-                Row {
-                    count: left,
-                    at: next,
-                },
-                near,
-            );
+            let rest = Row {
+                count: left,
+                at: next,
+            };
+            return Some((at, rest, near));
         }
         at = next;
     }
-    NextNear::Over
+    None
 }
 
 // The same, and the search for its entity type.
@@ -102,12 +91,9 @@ pub fn next_placed(s: &[u8], n: &[u8], narrowing: Narrowed, row: Row, from: Row)
     requires nearby { Nearby s.now from }
     ensures { NextPlaced s.now (admitted_by (schema_in s.now) (narrowed n.now narrowing)) row result }
 {
-    let next = next_near(s, n, narrowing, row, from);
-    let NextNear::Name(p, rest, around) = next else {
-        return NextNear::Over;
-    };
+    let (p, rest, around) = next_near(s, n, narrowing, row, from)?;
     let near = schema::entity_near(s, around, names::word(s, p));
-    NextNear::Name(p, rest, near)
+    Some((p, rest, near))
 }
 
 // The next where no search went before.
@@ -117,23 +103,14 @@ pub fn next_admitted(s: &[u8], n: &[u8], narrowing: Narrowed, row: Row) -> Next
     ensures { NextOf s.now (admitted_by (schema_in s.now) (narrowed n.now narrowing)) row result }
 {
     let all = schema::entity_row(s);
-    let first = next_near(s, n, narrowing, row, all);
-    match first {
-        NextNear::Name(p, rest, _) => Next::Name(p, rest),
-        NextNear::Over => Next::Over,
-    }
+    let (p, rest, _) = next_near(s, n, narrowing, row, all)?;
+    Some((p, rest))
 }
 
 fn is_absent(narrowing: Narrowed) -> bool
     ensures { result ≡ is_absent narrowing }
 {
-    match narrowing {
-        Narrowed::Absent => true,
-        Narrowed::Any => false,
-        Narrowed::IsType(_) => false,
-        Narrowed::Uid(_) => false,
-        Narrowed::Member(_) => false,
-    }
+    matches!(narrowing, Narrowed::Absent)
 }
 
 // Whether some entity type of a side is admitted; with no narrowing that is not asked.
@@ -145,11 +122,7 @@ fn side_admits(s: &[u8], n: &[u8], narrowing: Narrowed, row: Row) -> bool
     if is_absent(narrowing) {
         return true;
     }
-    let first = next_admitted(s, n, narrowing, row);
-    let Next::Name(_, _) = first else {
-        return false;
-    };
-    true
+    next_admitted(s, n, narrowing, row).is_some()
 }
 
 // Whether the action at `action` admits an environment under the scope of the target record `n`.
@@ -161,12 +134,9 @@ pub fn admits_any_env(s: &[u8], n: &[u8], action: usize) -> bool
 {
     let principals = schema::principals(s, action);
     let principal = targets::principal(n);
-    if side_admits(s, n, principal, principals) {
-        let resources = schema::resources(s, action);
-        let resource = targets::resource(n);
-        return side_admits(s, n, resource, resources);
-    }
-    false
+    let resources = schema::resources(s, action);
+    let resource = targets::resource(n);
+    side_admits(s, n, principal, principals) && side_admits(s, n, resource, resources)
 }
 
 // The type of a bare `principal` or `resource`: one admitted entity type is tagged, several are untagged.
@@ -176,18 +146,9 @@ pub fn scope_type(s: &[u8], n: &[u8], narrowing: Narrowed, row: Row) -> Typed
     ensures by_index { (c : List ℕ) → typed_of s.now c result ≡ scope_type (schema_in s.now) (narrowed n.now narrowing) (types_in s.now row) }
     ensures by_index_2 { (c : List ℕ) → small_type (typed_of s.now c result) }
 {
-    let first = next_admitted(s, n, narrowing, row);
-    let Next::Name(p, rest) = first else {
-        return Typed::Nothing;
-    };
-    let second = next_admitted(s, n, narrowing, rest);
-    let Next::Over = second else {
-        return Typed::As(Rich {
-            layers: 0,
-            base: Base::Untagged,
-        });
-    };
-    let tag = schema::tag_at(s, p);
-    let base = Base::Tagged(tag);
-    Typed::As(Rich { layers: 0, base })
+    let (p, rest) = next_admitted(s, n, narrowing, row)?;
+    if next_admitted(s, n, narrowing, rest).is_some() {
+        return Some(Rich::from(Base::Untagged));
+    }
+    Some(Rich::from(Base::Tagged(schema::tag_at(s, p))))
 }

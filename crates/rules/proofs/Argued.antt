@@ -7,7 +7,7 @@ use Prim.Native.Nat.{ℕ, ◌-◌, ◌≤◌}
 use borrow.Author.Rules.{rules}
 use Rattle.names.specs.Fields.{string_of}
 use Rattle.names.specs.Names.{path_name}
-use Rattle.names.specs.Read.{word_at, row_in}
+use Rattle.names.specs.Read.{word_at, row_in, Found}
 use Rattle.types.specs.Types.{Ty}
 use Rattle.condition.specs.Condition.{Span}
 use Rattle.nodes.specs.Kinds.{own_span_of}
@@ -19,10 +19,8 @@ use Rattle.nodes.specs.declared.ArgumentAt.{ArgumentAt}
 use Rattle.nodes.specs.Laws.Pieces.{arguments_over}
 use Rattle.schema.specs.Schema.{Action}
 use Rattle.schema.specs.Places.{schema_in, is_action, action_in, Answers}
-use Rattle.names.specs.declared.Found.{Found}
 use Rattle.resolution.specs.Resolution.{context_type_by, predicate_action}
 use Rattle.resolution.specs.Places.{typed_of}
-use Rattle.resolution.specs.declared.Typed.{Typed}
 use Rattle.terms.specs.Terms.{Facts, term_type}
 use Rattle.terms.specs.Answers.{TypeOf}
 use Rattle.reports.specs.declared.State.{State}
@@ -33,11 +31,11 @@ use Rattle.reports.specs.Kept.{fold}
 use Rattle.reports.specs.Reports.{Breach}
 use Rattle.terms.specs.Facts.{facts_in}
 use Rattle.terms.specs.declared.Facts as Code
-use Rattle.messages.specs.declared.Said.{Said}
-use Rattle.messages.specs.Words.{said_breaches, Tells, span_in}
+use Rattle.messages.specs.Words.{Said, said_breaches, Tells, span_in}
 use Rattle.rules.specs.Rules.{both, argument_breach, argument_breaches, node_breaches}
 use Rattle.rules.specs.Places.{arguments_at, node_at, AppliedHere}
 use Rattle.rules.specs.declared.Applied.{Applied}
+use Rattle.resolution.specs.Coded.{Typed}
 
 -- ---- one argument
 

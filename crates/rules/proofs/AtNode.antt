@@ -18,14 +18,12 @@ use Rattle.nodes.specs.Offsets.{first_part}
 use Rattle.nodes.specs.Laws.Pieces.{timepoint_inside}
 use Rattle.nodes.specs.Laws.Leaves.{leaves_gather, one_term, one_leaves, leaf_next, leaf_stands, leaf_plain, fewer_leaves}
 use Rattle.nodes.specs.Looked.{KindHere, TermKindHere}
-use Rattle.nodes.specs.Parts.{Spans, ComparisonHere, TimepointHere, SlotHere, is_terms, leaves_in, NextLeafIs}
+use Rattle.nodes.specs.Parts.{Spans, ComparisonHere, TimepointHere, SlotHere, is_terms, leaves_in, NextLeafIs, NextPart}
 use Rattle.nodes.specs.declared.Ends.{Ends}
 use Rattle.nodes.specs.declared.ComparisonAt.{ComparisonAt}
 use Rattle.nodes.specs.declared.Several.{Several}
-use Rattle.nodes.specs.declared.NextLeaf.{NextLeaf}
 use Rattle.nodes.specs.declared.SlotAt.{SlotAt}
 use Rattle.resolution.specs.Places.{typed_of}
-use Rattle.resolution.specs.declared.Typed.{Typed}
 use Rattle.reports.specs.declared.State.{State}
 use Rattle.reports.specs.Reports.{Breach}
 use Rattle.reports.specs.Sink.{Sink, sink, push, push_all}
@@ -35,8 +33,7 @@ use Rattle.terms.specs.Terms.{Facts, term_type}
 use Rattle.terms.specs.Answers.{TypeOf}
 use Rattle.terms.specs.Facts.{facts_in, NameTyped}
 use Rattle.terms.specs.declared.Facts as Code
-use Rattle.messages.specs.declared.Said.{Said}
-use Rattle.messages.specs.Words.{Rule, quoted, said_breaches, Tells, span_in}
+use Rattle.messages.specs.Words.{Rule, Said, quoted, said_breaches, Tells, span_in}
 use Rattle.rules.specs.Messages.{wildcard_inside}
 use Rattle.rules.specs.Rules.{breach_if, both, not_long_here, operands_by, ordering, leaf_breaches, arithmetic_breaches, timepoint_breach, timepoint_breaches, node_breaches}
 use Rattle.rules.specs.Findings.{said_of, Finds}
@@ -45,6 +42,8 @@ use Rattle.rules.specs.declared.Compared.{Compared}
 use Rattle.rules.specs.declared.Judged.{Judged}
 use Rattle.rules.specs.declared.Finding.{Finding}
 use Rattle.rules.specs.declared.Finding.TheVariants.{Clean, Wildcard}
+use Rattle.resolution.specs.Coded.{Typed}
+use Rattle.std.specs.Prelude.{Some, None}
 
 -- ---- terms by their kinds
 
@@ -125,14 +124,14 @@ module _ (f : Facts) (c : List ℕ) (span : Span) where
   pub leaves_stand : {whole now : Sink} {table : List ℕ} {left : Several} → LeavesLeft whole now table left → is_terms c left.count left.first ≡ true
   leaves_stand l = l.stands
 
-  module _ (left : Several) (x : NextLeaf) (is : NextLeafIs c (leaves_in c left.count left.first) x) where
-    pub leaves_over : {old now table : List ℕ} {st₀ st : State} {bs : List Breach} → LeavesLeft (push_all (sink old st₀) bs) (sink now st) table left → x ≡ NextLeaf.Done → Pushed old st₀ bs now st table
+  module _ (left : Several) (x : NextPart) (is : NextLeafIs c (leaves_in c left.count left.first) x) where
+    pub leaves_over : {old now table : List ℕ} {st₀ st : State} {bs : List Breach} → LeavesLeft (push_all (sink old st₀) bs) (sink now st) table left → x ≡ None → Pushed old st₀ bs now st table
     leaves_over l e =
         let none : leaves_in c left.count left.first ≡ [] = rw e at is in
         let r = l.reporting in
         reporting_over push breaches_of (rw none at r)
 
-    module _ (at : ℕ) (rest : Several) (e : x ≡ NextLeaf.At at rest) where
+    module _ (at : ℕ) (rest : Several) (e : x ≡ Some (at, rest)) where
       pub leaves_turn : {whole : Sink} {now after table table' : List ℕ} {st st' : State} → LeavesLeft whole (sink now st) table left → (s : List ℕ) {y : Said} → Tells s c (leaf_breaches f (term_in c at)) y
           → Pushed now st (said_breaches s c y span) after st' table' → LeavesLeft whole (sink after st') table' rest
       leaves_turn l s g p =

@@ -13,14 +13,14 @@ use Rattle.types.specs.Laws.Texts.{Small}
 use Rattle.types.specs.Meaning.{rich_of}
 use Rattle.types.specs.declared.Rich.{Rich}
 use Rattle.resolution.specs.Places.{typed_of, small_type}
-use Rattle.resolution.specs.declared.Typed.{Typed}
-use Rattle.resolution.specs.declared.Typed.TheVariants.{As, Nothing}
 use Rattle.condition.specs.Condition.{Span}
 use Rattle.messages.specs.Words.{Rule, quoted, said_breaches, SaidStands}
 use Rattle.rules.specs.Rules.{breach_if, both, not_long_here, numeric_breaches, like_breaches, operands_by, argument_breach, timepoint_breach}
 use Rattle.rules.specs.Findings.{said_of, Finds}
 use Rattle.rules.specs.declared.Finding.{Finding}
 use Rattle.rules.specs.declared.Finding.TheVariants.{Clean, NotLong, NotNumeric, Unlike, WrongTimepoint, WrongArgument}
+use Rattle.resolution.specs.Coded.{Typed}
+use Rattle.std.specs.Prelude.{Some, None}
 
 -- a test that passed finds nothing, and one that did not its breach; b is what the code's test answered
 module _ (s c : List ℕ) (q : Bool) (m : List ℕ) (b : Bool) (is : b ≡ q) where
@@ -32,13 +32,13 @@ module _ (s c : List ℕ) (q : Bool) (m : List ℕ) (b : Bool) (is : b ≡ q) wh
 
 -- a term has a type, which is small; or none
 module _ (s c : List ℕ) (typed : Typed) where
-  pub typed_as : (t : Rich) → typed ≡ As t → typed_of s c typed ≡ some (rich_of s c t)
+  pub typed_as : (t : Rich) → typed ≡ Some t → typed_of s c typed ≡ some (rich_of s c t)
   typed_as t e = rw e
 
-  pub known_small : (t : Rich) → typed ≡ As t → small_type (typed_of s c typed) → Small (rich_of s c t)
+  pub known_small : (t : Rich) → typed ≡ Some t → small_type (typed_of s c typed) → Small (rich_of s c t)
   known_small t e h = rw e at h
 
-  pub untyped : typed ≡ Nothing → typed_of s c typed ≡ none
+  pub untyped : typed ≡ None → typed_of s c typed ≡ none
   untyped e = rw e
 
 module _ (s c : List ℕ) where
@@ -76,13 +76,13 @@ module _ (s c : List ℕ) where
     like_broken p is h = broken s c _ _ b is h (Unlike l r) (record { first = small_l; second = small_r; third = tt; fourth = tt; below = lit< tt }) (λ at. refl)
 
   module _ (left right : Typed) where
-    pub left_untyped : (g : Ty → Ty → Rule) → left ≡ Nothing → Finds s c (both (typed_of s c left) (typed_of s c right) g) Clean
+    pub left_untyped : (g : Ty → Ty → Rule) → left ≡ None → Finds s c (both (typed_of s c left) (typed_of s c right) g) Clean
     left_untyped g e = rw e (nothing_found (λ at. refl))
 
-    pub right_untyped : (g : Ty → Ty → Rule) (l : Rich) → left ≡ As l → right ≡ Nothing → Finds s c (both (typed_of s c left) (typed_of s c right) g) Clean
+    pub right_untyped : (g : Ty → Ty → Rule) (l : Rich) → left ≡ Some l → right ≡ None → Finds s c (both (typed_of s c left) (typed_of s c right) g) Clean
     right_untyped g l e h = rw (e, h) (nothing_found (λ at. refl))
 
-    module _ (l r : Rich) (e : left ≡ As l) (g : right ≡ As r) where
+    module _ (l r : Rich) (e : left ≡ Some l) (g : right ≡ Some r) where
       module _ (p : Profile) (ordering : Bool) (f : Finding) where
         pub numbers_wanted : ordering ≡ true → Finds s c (numeric_breaches (rich_of s c l) (rich_of s c r)) f → Finds s c (both (typed_of s c left) (typed_of s c right) (operands_by p ordering)) f
         numbers_wanted h k = rw (e, g, h) k

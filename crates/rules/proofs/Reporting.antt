@@ -6,6 +6,7 @@ use native.Mathlib.Omega.{arith}
 use borrow.Author.Rules.{rules}
 use lib.ListN.{length, take}
 use lib.Dec.{lit≤}
+use Rattle.std.specs.Prelude.{None, Some}
 use Rattle.names.specs.Writer.{Stored}
 use Rattle.types.specs.declared.Rich.{Rich}
 use Rattle.reports.specs.declared.State.{State}
@@ -14,16 +15,15 @@ use Rattle.reports.specs.Slots.{Lent, Pushed}
 use Rattle.reports.specs.Laws.Sinks.{recorded_none}
 use Rattle.reports.specs.Laws.Slots.{pushed_composed}
 use Rattle.nodes.specs.declared.Ends.{Ends}
-use Rattle.messages.specs.Words.{text_of, Stands, most, said_breaches, SaidStands, span_in}
+use Rattle.messages.specs.Words.{Said, text_of, Stands, most, said_breaches, SaidStands, span_in}
 use Rattle.messages.specs.Laws.Lengths.{Bytes, text_within}
 use Rattle.messages.specs.declared.Sentence.{Sentence}
-use Rattle.messages.specs.declared.Said.{Said}
 use Rattle.rules.specs.Findings.{said_of}
 use Rattle.rules.specs.declared.Finding.{Finding}
 use Rattle.rules.specs.declared.Finding.TheVariants.{Clean, Wildcard, NotLong, NotNumeric, Unlike, WrongTimepoint, WrongArgument}
 
 -- the message of each finding
-pub said_clean : (f : Finding) → f ≡ Clean → Said.Nothing ≡ said_of f
+pub said_clean : (f : Finding) → f ≡ Clean → None ≡ said_of f
 said_clean f e = rw e
 
 module _ (f : Finding) {r : Said} where
@@ -49,8 +49,8 @@ pub ruleset saying = (rules, said_clean, said_wildcard, said_not_long, said_nume
 
 -- a name has 255 bytes at most, a type's text 479: what is said fits the scratch
 most_said : Said → ℕ
-most_said Said.Nothing = 0
-most_said (Said.Message m) = most m
+most_said None = 0
+most_said (Some m) = most m
 
 said_short : (f : Finding) → most_said (said_of f) ≤ 2048
 unfolding most_said
@@ -63,10 +63,10 @@ said_short (WrongTimepoint p t) = lit≤ tt
 said_short (WrongArgument p q x a) = lit≤ tt
 
 module _ (s c : List ℕ) (f : Finding) (r : Said) (is : r ≡ said_of f) where
-  pub nothing_said : r ≡ Said.Nothing → (span : Ends) (old : List ℕ) (st : State) (table : List ℕ) → Lent (sink old st) table → Pushed old st (said_breaches s c (said_of f) (span_in span)) old st table
+  pub nothing_said : r ≡ None → (span : Ends) (old : List ℕ) (st : State) (table : List ℕ) → Lent (sink old st) table → Pushed old st (said_breaches s c (said_of f) (span_in span)) old st table
   nothing_said e span old st table p = rw (← is, e) (recorded_none old st p)
 
-  module _ (m : Sentence) (e : r ≡ Said.Message m) where
+  module _ (m : Sentence) (e : r ≡ Some m) where
     pub message_stands : SaidStands s c (said_of f) → Stands s c m
     message_stands h = rw (← is, e) at h
 

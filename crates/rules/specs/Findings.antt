@@ -1,21 +1,20 @@
 -- What a judgement finds: its message, by the table of `reports`, with its words by where they stand.
-use Rattle.std.specs.Prelude.{ℕ, List}
+use Rattle.std.specs.Prelude.{None, ℕ, List}
 use Rattle.std.proofs.Math.Option.{Option}
 use Rattle.types.specs.Types.{Ty}
 use Rattle.types.specs.Meaning.{rich_of}
 use Rattle.types.specs.declared.Rich.{Rich}
 use Rattle.resolution.specs.Places.{typed_of}
-use Rattle.resolution.specs.declared.Typed.{Typed}
 use Rattle.reports.specs.declared.Message.TheVariants as Message
 use Rattle.messages.specs.declared.Word.TheVariants.{Nothing, Name, Shown}
-use Rattle.messages.specs.declared.Said.{Said}
-use Rattle.messages.specs.Words.{Rule, Tells, say}
+use Rattle.messages.specs.Words.{Rule, Said, Tells, say}
 use Rattle.rules.specs.Rules.{both}
 use Rattle.rules.specs.declared.Finding.{Finding}
 use Rattle.rules.specs.declared.Finding.TheVariants.{Clean, Wildcard, NotLong, NotNumeric, Unlike, WrongTimepoint, WrongArgument}
+use Rattle.resolution.specs.Coded.{Typed}
 
 abbrev pub said_of : Finding → Said
-said_of Clean = Said.Nothing
+said_of Clean = None
 said_of Wildcard = say Message.WildcardInside Nothing Nothing Nothing Nothing
 said_of (NotLong t) = say Message.NotLong (Shown t) Nothing Nothing Nothing
 said_of (NotNumeric l r) = say Message.NotNumeric (Shown l) (Shown r) Nothing Nothing

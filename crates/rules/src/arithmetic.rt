@@ -11,7 +11,7 @@ ghost use Rattle.rules.specs.Places.{leaf_at, leaves_of, arithmetic_of};
 use crate::judge::not_long;
 use crate::report::report;
 use crate::{Finding, Operand};
-use nodes::{NextLeaf, Several};
+use nodes::Several;
 use reports::State;
 use terms::Facts;
 
@@ -66,15 +66,12 @@ fn leaves<'a>(
         count: 1,
         first: term.at,
     };
-    loop {
-        let next = nodes::next_leaf(condition, left.count, left.first);
-        let NextLeaf::At(at, others) = next else {
-            return now;
-        };
+    while let Some((at, others)) = nodes::next_leaf(condition, left.count, left.first) {
         let finding = leaf(schema, condition, targets, env, facts, at);
         now = report(buf, table, now, schema, condition, span, finding);
         left = others;
     }
+    now
 }
 
 // An operand of a comparison is inspected where it is arithmetic.

@@ -16,7 +16,7 @@ pub fn not_long<'a>(schema: &'a [u8], condition: &'a [u8], typed: Typed) -> Find
     requires { small_type (typed_of schema.now condition.now typed) }
     ensures { FindsOf schema.now condition.now not_long_here typed result }
 {
-    let Typed::As(t) = typed else {
+    let Some(t) = typed else {
         return Finding::Clean;
     };
     if types::is_numeric(schema, condition, t) {
@@ -62,10 +62,10 @@ pub fn operands<'a>(
     requires small_type_2 { small_type (typed_of schema.now condition.now right) }
     ensures { FindsBoth schema.now condition.now (operands_by (profile_in profile) ordering) left right result }
 {
-    let Typed::As(l) = left else {
+    let Some(l) = left else {
         return Finding::Clean;
     };
-    let Typed::As(r) = right else {
+    let Some(r) = right else {
         return Finding::Clean;
     };
     if ordering {
@@ -87,10 +87,10 @@ pub fn wrong_argument<'a>(
     requires small_type_2 { small_type (typed_of schema.now condition.now actual) }
     ensures { FindsBoth schema.now condition.now (argument_breach (word_at condition.now name) (word_at condition.now action)) expected actual result }
 {
-    let Typed::As(e) = expected else {
+    let Some(e) = expected else {
         return Finding::Clean;
     };
-    let Typed::As(a) = actual else {
+    let Some(a) = actual else {
         return Finding::Clean;
     };
     if types::accepts(schema, condition, e, a) {
@@ -109,7 +109,7 @@ pub fn wrong_timepoint<'a>(
     requires { small_type (typed_of schema.now condition.now typed) }
     ensures { FindsOf schema.now condition.now (timepoint_breach (word_at condition.now name)) typed result }
 {
-    let Typed::As(t) = typed else {
+    let Some(t) = typed else {
         return Finding::Clean;
     };
     if types::is_timepoint(schema, condition, t) {

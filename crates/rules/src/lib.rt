@@ -16,7 +16,6 @@ mod predicate;
 mod report;
 
 pub use kinds::node;
-use names::Found;
 use nodes::Ends;
 use types::Rich;
 
@@ -64,7 +63,7 @@ pub struct Operand {
 pub struct Applied {
     pub span: Ends,
     pub name: usize,
-    pub action: Found,
+    pub action: Option<usize>,
     pub count: usize,
     pub first: usize,
 }

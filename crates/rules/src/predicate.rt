@@ -12,7 +12,7 @@ ghost use Rattle.rules.specs.Places.{node_at, argument_at, arguments_at, Applied
 use crate::judge::wrong_argument;
 use crate::report::report;
 use crate::{Applied, Finding};
-use names::{Found, Row};
+use names::Row;
 use nodes::ArgumentAt;
 use reports::State;
 use terms::Facts;

@@ -6,17 +6,17 @@ ghost use Rattle.messages.specs.Words.{said_breaches, SaidStands, span_in};
 ghost use Rattle.rules.specs.Findings.{said_of};
 
 use crate::Finding;
-use messages::{Said, Word, say};
+use messages::{Sentence, Word, say};
 use nodes::Ends;
 use reports::{Message, State};
 
 // The message of a finding.
-fn said_of(finding: Finding) -> Said
+fn said_of(finding: Finding) -> Option<Sentence>
     ensures { result ≡ said_of finding }
 {
     let none = Word::Nothing;
     match finding {
-        Finding::Clean => Said::Nothing,
+        Finding::Clean => None,
         Finding::Wildcard => say(Message::WildcardInside, none, none, none, none),
         Finding::NotLong(t) => say(Message::NotLong, Word::Shown(t), none, none, none),
         Finding::NotNumeric(l, r) => say(
@@ -63,8 +63,7 @@ pub fn report<'a>(
     requires said_stands { SaidStands schema.now condition.now (said_of finding) }
     ensures { Pushed buf.old state (said_breaches schema.now condition.now (said_of finding) (span_in span)) buf.new result table.new }
 {
-    let said = said_of(finding);
-    let Said::Message(message) = said else {
+    let Some(message) = said_of(finding) else {
         return state;
     };
     let mut scratch = [0u8; 2048];

@@ -5,6 +5,7 @@ use Rattle.names.specs.Fields.{got, bad, bytes, u8, u16, number, many, heading, 
 use Rattle.names.specs.Lists.{every}
 use Rattle.names.specs.Names.{same, plain, plain_byte, below}
 use Rattle.schema.specs.Schema.{type_at, kinds, attributes, attributes_of, ascending, after, object, attribute, nothing, long, set, string, schema_record}
+use Rattle.names.specs.declared.refusal.Refusal.TheVariants.{NotAscending}
 
 empty : schema_record (68 ∷ 87 ∷ 83 ∷ 0 ∷ 1 ∷ 0 ∷ 0 ∷ 0 ∷ 0 ∷ []) 0 ≡ got (record { entities = []; actions = [] }) 9
 unfolding schema_record heading bytes u16 number many finished same
@@ -15,6 +16,6 @@ two : type_at 32 (6 ∷ 2 ∷ 1 ∷ 97 ∷ 0 ∷ 1 ∷ 98 ∷ 4 ∷ 1 ∷ []) 0 
 unfolding type_at kinds choose u8 bytes attributes attributes_of ascending after string_of plain plain_byte every below
 two = refl
 
-unordered : type_at 32 (6 ∷ 2 ∷ 1 ∷ 98 ∷ 0 ∷ 1 ∷ 97 ∷ 4 ∷ 1 ∷ []) 0 ≡ bad 8
+unordered : type_at 32 (6 ∷ 2 ∷ 1 ∷ 98 ∷ 0 ∷ 1 ∷ 97 ∷ 4 ∷ 1 ∷ []) 0 ≡ bad NotAscending
 unfolding type_at kinds choose u8 bytes attributes attributes_of ascending after string_of plain plain_byte every below
 unordered = refl

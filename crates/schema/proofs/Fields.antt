@@ -11,13 +11,12 @@ use borrow.Author.Rules.{rules}
 use Rattle.names.specs.Fields.{got, u8, levels}
 use Rattle.names.specs.Names.{plain, same}
 use Rattle.names.specs.Read.{ending, word_at}
-use Rattle.names.specs.declared.Read.TheVariants.{Next}
 use Rattle.names.specs.Laws.Readers.{u8_view, string_view, split, accept, is_accepted, has_value, arrives, got_value}
-use Rattle.names.specs.declared.Found.TheVariants as Found
 use Rattle.schema.specs.Schema.{Declared, Attributes, nothing, ascending, type_at, attributes, attributes_of}
 use Rattle.schema.specs.Find.{find_attribute}
 use Rattle.schema.specs.Places.{past_word, is_type, fields_in, are_fields, Finds}
 use Rattle.schema.specs.Laws.ByKind.{ascending_string}
+use Rattle.std.specs.Prelude.{Ok, Some, None}
 
 -- what is left of a row of attributes, n of them from `at`, answers as the whole row
 pub record Left (s name : List ℕ) (o : Option Declared) (n at : ℕ) : Type 0 where
@@ -60,52 +59,59 @@ module _ (s name : List ℕ) (o : Option Declared) where
         answer = rw (← w.word) (ap (λ (f : Attributes). find_attribute f name) (got_value d.rest) ∙ l.answer);
       }
 
-  pub row_none : (n at : ℕ) → n ≤ 0 → Left s name o n at → Finds s o Found.Absent
+  over : (n at : ℕ) → n ≤ 0 → Left s name o n at → Finds s o None
   unfolding attributes_of find_attribute
-  row_none zero at h l = record { value = ap (λ (f : Attributes). find_attribute f name) (got_value l.read) ∙ l.answer; stands = refl }
-  row_none (suc n) at h l = absurd (omega arith)
+  over zero at h l = record { value = ap (λ (f : Attributes). find_attribute f name) (got_value l.read) ∙ l.answer; stands = refl }
+  over (suc n) at h l = absurd (omega arith)
 
-  module _ (n at : ℕ) (h : 0 < n) (l : Left s name o n at) where
+  pub row_none : (end i at : ℕ) → end ≤ i → Left s name o (end - i) at → Finds s o None
+  row_none end i at h l = over (end - i) at (omega arith) l
+
+  module _ (end i at : ℕ) (h : i < end) (l : Left s name o (end - i) at) where
+    front : First s name o (end - i) at
+    front = first (end - i) at (omega arith) l
+
     pub row_inside : past_word s at ≤ length s
-    row_inside = (first n at h l).inside
+    row_inside = front.inside
 
     pub row_typed : (p : ℕ) → p ≡ past_word s at → is_type s p ≡ true
-    row_typed p e = rw e (is_accepted (first n at h l).typed)
+    row_typed p e = rw e (is_accepted front.typed)
 
     module _ (p : ℕ) (e : p ≡ past_word s at) (w : List ℕ) (is_w : w ≡ word_at s at) (b : Bool) (is_b : b ≡ same w name) where
-      typed : type_at levels s p ≡ got (first n at h l).declared (first n at h l).q
-      typed = ap (type_at levels s) e ∙ (first n at h l).typed
+      typed : type_at levels s p ≡ got front.declared front.q
+      typed = ap (type_at levels s) e ∙ front.typed
 
-      pub row_found : b ≡ true → Finds s o (Found.At p)
-      row_found f = record { value = ap some (has_value _ typed) ∙ rw (← is_w, ← is_b, f) at (first n at h l).answer; stands = is_accepted typed }
+      pub row_found : b ≡ true → Finds s o (Some p)
+      row_found f = record { value = ap some (has_value _ typed) ∙ rw (← is_w, ← is_b, f) at front.answer; stands = is_accepted typed }
 
-      pub row_on : b ≡ false → (m : ℕ) → Next m ≡ ending (type_at levels s p) → Left s name o (n - 1) m
+      pub row_on : b ≡ false → (m : ℕ) → Ok m ≡ ending (type_at levels s p) → Left s name o (end - (i + 1)) m
       row_on f m g =
-          let v = first n at h l in
-          record {
-            before = some v.own;
-            fields = v.others;
-            place = v.place;
-            read = rw (arrives typed g refl) v.rest;
-            answer = rw (← is_w, ← is_b, f) at v.answer;
-          }
+          let left : end - (i + 1) ≡ (end - i) - 1 = omega arith in
+          rw left (record {
+            before = some front.own;
+            fields = front.others;
+            place = front.place;
+            read = rw (arrives typed g refl) front.rest;
+            answer = rw (← is_w, ← is_b, f) at front.answer;
+          })
 
 module _ (s : List ℕ) (at : ℕ) (are : are_fields s at ≡ true) where
   pub fields_inside : at < length s
   unfolding attributes
   fields_inside = (u8_view s at (split (u8 s at) _ (accept _ are).read).first).0
 
-  pub fields_start : (name : List ℕ) (n : ℕ) → n ≡ get_or s at 0 → Left s name (find_attribute (fields_in s at) name) n (at + 1)
+  pub fields_start : (name : List ℕ) (n : ℕ) → n ≡ get_or s at 0 → Left s name (find_attribute (fields_in s at) name) (n - 0) (at + 1)
   unfolding attributes
   fields_start name n e =
       let a = accept _ are in
       let b = split (u8 s at) _ a.read in
       let v = u8_view s at b.first in
+      let all : n - 0 ≡ n = omega arith in
       record {
         before = none;
         fields = a.value;
         place = a.place;
-        read = rw (e, ← v.1, ← v.2) b.rest;
+        read = rw (all, e, ← v.1, ← v.2) b.rest;
         answer = ap (λ (f : Attributes). find_attribute f name) (sym (has_value nothing a.read));
       }
 

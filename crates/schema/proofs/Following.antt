@@ -15,8 +15,6 @@ use Rattle.names.specs.Names.{same, below, path_name}
 use Rattle.names.specs.Read.{ending, value_or, word_at}
 use Rattle.names.specs.Laws.Names.{same_eq, order_refl, below_order, below_trans}
 use Rattle.names.specs.Laws.Readers.{Keeps, accept, is_accepted, has_value, got_value, arrives, split, held, next_wider}
-use Rattle.names.specs.declared.Read.TheVariants.{Next}
-use Rattle.names.specs.declared.Found.{Found}
 use Rattle.names.specs.declared.Row.{Row}
 use Rattle.schema.specs.Schema.{EntityType, Schema, after, ascending, entity_type}
 use Rattle.schema.specs.Find.{find_entity}
@@ -25,6 +23,8 @@ use Rattle.schema.specs.Laws.ByKind.{ascending_word}
 use Rattle.schema.specs.Laws.Nearby.{is_named, all_serve, nearby_all}
 use Rattle.schema.proofs.Rows.{entity_word}
 use Rattle.schema.proofs.Views.{name_of, schema_view, free_entity}
+use Rattle.std.specs.Prelude.{Ok, Some, None}
+use Rattle.names.specs.declared.refusal.Refusal.TheVariants.{NotAscending}
 
 -- a name is not before itself, and one before another is not the same
 not_itself : (v w : List ℕ) → below w v ≡ true → same v w ≡ false
@@ -58,7 +58,7 @@ unfolding entity_type ascending after
 entity_after v s at {e} {n} h =
     let a = split (ascending path_name (some v) s at) _ h in
     let w = split (string_of path_name s at) _ a.first in
-    let o = held 8 (below v w.value) s w.rest in
+    let o = held NotAscending (below v w.value) s w.rest in
     let i : w.value ≡ e.name = o.value ∙ ascending_word path_name (some v) s at a.first ∙ sym (entity_word (some v) s at h) in
     rw i at o.passed
 
@@ -154,17 +154,17 @@ module _ (s : List ℕ) where
     ends zero at l over = record { row = l.row; finds = record { value = l.same; stands = refl } }
     ends (suc n) at l over = let f = front (suc n) at (omega arith) l.row.stands in record { row = l.row; finds = rw (ne_eqb (suc n) 0 (λ e. omega arith)) (go f (same (word_at s at) name) refl) }
       where
-        go : (f : Front (suc n) at) (b : Bool) → same (word_at s at) name ≡ b → FindsEntity s (find_entity (schema_in s) name) (cond b (Found.At at) Found.Absent)
+        go : (f : Front (suc n) at) (b : Bool) → same (word_at s at) name ≡ b → FindsEntity s (find_entity (schema_in s) name) (cond b (Some at) None)
         go f b e = by b (rw (f.all, ap (λ (v : List ℕ). same v name) (entity_word none s at f.here) ∙ e, over f (omega arith)) at l.same)
           where
-            by : (b : Bool) → cond b (some f.own) none ≡ find_entity (schema_in s) name → FindsEntity s (find_entity (schema_in s) name) (cond b (Found.At at) Found.Absent)
+            by : (b : Bool) → cond b (some f.own) none ≡ find_entity (schema_in s) name → FindsEntity s (find_entity (schema_in s) name) (cond b (Some at) None)
             by true i = record { value = ap some (has_value no_entity f.here) ∙ i; stands = is_accepted f.here }
             by false i = record { value = i; stands = refl }
 
     pub near_last : (n at : ℕ) → n ≤ 1 → Serving s name (record { count = n; at = at }) → Near s name (record { count = n; at = at })
     near_last n at h l = ends n at l (λ f k. none_left (n - 1) (some f.own.name) (is_named name) f.p (omega arith) f.rest)
 
-    module _ (n at : ℕ) (h : 1 < n) (l : Serving s name (record { count = n; at = at })) (m : ℕ) (i : Next m ≡ ending (entity_type none s at)) (w : List ℕ) (is_w : w ≡ word_at s m) (b : Bool) (is_b : b ≡ below name w) where
+    module _ (n at : ℕ) (h : 1 < n) (l : Serving s name (record { count = n; at = at })) (m : ℕ) (i : Ok m ≡ ending (entity_type none s at)) (w : List ℕ) (is_w : w ≡ word_at s m) (b : Bool) (is_b : b ≡ below name w) where
       tested : (d : Bool) → b ≡ d → below name (word_at s m) ≡ d
       tested d e = ap (below name) (sym is_w) ∙ sym is_b ∙ e
 
@@ -191,14 +191,14 @@ module _ (s : List ℕ) where
 
 -- The entity type where the search ended.
 module _ (s name : List ℕ) (r : Row) (l : Near s name r) where
-  pub here_over : r.count ≡ 0 → FindsEntity s (find_entity (schema_in s) name) Found.Absent
+  pub here_over : r.count ≡ 0 → FindsEntity s (find_entity (schema_in s) name) None
   here_over e = rw e at l.finds
 
   module _ (h : r.count ≡ 0 → ⊥) (w : List ℕ) (is_w : w ≡ word_at s r.at) (b : Bool) (is_b : b ≡ same w name) where
-    pub here_found : b ≡ true → FindsEntity s (find_entity (schema_in s) name) (Found.At r.at)
+    pub here_found : b ≡ true → FindsEntity s (find_entity (schema_in s) name) (Some r.at)
     here_found e = rw (ne_eqb r.count 0 h, ← is_w, ← is_b, e) at l.finds
 
-    pub here_other : b ≡ false → FindsEntity s (find_entity (schema_in s) name) Found.Absent
+    pub here_other : b ≡ false → FindsEntity s (find_entity (schema_in s) name) None
     here_other e = rw (ne_eqb r.count 0 h, ← is_w, ← is_b, e) at l.finds
 
 pub ruleset here = (rules, here_over, here_found, here_other)

@@ -12,6 +12,7 @@ use Rattle.names.specs.Names.{plain}
 use Rattle.names.specs.Laws.Readers.{Wider, next_wider, split, Each, each_below, ◌&◌}
 use Rattle.schema.specs.Schema.{Declared, ascending, kinds, type_at, attributes, attributes_of}
 use Rattle.schema.specs.Laws.ByKind.{choose_above}
+use Rattle.names.specs.declared.refusal.Refusal.TheVariants.{UndefinedChoice, TooDeep}
 
 module _ (f g : Reader Declared) (wide : Wider f g) where
   row_wider : (n : ℕ) (before : Option (List ℕ)) → Wider (attributes_of f n before) (attributes_of g n before)
@@ -55,7 +56,7 @@ pub none_left : (s : List ℕ) (at : ℕ) {t : Declared} {n : ℕ} → type_at 0
 unfolding type_at
 none_left s at {t} {n} e = let a = split (u8 s at) _ e in go (leb a.value 10) a.place a.rest
   where
-    go : (b : Bool) (p : ℕ) → cond b (refuse {A = Declared} 7) (refuse 5) s p ≡ got t n → ⊥
+    go : (b : Bool) (p : ℕ) → cond b (refuse {A = Declared} TooDeep) (refuse UndefinedChoice) s p ≡ got t n → ⊥
     go true p i = let z : ◌≡◌ {A = ℕ} 0 1 = cc in omega arith
     go false p i = let z : ◌≡◌ {A = ℕ} 0 1 = cc in omega arith
 

@@ -1,6 +1,7 @@
 -- The place behind what is accepted, by lengths and counts alone. Assumes nothing.
 use mathlib.Core.Path.{◌≡◌, refl, sym, ap, ◌∙◌}
 use mathlib.Core.Bool.{true}
+use mathlib.Core.Logic.{◌⊎◌, ⊎_elim, inl, inr}
 use mathlib.Core.List.{List, [], ◌∷◌}
 use mathlib.Core.Option.{Option, none, some}
 use Prim.Native.Nat.{ℕ, zero, suc, ◌+◌, ◌-◌, ◌≤◌, ◌<◌}
@@ -10,9 +11,7 @@ use borrow.Author.Rules.{rules}
 use lib.ListN.{length, get_or}
 use Rattle.names.specs.Fields.{Got, got, Reader, u8, string_of, many, counted, levels}
 use Rattle.names.specs.Names.{path_name, plain}
-use Rattle.names.specs.Read.{ending, accepted, row, is_row}
-use Rattle.names.specs.declared.Read.{Read}
-use Rattle.names.specs.declared.Read.TheVariants.{Next}
+use Rattle.names.specs.Read.{ending, accepted, row, is_row, Read}
 use Rattle.names.specs.Laws.Readers.{u8_view, string_view, StringView, split, accept, Accepted, is_accepted, arrives, passes, got_place}
 use Rattle.names.specs.Laws.Rows.{Opens, opens, each_done, row_cons, row_append}
 use Rattle.names.specs.declared.Row.{Row}
@@ -23,8 +22,9 @@ use Rattle.schema.proofs.Levels.{type_wider, attributes_wider}
 use Rattle.schema.proofs.Ahead.{type_ahead}
 use Rattle.schema.proofs.TypeViews.{open_type}
 use Rattle.schema.proofs.Views.{free_entity, unkeyed, names_view, names_inside, name_of, entity_there, entity_inside, ancestors_stand, action_there, type_inside, id_inside}
+use Rattle.std.specs.Prelude.{Ok}
 
-ended : {A : Type 0} {g : Got A} {a : A} {n : ℕ} → g ≡ got a n → ending g ≡ Next n
+ended : {A : Type 0} {g : Got A} {a : A} {n : ℕ} → g ≡ got a n → ending g ≡ Ok n
 unfolding ending
 ended e = rw e
 
@@ -33,11 +33,11 @@ pub record Passing {A : Type 0} (f : Reader A) (s : List ℕ) (whole : Read) (n 
   pub list : List A
   pub end : ℕ
   pub read : row f n s at ≡ got list end
-  pub ends : whole ≡ Next end
+  pub ends : whole ≡ Ok end
 
 module _ {A : Type 0} (f : Reader A) (s : List ℕ) (whole : Read) (n at : ℕ) (p : Passing f s whole n at) where
-  passed : n ≤ 0 → Next at ≡ whole
-  passed h = each_done f s whole n at (p.ends ∙ sym (ended p.read)) h
+  passed : n ≤ 0 → Ok at ≡ whole
+  passed h = let all : n - 0 ≡ n = omega arith in each_done f s whole n 0 at (rw all (p.ends ∙ sym (ended p.read))) h
 
   module _ (h : 0 < n) where
     head : Opens f s n at p.list p.end
@@ -49,22 +49,30 @@ module _ {A : Type 0} (f : Reader A) (s : List ℕ) (whole : Read) (n at : ℕ) 
 -- ---- names
 
 module _ (s : List ℕ) where
-  pub names_begin : (start : ℕ) → are_names s start ≡ true → (n : ℕ) → n ≡ get_or s start 0 → Passing (string_of path_name) s (ending (counted (ascending path_name) s start)) n (start + 1)
-  names_begin start is n e = let a = accept _ is in record { list = a.value; end = a.place; read = rw e (names_view s start a.read).read; ends = ended a.read }
+  pub names_begin : (start : ℕ) → are_names s start ≡ true → (n : ℕ) → n ≡ get_or s start 0 → Passing (string_of path_name) s (ending (counted (ascending path_name) s start)) (n - 0) (start + 1)
+  names_begin start is n e =
+      let a = accept _ is in
+      let all : n - 0 ≡ n = omega arith in
+      record { list = a.value; end = a.place; read = rw (all, e) (names_view s start a.read).read; ends = ended a.read }
 
-  module _ (whole : Read) (n at : ℕ) (p : Passing (string_of path_name) s whole n at) where
-    pub names_passed : n ≤ 0 → Next at ≡ whole
-    names_passed h = passed (string_of path_name) s whole n at p h
+  module _ (whole : Read) (end i at : ℕ) (p : Passing (string_of path_name) s whole (end - i) at) where
+    pub names_passed : end ≤ i → Ok at ≡ whole
+    names_passed h = passed (string_of path_name) s whole (end - i) at p (omega arith)
 
-    module _ (h : 0 < n) where
-      word : StringView path_name s at (head (string_of path_name) s whole n at p h).own (head (string_of path_name) s whole n at p h).p
-      word = string_view path_name s at (head (string_of path_name) s whole n at p h).here
+    module _ (h : i < end) where
+      some_left : 0 < end - i
+      some_left = omega arith
+
+      word : StringView path_name s at (head (string_of path_name) s whole (end - i) at p some_left).own (head (string_of path_name) s whole (end - i) at p some_left).p
+      word = string_view path_name s at (head (string_of path_name) s whole (end - i) at p some_left).here
 
       pub name_within : past_word s at ≤ length s
       name_within = rw (← word.place) word.inside
 
-      pub names_on : (m : ℕ) → m ≡ past_word s at → Passing (string_of path_name) s whole (n - 1) m
-      names_on m e = pass (string_of path_name) s whole n at p h m (e ∙ sym word.place)
+      pub names_on : (m : ℕ) → m ≡ past_word s at → Passing (string_of path_name) s whole (end - (i + 1)) m
+      names_on m e =
+          let left : end - (i + 1) ≡ (end - i) - 1 = omega arith in
+          rw left (pass (string_of path_name) s whole (end - i) at p some_left m (e ∙ sym word.place))
 
 pub ruleset along_names = (rules, names_inside, names_begin, names_passed, name_within, names_on)
 
@@ -99,10 +107,10 @@ fields_view s at {a} {m} e =
     record { inside = u.0; rowed = rw (← u.1, ← u.2) (attributes_row s x.value none x.place x.rest) }
 
 -- what an ending says is accepted
-reads : {A : Type 0} (g : Got A) {n : ℕ} → ending g ≡ Next n → Accepted g
+reads : {A : Type 0} (g : Got A) {n : ℕ} → ending g ≡ Ok n → Accepted g
 reads g e = accept g (passes g refl e)
 
-at-end : {A : Type 0} (g : Got A) {a : A} {m n : ℕ} → g ≡ got a m → ending g ≡ Next n → n ≡ m
+at-end : {A : Type 0} (g : Got A) {a : A} {m n : ℕ} → g ≡ got a m → ending g ≡ Ok n → n ≡ m
 at-end g e f = arrives e refl f
 
 module _ (s : List ℕ) (start at : ℕ) (b : Below s start at) where
@@ -110,7 +118,7 @@ module _ (s : List ℕ) (start at : ℕ) (b : Below s start at) where
   here : Accepted (type_at levels s at)
   here = accept _ b.stands
 
-  ends_here : ending (type_at levels s start) ≡ Next here.place
+  ends_here : ending (type_at levels s start) ≡ Ok here.place
   ends_here = b.ends ∙ ended here.read
 
   module _ (k : ℕ) (o : KindHere s at k) where
@@ -120,9 +128,6 @@ module _ (s : List ℕ) (start at : ℕ) (b : Below s start at) where
         let a = reads (type_at 31 s (at + 1)) (i ∙ ended here.read) in
         let w = type_wider 31 levels (omega arith) s (at + 1) a.value a.place a.read in
         record { stands = is_accepted w; ends = b.ends ∙ sym i ∙ ended a.read ∙ sym (ended w); behind = omega (arith, b.behind) }
-
-    pub set_stands : k ≡ 4 → is_type s (at + 1) ≡ true
-    set_stands e = (set_below e).stands
 
     pub below_other : (k ≡ 4 → ⊥) → (get_or s at 0 ≡ 4 → ⊥)
     below_other h e = h (o.kind ∙ e)
@@ -147,7 +152,7 @@ module _ (s : List ℕ) (start at : ℕ) (b : Below s start at) where
           record { stands = is_accepted r; ends = ends_here ∙ sym (ended r); few = few; ahead = omega (arith, b.behind); within = omega (arith, f.inside) }
 
     -- no attributes: from the place behind
-    none_in : (m : ℕ) → ending (type_at levels s at) ≡ Next m → at < m → m ≤ length s → Inside s start (record { count = 0; at = m })
+    none_in : (m : ℕ) → ending (type_at levels s at) ≡ Ok m → at < m → m ≤ length s → Inside s start (record { count = 0; at = m })
     unfolding many accepted ending
     none_in m e l w = record { stands = refl; ends = b.ends ∙ e; few = omega arith; ahead = omega (arith, b.behind); within = w }
 
@@ -162,7 +167,7 @@ module _ (s : List ℕ) (start at : ℕ) (b : Below s start at) where
       in_name m e =
           let a = reads (string_of path_name s (at + 1)) (i ∙ ended here.read) in
           let p : m ≡ a.place = e ∙ sym name_here.place in
-          none_in m (sym i ∙ ended a.read ∙ ap Next (sym p)) (omega arith) (rw p name_here.inside)
+          none_in m (sym i ∙ ended a.read ∙ ap Ok (sym p)) (omega arith) (rw p name_here.inside)
 
     module _ (e : k ≡ 3) where
       extension-is : ending (string_of path_name s (at + 1)) ≡ ending (type_at levels s at)
@@ -191,12 +196,22 @@ module _ (s : List ℕ) (start at : ℕ) (b : Below s start at) where
         let i = type_leaf s at levels o.inside (λ z. omega arith) known (λ q. three (o.kind ∙ q)) four (λ q. six (o.kind ∙ q)) (λ q. seven (o.kind ∙ q)) in
         none_in (at + 1) (sym i) (omega arith) (omega (arith, o.inside))
 
+    -- an extension and an entity have a name, of which nothing is left
+    pub in_named : (k ≡ 3) ⊎ (k ≡ 7) → (m : ℕ) → m ≡ past_word s (at + 1) → Inside s start (record { count = 0; at = m })
+    in_named e m i = ⊎_elim (λ x. in_extension x m i) (λ y. in_entity y m i) e
+
+    pub in_other : (get_or s at 0 ≡ 4 → ⊥) → (k ≡ 6 → ⊥) → ((k ≡ 3) ⊎ (k ≡ 7) → ⊥) → Inside s start (record { count = 0; at = at + 1 })
+    in_other four six named = in_leaf four six (λ e. named (inl e)) (λ e. named (inr e))
+
 pub below_start : (s : List ℕ) (at : ℕ) → is_type s at ≡ true → Below s at at
 below_start s at is = record { stands = is; ends = refl; behind = omega arith }
 
-pub ruleset below_sets = (rules, below_start, set_stands, set_below, below_other)
+pub below_stands : (s : List ℕ) (start at : ℕ) → Below s start at → is_type s at ≡ true
+below_stands s start at b = b.stands
 
-pub ruleset insides = (rules, record_count, in_record, extension_inside, in_extension, entity_name_inside, in_entity, in_leaf)
+pub ruleset below_sets = (rules, below_start, below_stands, set_below, below_other)
+
+pub ruleset insides = (rules, record_count, in_record, extension_inside, in_extension, entity_name_inside, in_entity, in_named, in_other)
 
 -- ---- attributes by themselves
 
@@ -236,7 +251,7 @@ module _ (s : List ℕ) where
       record { few = few_left s n at a.read; passing = record { list = a.value; end = a.place; read = a.read; ends = ended a.read } }
 
   module _ (whole : Read) (n at : ℕ) (l : FieldsLeft s whole n at) where
-    pub fields_passed : n ≤ 0 → Next at ≡ whole
+    pub fields_passed : n ≤ 0 → Ok at ≡ whole
     fields_passed h = passed attribute_at s whole n at l.passing h
 
     module _ (h : 0 < n) where
@@ -271,7 +286,7 @@ module _ (s : List ℕ) (at : ℕ) where
   pub inside_stands : (r : Row) → Inside s at r → is_row attribute_at s r.count r.at ≡ true
   inside_stands r i = i.stands
 
-  pub inside_passed : (r : Row) → Inside s at r → (x : ℕ) → Next x ≡ ending (row attribute_at r.count s r.at) → Next x ≡ ending (type_at levels s at)
+  pub inside_passed : (r : Row) → Inside s at r → (x : ℕ) → Ok x ≡ ending (row attribute_at r.count s r.at) → Ok x ≡ ending (type_at levels s at)
   inside_passed r i x e = e ∙ sym i.ends
 
   module _ (is : are_fields s at ≡ true) where
@@ -288,14 +303,14 @@ module _ (s : List ℕ) (at : ℕ) where
       pub fields_stand : is_row attribute_at s n (at + 1) ≡ true
       fields_stand = is_accepted these
 
-      pub fields-end : (x : ℕ) → Next x ≡ ending (row attribute_at n s (at + 1)) → Next x ≡ ending (attributes (type_at levels) s at)
+      pub fields-end : (x : ℕ) → Ok x ≡ ending (row attribute_at n s (at + 1)) → Ok x ≡ ending (attributes (type_at levels) s at)
       fields-end x f = f ∙ ended these ∙ sym (ended (accept _ is).read)
 
 pub ruleset whole_type = (rules, inside_stands, inside_passed)
 
 pub ruleset Whole-Fields = (rules, fields_count, fields_stand, fields-end)
 
-module _ (s : List ℕ) (at : ℕ) (is : is_entity s at ≡ true) (p : ℕ) (e : p ≡ past_word s at) (q : ℕ) (f : Next q ≡ ending (counted (ascending path_name) s p)) where
+module _ (s : List ℕ) (at : ℕ) (is : is_entity s at ≡ true) (p : ℕ) (e : p ≡ past_word s at) (q : ℕ) (f : Ok q ≡ ending (counted (ascending path_name) s p)) where
   fields_at : q ≡ (entity_there s at is).q
   fields_at = arrives (entity_there s at is).below (f ∙ ap (λ m. ending (counted (ascending path_name) s m)) e) refl
 
@@ -305,12 +320,12 @@ module _ (s : List ℕ) (at : ℕ) (is : is_entity s at ≡ true) (p : ℕ) (e :
   pub fields_there : are_fields s q ≡ true
   fields_there = is_accepted fields_read
 
-  pub entity_passed : (x : ℕ) → Next x ≡ ending (attributes (type_at levels) s q) → Next x ≡ ending (entity_type none s at)
+  pub entity_passed : (x : ℕ) → Ok x ≡ ending (attributes (type_at levels) s q) → Ok x ≡ ending (entity_type none s at)
   entity_passed x g = g ∙ ended fields_read ∙ sym (ended (accept _ is).read)
 
 pub ruleset whole_entity = (rules, entity_inside, ancestors_stand, fields_there, entity_passed)
 
-module _ (s : List ℕ) (at : ℕ) (is : is_action s at ≡ true) (p : ℕ) (e : p ≡ past_word s at) (i : ℕ) (g : i ≡ past_word s p) (q : ℕ) (f : Next q ≡ ending (counted (ascending path_name) s i)) where
+module _ (s : List ℕ) (at : ℕ) (is : is_action s at ≡ true) (p : ℕ) (e : p ≡ past_word s at) (i : ℕ) (g : i ≡ past_word s p) (q : ℕ) (f : Ok q ≡ ending (counted (ascending path_name) s i)) where
   from : i ≡ past_word s (past_word s at)
   from = g ∙ ap (past_word s) e
 
@@ -320,7 +335,7 @@ module _ (s : List ℕ) (at : ℕ) (is : is_action s at ≡ true) (p : ℕ) (e :
   pub second_stands : are_names s q ≡ true
   second_stands = is_accepted (ap (counted (ascending path_name) s) second_at ∙ (action_there s at is).resources)
 
-  module _ (r : ℕ) (h : Next r ≡ ending (counted (ascending path_name) s q)) where
+  module _ (r : ℕ) (h : Ok r ≡ ending (counted (ascending path_name) s q)) where
     context_at : r ≡ (action_there s at is).m
     context_at = arrives (action_there s at is).resources (h ∙ ap (λ m. ending (counted (ascending path_name) s m)) second_at) refl
 
@@ -330,7 +345,7 @@ module _ (s : List ℕ) (at : ℕ) (is : is_action s at ≡ true) (p : ℕ) (e :
     pub context_stands : is_type s r ≡ true
     context_stands = is_accepted context_read
 
-    pub action_passed : (x : ℕ) → Next x ≡ ending (type_at levels s r) → Next x ≡ ending (action none s at)
+    pub action_passed : (x : ℕ) → Ok x ≡ ending (type_at levels s r) → Ok x ≡ ending (action none s at)
     action_passed x j = j ∙ ended context_read ∙ sym (ended (accept _ is).read)
 
 pub first_stands : (s : List ℕ) (at : ℕ) → is_action s at ≡ true → (p : ℕ) → p ≡ past_word s at → (i : ℕ) → i ≡ past_word s p → are_names s i ≡ true
@@ -341,20 +356,26 @@ pub ruleset whole_action = (rules, type_inside, id_inside, first_stands, second_
 -- ---- entity types in a row
 
 module _ (s : List ℕ) where
-  pub entities_begin : (n at : ℕ) → are_entities s n at ≡ true → Passing (entity_type none) s (ending (entities_at n s at)) n at
+  pub entities_begin : (n at : ℕ) → are_entities s n at ≡ true → Passing (entity_type none) s (ending (entities_at n s at)) (n - 0) at
   entities_begin n at is =
       let a = accept _ is in
-      record { list = a.value; end = a.place; read = unkeyed name_of entity_type (entity_type none) s (free_entity s) n none at a.value a.place a.read; ends = ended a.read }
+      let all : n - 0 ≡ n = omega arith in
+      record { list = a.value; end = a.place; read = rw all (unkeyed name_of entity_type (entity_type none) s (free_entity s) n none at a.value a.place a.read); ends = ended a.read }
 
-  module _ (whole : Read) (n at : ℕ) (p : Passing (entity_type none) s whole n at) where
-    pub entities_passed : n ≤ 0 → Next at ≡ whole
-    entities_passed h = passed (entity_type none) s whole n at p h
+  module _ (whole : Read) (end i at : ℕ) (p : Passing (entity_type none) s whole (end - i) at) where
+    pub entities_passed : end ≤ i → Ok at ≡ whole
+    entities_passed h = passed (entity_type none) s whole (end - i) at p (omega arith)
 
-    module _ (h : 0 < n) where
+    module _ (h : i < end) where
+      there_is : 0 < end - i
+      there_is = omega arith
+
       pub entity_here : is_entity s at ≡ true
-      entity_here = is_accepted (head (entity_type none) s whole n at p h).here
+      entity_here = is_accepted (head (entity_type none) s whole (end - i) at p there_is).here
 
-      pub entities_on : (m : ℕ) → Next m ≡ ending (entity_type none s at) → Passing (entity_type none) s whole (n - 1) m
-      entities_on m e = pass (entity_type none) s whole n at p h m (arrives (head (entity_type none) s whole n at p h).here e refl)
+      pub entities_on : (m : ℕ) → Ok m ≡ ending (entity_type none s at) → Passing (entity_type none) s whole (end - (i + 1)) m
+      entities_on m e =
+          let left : end - (i + 1) ≡ (end - i) - 1 = omega arith in
+          rw left (pass (entity_type none) s whole (end - i) at p there_is m (arrives (head (entity_type none) s whole (end - i) at p there_is).here e refl))
 
 pub ruleset along_entities = (rules, entities_begin, entities_passed, entity_here, entities_on)

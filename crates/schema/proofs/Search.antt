@@ -5,18 +5,17 @@ use mathlib.Core.List.{List}
 use mathlib.Core.Option.{Option, none, some}
 use Prim.Native.Nat.{ℕ, ◌-◌, ◌≤◌, ◌<◌}
 use Rattle.names.specs.Fields.{got, Reader}
-use Rattle.names.specs.Read.{ending, accepted, value_or}
-use Rattle.names.specs.declared.Read.TheVariants.{Next}
+use Rattle.names.specs.Read.{ending, accepted, value_or, Found}
 use Rattle.names.specs.Laws.Readers.{Keeps, is_accepted, has_value, arrives, RowLeft, RowFirst, row_first, row_over}
-use Rattle.names.specs.declared.Found.{Found}
 use Rattle.schema.specs.Places.{Answers}
+use Rattle.std.specs.Prelude.{Ok, Some, None}
 
 module _ {A K : Type 0} (key : A → K) (f : Option K → Reader A) (test : A → Bool) (other : A) (s : List ℕ) (o : Option A) where
   -- a position stands for what is read there as the first of a row
   abbrev pub Search : Found → Type 0
   Search = Answers (λ at. accepted (f none s at)) (λ at. value_or other (f none s at)) o
 
-  pub search_over : (n at : ℕ) → n ≤ 0 → RowLeft key f test s o n at → Search Found.Absent
+  pub search_over : (n at : ℕ) → n ≤ 0 → RowLeft key f test s o n at → Search None
   search_over n at h l = record { value = row_over _ _ _ s o n at h l; stands = refl }
 
   -- what is accepted after another is accepted as the first too
@@ -35,9 +34,9 @@ module _ {A K : Type 0} (key : A → K) (f : Option K → Reader A) (test : A �
       tested : test head.own ≡ b
       tested = is_b head.own head.p here
 
-      pub search_found : b ≡ true → Search (Found.At at)
+      pub search_found : b ≡ true → Search (Some at)
       search_found e = record { value = ap some (has_value other here) ∙ rw (tested ∙ e) at head.answer; stands = is_accepted here }
 
-      pub search_on : b ≡ false → (m : ℕ) → Next m ≡ ending (f none s at) → RowLeft key f test s o (n - 1) m
+      pub search_on : b ≡ false → (m : ℕ) → Ok m ≡ ending (f none s at) → RowLeft key f test s o (n - 1) m
       search_on e m g =
           record { before = some (key head.own); things = head.others; place = head.place; read = rw (arrives here g refl) head.rest; answer = rw (tested ∙ e) at head.answer }

@@ -11,14 +11,14 @@ use borrow.Author.Rules.{rules}
 use Rattle.names.specs.Fields.{got, string_of}
 use Rattle.names.specs.Names.{same, path_name, joined}
 use Rattle.names.specs.Text.{text}
-use Rattle.names.specs.Read.{word_at, row, is_row, row_in}
+use Rattle.names.specs.Read.{word_at, row, is_row, row_in, Found}
 use Rattle.names.specs.Laws.Readers.{accept, has_value}
-use Rattle.names.specs.Laws.Rows.{Remaining, remaining_over, strings_left, opens, row_empty, string_class}
-use Rattle.names.specs.declared.Found.{Found}
+use Rattle.names.specs.Laws.Rows.{Remaining, remaining_over, StringsLeft, strings_left, opens, row_empty, string_class}
 use Rattle.schema.specs.Find.{action_type}
 use Rattle.schema.specs.Places.{goes_on, place_of, is_namespace, namespace_in}
 use Rattle.names.specs.declared.Row.{Row}
 use Rattle.schema.specs.declared.Namespace.{Namespace}
+use Rattle.std.specs.Prelude.{Some, None}
 
 -- a string against two parts one after another
 same_append : (t a b : List ℕ) → length a ≤ length t → same t (a ++ b) ≡ (same (take (length a) t) a && same (drop (length a) t) b)
@@ -121,13 +121,13 @@ module _ (t ns : List ℕ) where
     by_part : goes_on t (text "Action") x ≡ same t (action_type ns)
     by_part = goes (text "Action") ∙ ap (same t) (sym (namespaced ns n))
 
-    pub other_namespace : x ≡ Found.Absent → false ≡ same t (action_type ns)
+    pub other_namespace : x ≡ None → false ≡ same t (action_type ns)
     other_namespace e = rw e at by_part
 
-    pub in_namespace : (p : ℕ) → x ≡ Found.At p → (r : Bool) → r ≡ same (drop p t) (text "Action") → r ≡ same t (action_type ns)
+    pub in_namespace : (p : ℕ) → x ≡ Some p → (r : Bool) → r ≡ same (drop p t) (text "Action") → r ≡ same t (action_type ns)
     in_namespace p e r is = is ∙ rw e at by_part
 
-pub past_inside : (t : List ℕ) (x : Found) (p : ℕ) → place_of x ≤ length t → x ≡ Found.At p → p ≤ length t
+pub past_inside : (t : List ℕ) (x : Found) (p : ℕ) → place_of x ≤ length t → x ≡ Some p → p ≤ length t
 past_inside t x p h e = rw e at h
 
 pub ruleset type_names = (rules, global_type, other_namespace, in_namespace, past_inside)
@@ -160,33 +160,37 @@ typed_row c (suc n) at e =
 abbrev pub PartsLeft : List ℕ → List ℕ → Bool → ℕ → ℕ → ℕ → Type 0
 PartsLeft t c o n at from = Remaining (string_of path_name) c (λ list. same (drop from t) (typed_by list)) o n at
 
-pub parts_start : (t c : List ℕ) (n at : ℕ) → is_row (string_of path_name) c n at ≡ true → PartsLeft t c (same t (action_type (joined (row_in (string_of path_name) c n at)))) n at 0
+pub parts_start : (t c : List ℕ) (n at : ℕ) → is_row (string_of path_name) c n at ≡ true → PartsLeft t c (same t (action_type (joined (row_in (string_of path_name) c n at)))) (n - 0) at 0
 parts_start t c n at is =
     let a = accept _ is in
     let e : action_type (joined (row_in (string_of path_name) c n at)) ≡ typed_by (row_in (string_of path_name) c n at) = rw (has_value [] a.read) (typed_row c n at a.read) in
-    record { left = row_in (string_of path_name) c n at; there = record { stands = is; value = refl }; same = ap (same t) (sym e) }
+    let all : n - 0 ≡ n = omega arith in
+    rw all (record { left = row_in (string_of path_name) c n at; there = record { stands = is; value = refl }; same = ap (same t) (sym e) })
 
-module _ (t c : List ℕ) (o : Bool) (n at from : ℕ) where
-  pub parts_over : n ≤ 0 → PartsLeft t c o n at from → (r : Bool) → r ≡ same (drop from t) (text "Action") → r ≡ o
+module _ (t c : List ℕ) (o : Bool) (end i at from : ℕ) where
+  pub parts_over : end ≤ i → PartsLeft t c o (end - i) at from → (r : Bool) → r ≡ same (drop from t) (text "Action") → r ≡ o
   unfolding typed_by
-  parts_over h l r e = e ∙ remaining_over (string_of path_name) c (λ list. same (drop from t) (typed_by list)) o n at h l
+  parts_over h l r e = e ∙ remaining_over (string_of path_name) c (λ list. same (drop from t) (typed_by list)) o (end - i) at (omega arith) l
 
-  module _ (h : 0 < n) (l : PartsLeft t c o n at from) where
+  module _ (h : i < end) (l : PartsLeft t c o (end - i) at from) where
+    opened : StringsLeft path_name c (λ list. same (drop from t) (typed_by list)) o (end - i) at
+    opened = strings_left path_name c (λ list. same (drop from t) (typed_by list)) o (end - i) at (omega arith) l
+
     pub parts_inside : at + 1 + get_or c at 0 ≤ length c
-    parts_inside = (strings_left path_name c (λ list. same (drop from t) (typed_by list)) o n at h l).inside
+    parts_inside = opened.inside
 
     module _ (w : List ℕ) (is_w : w ≡ word_at c at) (x : Found) (goes : (rest : List ℕ) → goes_on t rest x ≡ same (drop from t) (w ++ (58 ∷ 58 ∷ rest))) where
       by_first : (others : List (List ℕ)) → same (drop from t) (typed_by (word_at c at ∷ others)) ≡ o → goes_on t (typed_by others) x ≡ o
       unfolding typed_by
       by_first others e = goes (typed_by others) ∙ rw is_w e
 
-      pub parts_absent : x ≡ Found.Absent → false ≡ o
-      parts_absent e = let v = strings_left path_name c (λ list. same (drop from t) (typed_by list)) o n at h l in rw e at (by_first v.others v.same)
+      pub parts_absent : x ≡ None → false ≡ o
+      parts_absent e = rw e at (by_first opened.others opened.same)
 
-      pub parts_on : (p : ℕ) → x ≡ Found.At p → (m : ℕ) → m ≡ at + 1 + get_or c at 0 → PartsLeft t c o (n - 1) m p
-      parts_on p e m i =
-          let v = strings_left path_name c (λ list. same (drop from t) (typed_by list)) o n at h l in
-          record { left = v.others; there = rw i v.there; same = rw e at (by_first v.others v.same) }
+      pub parts_on : (p : ℕ) → x ≡ Some p → (m : ℕ) → m ≡ at + 1 + get_or c at 0 → PartsLeft t c o (end - (i + 1)) m p
+      parts_on p e m q =
+          let left : end - (i + 1) ≡ (end - i) - 1 = omega arith in
+          rw left (record { left = opened.others; there = rw q opened.there; same = rw e at (by_first opened.others opened.same) })
 
 pub ruleset parts_left = (rules, parts_start, parts_over, parts_inside, parts_absent, parts_on, past_inside)
 

@@ -15,9 +15,9 @@ use Rattle.names.specs.Laws.Readers.{u8_view, split, accept, Accepted, is_accept
 use Rattle.schema.specs.Schema.{Declared, Attributes, never, nothing, object, kinds, type_at, attributes}
 use Rattle.schema.specs.Places.{type_in, is_type, fields_in, are_fields, FindsFields, KindHere}
 use Rattle.schema.specs.Find.{fields_of}
-use Rattle.names.specs.declared.Found.TheVariants as Found
 use Rattle.schema.specs.Laws.ByKind.{choose_above}
 use Rattle.schema.proofs.Levels.{type_wider, attributes_wider}
+use Rattle.std.specs.Prelude.{Some, None}
 
 -- a type, accepted: its kind, and what follows it
 pub record Open (s : List ℕ) (at : ℕ) (t : Declared) (n : ℕ) : Type 0 where
@@ -99,10 +99,10 @@ module _ (s : List ℕ) (at : ℕ) (is : is_type s at ≡ true) where
 
 -- The attributes of a type, by what its first byte was found to be.
 module _ (s : List ℕ) (at : ℕ) (is : is_type s at ≡ true) (k : ℕ) (op : KindHere s at k) where
-  pub a_record : k ≡ 6 → FindsFields s (fields_of (type_in s at)) (Found.At (at + 1))
+  pub a_record : k ≡ 6 → FindsFields s (fields_of (type_in s at)) (Some (at + 1))
   a_record h = record { value = sym (object_fields s at is k op.kind h); stands = object_accepted s at is k op.kind h }
 
-  pub no_record : (k ≡ 6 → ⊥) → FindsFields s (fields_of (type_in s at)) Found.Absent
+  pub no_record : (k ≡ 6 → ⊥) → FindsFields s (fields_of (type_in s at)) None
   no_record h = record { value = sym (other_fields s at is k op.kind h); stands = refl }
 
 pub ruleset record_fields = (rules, a_record, no_record)

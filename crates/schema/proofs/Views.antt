@@ -8,15 +8,16 @@ use lib.ListN.{length, get_or, take, drop}
 use borrow.Author.Rules.{rules}
 use Rattle.names.specs.Fields.{got, Reader, heading, u8, u16, number, each, many, holds, string_of, counted, levels}
 use Rattle.names.specs.Names.{path_name, plain}
-use Rattle.names.specs.Read.{ending, row, Listed}
-use Rattle.names.specs.declared.Read.{Read}
-use Rattle.names.specs.declared.Read.TheVariants.{Next, Refused}
+use Rattle.names.specs.Read.{ending, row, Listed, Read}
 use Rattle.names.specs.Laws.Readers.{Keeps, split, held, string_view, u8_view, accept, is_accepted, has_value, got_value, got_place, arrives, not_refused, next_wider, u16_value, u16_place, heading_place, finished_value, whole_read}
 use Rattle.names.specs.Laws.Rows.{row_any, listed}
 use Rattle.schema.specs.Schema.{EntityType, Action, Key, Schema, never, nothing, after, ascending, type_at, attributes, entity_type, key_after, action, key_of, schema_record}
 use Rattle.names.specs.declared.Row.{Row}
 use Rattle.schema.specs.Places.{past_word, are_fields, fields_in, are_names, names_in, is_type, type_in, schema_in, is_schema, entity_in, is_entity, entities_at, are_entities, action_in, is_action, Standing, ActionsOf}
 use Rattle.schema.specs.Laws.ByKind.{ascending_string}
+use Rattle.std.specs.Prelude.{Ok, Err}
+use Rattle.names.specs.declared.refusal.Refusal.{Refusal}
+use Rattle.names.specs.declared.refusal.Refusal.TheVariants.{NotAscending}
 
 abbrev pub name_of : EntityType → List ℕ
 name_of e = e.name
@@ -36,11 +37,11 @@ unfolding action key_after
 free_action s before at e n i =
     next_wider (string_of path_name s at) _ _ _ (λ _ _ j. j)
     (λ t m. next_wider (string_of plain s m) _ _ _ (λ _ _ j. j)
-    (λ w p. next_wider (holds 8 (key_after before (record { type = t; id = w })) w s p) (got w p) _ _ (λ _ _ j. free (key_after before (record { type = t; id = w })) w p j) (λ _ _ _ _ j. j)))
+    (λ w p. next_wider (holds NotAscending (key_after before (record { type = t; id = w })) w s p) (got w p) _ _ (λ _ _ j. free (key_after before (record { type = t; id = w })) w p j) (λ _ _ _ _ j. j)))
     e n i
   where
-    free : (b : Bool) (w : List ℕ) (p : ℕ) {v : List ℕ} {q : ℕ} → holds 8 b w s p ≡ got v q → got w p ≡ got v q
-    free b w p j = let h = held 8 b s j in ap₂ got h.value h.place
+    free : (b : Bool) (w : List ℕ) (p : ℕ) {v : List ℕ} {q : ℕ} → holds NotAscending b w s p ≡ got v q → got w p ≡ got v q
+    free b w p j = let h = held NotAscending b s j in ap₂ got h.value h.place
 
 -- A schema, accepted: the entity types stand from 7 on, and their count at 5; then the actions' count, and the actions.
 pub record SchemaView (s : List ℕ) : Type 0 where
@@ -88,14 +89,14 @@ module _ (s : List ℕ) (is : is_schema s ≡ true) (v : ℕ) (is_v : v ≡ numb
   pub entities_stand : are_entities s v 7 ≡ true
   entities_stand = is_accepted entities_read
 
-  module _ (p : ℕ) (e : Next p ≡ ending (entities_at v s 7)) (y : Read) (is_y : y ≡ ending (u16 s p)) where
+  module _ (p : ℕ) (e : Ok p ≡ ending (entities_at v s 7)) (y : Read) (is_y : y ≡ ending (u16 s p)) where
     count_read : u16 s p ≡ got (schema_view s is).count (schema_view s is).q
     count_read = ap (u16 s) (arrives entities_read e refl) ∙ (schema_view s is).counted
 
-    pub actions_uncounted : (r : ℕ) → y ≡ Refused r → (a : Row) → ActionsOf s a
+    pub actions_uncounted : (r : Refusal) → y ≡ Err r → (a : Row) → ActionsOf s a
     actions_uncounted r f a = absurd (not_refused count_read is_y f)
 
-    pub actions_there : (q : ℕ) → y ≡ Next q → (n : ℕ) → n ≡ number 0 (take 2 (drop p s)) → ActionsOf s (record { count = n; at = q })
+    pub actions_there : (q : ℕ) → y ≡ Ok q → (n : ℕ) → n ≡ number 0 (take 2 (drop p s)) → ActionsOf s (record { count = n; at = q })
     actions_there q f n g =
         let c : n ≡ (schema_view s is).count = g ∙ sym (u16_value s p count_read) in
         let i : many key_of action n none s q ≡ got (schema_view s is).acts (schema_view s is).end = ap₂ (λ (k m : ℕ). many key_of action k none s m) c (arrives count_read is_y f) ∙ (schema_view s is).actions in
@@ -167,7 +168,7 @@ module _ (s : List ℕ) {q m : ℕ} (p : ℕ) {list : List (List ℕ)} (own : Li
   pub names_are : (n at : ℕ) → Listed (string_of path_name) s (names_in s p) n at → Listed (string_of path_name) s own n at
   names_are n at l = record { stands = l.stands; value = l.value ∙ has_value [] there ∙ e }
 
-  pub names-end : (r : ℕ) → Next r ≡ ending (counted (ascending path_name) s p) → r ≡ m
+  pub names-end : (r : ℕ) → Ok r ≡ ending (counted (ascending path_name) s p) → r ≡ m
   names-end r f = arrives there f refl
 
 module _ (s : List ℕ) (at : ℕ) (is : is_entity s at ≡ true) where
@@ -184,7 +185,7 @@ module _ (s : List ℕ) (at : ℕ) (is : is_entity s at ≡ true) where
     pub ancestors_are : (n q : ℕ) → Listed (string_of path_name) s (names_in s p) n q → Listed (string_of path_name) s (entity_in s at).ancestors n q
     ancestors_are = names_are s p _ refl entity_there.below e
 
-    pub fields_there : (r : ℕ) → Next r ≡ ending (counted (ascending path_name) s p) → Standing (are_fields s) (fields_in s) (entity_in s at).attributes r
+    pub fields_there : (r : ℕ) → Ok r ≡ ending (counted (ascending path_name) s p) → Standing (are_fields s) (fields_in s) (entity_in s at).attributes r
     fields_there r f =
         let i : attributes (type_at levels) s r ≡ got (entity_in s at).attributes (accept _ is).place = rw (names-end s p _ refl entity_there.below e r f) entity_there.fields in
         record { stands = is_accepted i; value = has_value nothing i }
@@ -208,8 +209,8 @@ action_view s at i =
     let t = string_view path_name s at a.first in
     let b = split (string_of plain s a.place) _ a.rest in
     let w = string_view plain s a.place b.first in
-    let o = split (holds 8 (key_after none (record { type = a.value; id = b.value })) b.value s b.place) _ b.rest in
-    let here : o.place ≡ past_word s (past_word s at) = sym (held 8 (key_after none (record { type = a.value; id = b.value })) s o.first).place ∙ w.place ∙ ap (past_word s) t.place in
+    let o = split (holds NotAscending (key_after none (record { type = a.value; id = b.value })) b.value s b.place) _ b.rest in
+    let here : o.place ≡ past_word s (past_word s at) = sym (held NotAscending (key_after none (record { type = a.value; id = b.value })) s o.first).place ∙ w.place ∙ ap (past_word s) t.place in
     let d = split (counted (ascending path_name) s o.place) _ o.rest in
     let f = split (counted (ascending path_name) s d.place) _ d.rest in
     let g = split (type_at levels s f.place) _ f.rest in
@@ -243,7 +244,7 @@ module _ (s : List ℕ) (at : ℕ) (is : is_action s at ≡ true) where
     pub principals_are : (n q : ℕ) → Listed (string_of path_name) s (names_in s p) n q → Listed (string_of path_name) s (action_in s at).principals n q
     principals_are = names_are s p _ refl action_there.principals e
 
-  module _ (p : ℕ) (e : Next p ≡ ending (counted (ascending path_name) s (past_word s (past_word s at)))) where
+  module _ (p : ℕ) (e : Ok p ≡ ending (counted (ascending path_name) s (past_word s (past_word s at)))) where
     resources_at : p ≡ action_there.q
     resources_at = arrives action_there.principals e refl
 
@@ -253,7 +254,7 @@ module _ (s : List ℕ) (at : ℕ) (is : is_action s at ≡ true) where
     pub resources_are : (n q : ℕ) → Listed (string_of path_name) s (names_in s p) n q → Listed (string_of path_name) s (action_in s at).resources n q
     resources_are = names_are s p _ refl action_there.resources resources_at
 
-    pub context_there : (r : ℕ) → Next r ≡ ending (counted (ascending path_name) s p) → Standing (is_type s) (type_in s) (action_in s at).context r
+    pub context_there : (r : ℕ) → Ok r ≡ ending (counted (ascending path_name) s p) → Standing (is_type s) (type_in s) (action_in s at).context r
     context_there r f =
         let i : type_at levels s r ≡ got (action_in s at).context (accept _ is).place = rw (names-end s p _ refl action_there.resources resources_at r f) action_there.context in
         record { stands = is_accepted i; value = has_value never i }
@@ -262,7 +263,7 @@ pub two_on : (s : List ℕ) (at p r : ℕ) → p ≡ past_word s at → r ≡ pa
 two_on s at p r e f = f ∙ ap (past_word s) e
 
 -- the second list of an action, by the first
-pub list_on : (s : List ℕ) (q p r : ℕ) → p ≡ q → Next r ≡ ending (counted (ascending path_name) s p) → Next r ≡ ending (counted (ascending path_name) s q)
+pub list_on : (s : List ℕ) (q p r : ℕ) → p ≡ q → Ok r ≡ ending (counted (ascending path_name) s p) → Ok r ≡ ending (counted (ascending path_name) s q)
 list_on s q p r e f = f ∙ ap (λ (m : ℕ). ending (counted (ascending path_name) s m)) e
 
 pub ruleset action_parts = (rules, two_on, list_on, type_inside, id_inside, principals_stand, principals_are, resources_stand, resources_are, context_there)

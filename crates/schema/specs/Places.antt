@@ -1,15 +1,12 @@
 -- What positions of a schema's bytes stand for, and what the answers of the lookups mean.
-use Rattle.std.specs.Prelude.{ℕ, ◌+◌, ◌≤◌, ◌<◌, ◌≡◌, Bool, true, false, cond, ◌&&◌, List, [], length, get_or, drop, eqb}
+use Rattle.std.specs.Prelude.{ℕ, ◌+◌, ◌≤◌, ◌<◌, ◌≡◌, Bool, true, false, cond, ◌&&◌, List, [], length, get_or, drop, eqb, Some, None}
 use Rattle.std.proofs.Math.Option.{Option, none, some}
 use Rattle.names.specs.Lists.{first}
 use Rattle.names.specs.Fields.{Reader, ◌>>=◌, levels, whole, many, counted, string_of}
 use Rattle.names.specs.Names.{same, below, plain, path_name, joined}
-use Rattle.names.specs.Read.{word_at, ending, accepted, value_or, row, is_row, row_in}
-use Rattle.names.specs.declared.Before.{Before}
-use Rattle.names.specs.declared.Before.TheVariants.{Nothing, At}
+use Rattle.names.specs.Read.{word_at, ending, accepted, value_or, row, is_row, row_in, Found}
 use Rattle.schema.specs.Schema.{Key, Declared, Attributes, EntityType, Action, Schema, never, nothing, ascending, type_at, attributes, entity_type, action, key_of, schema_record}
 use Rattle.schema.specs.Find.{action_type, find_entity}
-use Rattle.names.specs.declared.Found.{Found}
 use Rattle.names.specs.declared.Row.{Row}
 use Rattle.schema.specs.declared.Namespace.{Namespace}
 
@@ -21,9 +18,9 @@ past_word s at = at + 1 + get_or s at 0
 abbrev pub key_at : List ℕ → ℕ → Key
 key_at s at = record { type = word_at s at; id = word_at s (past_word s at) }
 
-abbrev pub earlier_key : List ℕ → Before → Option Key
-earlier_key s Nothing = none
-earlier_key s (At p) = some (key_at s p)
+abbrev pub earlier_key : List ℕ → Found → Option Key
+earlier_key s None = none
+earlier_key s (Some p) = some (key_at s p)
 
 -- What stands at a position of accepted bytes: a type and attributes (all levels serve everywhere), names in order, an entity type, an action.
 abbrev pub type_in : List ℕ → ℕ → Declared
@@ -98,12 +95,12 @@ pub record Inside (s : List ℕ) (at : ℕ) (r : Row) : Type 0 where
 
 -- What a lookup's answer means: what stands at the position, or none.
 abbrev pub found_in : {A : Type 0} → (ℕ → A) → Found → Option A
-found_in value (Found.At p) = some (value p)
-found_in value Found.Absent = none
+found_in value (Some p) = some (value p)
+found_in value None = none
 
 abbrev pub found_stands : (ℕ → Bool) → Found → Bool
-found_stands is (Found.At p) = is p
-found_stands is Found.Absent = true
+found_stands is (Some p) = is p
+found_stands is None = true
 
 -- an answer to a lookup that the definitions answer by o
 pub record Answers {A : Type 0} (is : ℕ → Bool) (what : ℕ → A) (o : Option A) (r : Found) : Type 0 where
@@ -162,7 +159,7 @@ pub record Serving (s name : List ℕ) (r : Row) : Type 0 where
 
 -- the first entity type of a row, where it has the name
 abbrev pub found_here : List ℕ → List ℕ → Row → Found
-found_here s name r = cond (eqb r.count 0) Found.Absent (cond (same (word_at s r.at) name) (Found.At r.at) Found.Absent)
+found_here s name r = cond (eqb r.count 0) None (cond (same (word_at s r.at) name) (Some r.at) None)
 
 -- one whose first entity type is that of a name, if the schema has it
 pub record Near (s name : List ℕ) (r : Row) : Type 0 where
@@ -184,10 +181,10 @@ is_of namespace id a = same a.type (action_type namespace) && same a.id id
 
 -- past a part of a type name: what is left there against the rest of the name looked for; where the part is absent, the names differ
 abbrev pub goes_on : List ℕ → List ℕ → Found → Bool
-goes_on t rest (Found.At p) = same (drop p t) rest
-goes_on t rest Found.Absent = false
+goes_on t rest (Some p) = same (drop p t) rest
+goes_on t rest None = false
 
 -- the position that was found, 0 for none
 abbrev pub place_of : Found → ℕ
-place_of (Found.At p) = p
-place_of Found.Absent = 0
+place_of (Some p) = p
+place_of None = 0

@@ -3,6 +3,7 @@ use Rattle.std.specs.Prelude.{ℕ, zero, suc, Bool, true, cond, ◌&&◌, ◌||�
 use Rattle.std.proofs.Math.Option.{Option, none, some}
 use Rattle.names.specs.Fields.{Reader, ◌>>=◌, ◌<∘>◌, pure, refuse, holds, u8, u16, string_of, many, counted, heading, finished, choose, levels}
 use Rattle.names.specs.Names.{path_name, plain, same, below}
+use Rattle.names.specs.declared.refusal.Refusal.TheVariants.{UndefinedChoice, TooDeep, NotAscending}
 
 -- a declared type, and the attributes of a record
 mutual
@@ -44,7 +45,7 @@ after (some v) w = below v w
 unfoldable pub ascending : (List ℕ → Bool) → Option (List ℕ) → Reader (List ℕ)
 ascending class before = do
   w ← string_of class
-  holds 8 (after before w) w
+  holds NotAscending (after before w) w
 
 -- n attributes, their types read by `type`
 unfoldable pub attributes_of : Reader Declared → ℕ → Option (List ℕ) → Reader Attributes
@@ -80,7 +81,7 @@ kinds inner =
 unfoldable pub type_at : ℕ → Reader Declared
 type_at zero = do
   k ← u8
-  cond (leb k 10) (refuse 7) (refuse 5)
+  cond (leb k 10) (refuse TooDeep) (refuse UndefinedChoice)
 type_at (suc left) = do
   k ← u8
   choose k (kinds (type_at left))
@@ -107,7 +108,7 @@ unfoldable pub action : Option Key → Reader Action
 action before = do
   type ← string_of path_name
   id ← string_of plain
-  _ ← holds 8 (key_after before (record { type = type; id = id })) id
+  _ ← holds NotAscending (key_after before (record { type = type; id = id })) id
   principals ← counted (ascending path_name)
   resources ← counted (ascending path_name)
   context ← type_at levels

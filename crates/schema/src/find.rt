@@ -12,36 +12,33 @@ use crate::Namespace;
 use crate::parts::{actions, ancestors};
 use crate::past::{count_at, past_action, past_type};
 use crate::rich::kind_at;
-use names::{Found, Row};
+use names::Row;
 
 // The type of an attribute, of those whose count stands at `start`.
-pub fn attribute(s: &[u8], start: usize, name: &[u8]) -> Found
+pub fn attribute(s: &[u8], start: usize, name: &[u8]) -> Option<usize>
     requires { are_fields s.now start ≡ true }
     ensures { Finds s.now (find_attribute (fields_in s.now start) name.now) result }
 {
-    let mut left = count_at(s, start);
     let mut at = start + 1;
-    while 0 < left {
+    for _ in 0..count_at(s, start) {
         let n = names::past_word(s, at);
         if names::same(names::word(s, at), name) {
-            return Found::At(n);
+            return Some(n);
         }
         at = past_type(s, n);
-        left -= 1;
     }
-    Found::Absent
+    None
 }
 
 // Where the attributes of a type stand, if it is a record.
-pub fn record_fields(s: &[u8], at: usize) -> Found
+pub fn record_fields(s: &[u8], at: usize) -> Option<usize>
     requires { is_type s.now at ≡ true }
     ensures { FindsFields s.now (fields_of (type_in s.now at)) result }
 {
-    let kind = kind_at(s, at);
-    if kind == 6 {
-        return Found::At(at + 1);
+    match kind_at(s, at) {
+        6 => Some(at + 1),
+        _ => None,
     }
-    Found::Absent
 }
 
 // Whether a name is among those of a row.
@@ -49,14 +46,12 @@ pub fn has_name(s: &[u8], row: Row, name: &[u8]) -> bool
     requires { is_row (string_of path_name) s.now row.count row.at ≡ true }
     ensures { result ≡ any_of (λ a. same a name.now) (row_in (string_of path_name) s.now row.count row.at) }
 {
-    let mut rest = row.count;
     let mut at = row.at;
-    while 0 < rest {
+    for _ in 0..row.count {
         if names::same(names::word(s, at), name) {
             return true;
         }
         at = names::past_word(s, at);
-        rest -= 1;
     }
     false
 }
@@ -70,28 +65,29 @@ pub fn has_ancestor(s: &[u8], at: usize, name: &[u8]) -> bool
     has_name(s, row, name)
 }
 
-// Past a part of a type name and the `::` after it, from `from` on.
-fn past_part(t: &[u8], from: usize, part: &[u8]) -> Found
+// Past a part of a type name and the `::` after it, from `from` on. `names::same` compares eight
+// bytes at once, which `strip_prefix` does not.
+fn past_part(t: &[u8], from: usize, part: &[u8]) -> Option<usize>
     requires { from ≤ length t.now }
     ensures by_index { (rest : List ℕ) → goes_on t.now rest result ≡ same (drop from t.now) (part.now ++ (58 ∷ 58 ∷ rest)) }
     ensures result_in_bounds { place_of result ≤ length t.now }
 {
     let n = part.len();
     if t.len() - from < n {
-        return Found::Absent;
+        return None;
     }
     let colons = from + n;
     if t.len() - colons < 2 {
-        return Found::Absent;
+        return None;
     }
     let end = colons + 2;
     if names::same(&t[colons..end], b"::") {
         if names::same(&t[from..colons], part) {
-            return Found::At(end);
+            return Some(end);
         }
-        return Found::Absent;
+        return None;
     }
-    Found::Absent
+    None
 }
 
 // What is left of a type name from `from` on is `Action`.
@@ -109,8 +105,7 @@ fn is_type_of(t: &[u8], namespace: &[u8]) -> bool
     if namespace.len() == 0 {
         return ends_in_action(t, 0);
     }
-    let part = past_part(t, 0, namespace);
-    let Found::At(p) = part else {
+    let Some(p) = past_part(t, 0, namespace) else {
         return false;
     };
     ends_in_action(t, p)
@@ -121,17 +116,14 @@ fn is_type_of_parts(t: &[u8], c: &[u8], row: Row) -> bool
     requires { is_row (string_of path_name) c.now row.count row.at ≡ true }
     ensures { result ≡ same t.now (action_type (joined (row_in (string_of path_name) c.now row.count row.at))) }
 {
-    let mut rest = row.count;
     let mut at = row.at;
     let mut from = 0;
-    while 0 < rest {
-        let part = past_part(t, from, names::word(c, at));
-        let Found::At(p) = part else {
+    for _ in 0..row.count {
+        let Some(p) = past_part(t, from, names::word(c, at)) else {
             return false;
         };
         at = names::past_word(c, at);
         from = p;
-        rest -= 1;
     }
     ends_in_action(t, from)
 }
@@ -159,25 +151,23 @@ fn is_action(s: &[u8], at: usize, n: &[u8], namespace: Namespace, id: &[u8]) -> 
 }
 
 // The action of a namespace and an id, by the position of its type name, in the row of the schema's actions.
-pub fn action_among(s: &[u8], row: Row, n: &[u8], namespace: Namespace, id: &[u8]) -> Found
+pub fn action_among(s: &[u8], row: Row, n: &[u8], namespace: Namespace, id: &[u8]) -> Option<usize>
     requires actions_of { ActionsOf s.now row }
     requires namespace_value { is_namespace n.now namespace ≡ true }
     ensures { FindsAction s.now (find_action (schema_in s.now) (namespace_in n.now namespace) id.now) result }
 {
-    let mut rest = row.count;
     let mut at = row.at;
-    while 0 < rest {
+    for _ in 0..row.count {
         if is_action(s, at, n, namespace, id) {
-            return Found::At(at);
+            return Some(at);
         }
         at = past_action(s, at);
-        rest -= 1;
     }
-    Found::Absent
+    None
 }
 
 // The same, in a schema whose row of actions is not at hand.
-pub fn action(s: &[u8], n: &[u8], namespace: Namespace, id: &[u8]) -> Found
+pub fn action(s: &[u8], n: &[u8], namespace: Namespace, id: &[u8]) -> Option<usize>
     requires s_value { is_schema s.now ≡ true }
     requires namespace_value { is_namespace n.now namespace ≡ true }
     ensures { FindsAction s.now (find_action (schema_in s.now) (namespace_in n.now namespace) id.now) result }

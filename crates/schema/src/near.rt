@@ -4,7 +4,7 @@ ghost use Rattle.schema.specs.Find.{find_entity};
 ghost use Rattle.schema.specs.Places.{is_schema, schema_in, FindsEntity, EntitiesOf, Nearby, Serving, Near};
 
 use crate::past::past_entity;
-use names::{Found, Row};
+use names::Row;
 
 // All entity types of the schema.
 pub fn entity_row(s: &[u8]) -> Row
@@ -27,7 +27,8 @@ fn beginning(s: &[u8], from: Row, name: &[u8]) -> Row
     from
 }
 
-// The entity types from the last one on whose name is not behind the one looked for.
+// The entity types from the last one on whose name is not behind the one looked for. How many are
+// left is part of the answer, so the loop counts them down where a range would count beside them.
 pub fn entity_near(s: &[u8], from: Row, name: &[u8]) -> Row
     requires s_value { is_schema s.now ≡ true }
     requires nearby { Nearby s.now from }
@@ -48,17 +49,12 @@ pub fn entity_near(s: &[u8], from: Row, name: &[u8]) -> Row
 }
 
 // The entity type of the name, where a search for it ended.
-pub fn entity_here(s: &[u8], row: Row, name: &[u8]) -> Found
+pub fn entity_here(s: &[u8], row: Row, name: &[u8]) -> Option<usize>
     requires { Near s.now name.now row }
     ensures { FindsEntity s.now (find_entity (schema_in s.now) name.now) result }
 {
-    let count = row.count;
-    if count == 0 {
-        return Found::Absent;
+    if row.count == 0 {
+        return None;
     }
-    let at = row.at;
-    if names::same(names::word(s, at), name) {
-        return Found::At(at);
-    }
-    Found::Absent
+    names::same(names::word(s, row.at), name).then_some(row.at)
 }

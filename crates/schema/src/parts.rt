@@ -3,7 +3,7 @@ ghost use Rattle.std.specs.Prelude.{◌≡◌, true};
 ghost use Rattle.names.specs.Fields.{counted, string_of};
 ghost use Rattle.names.specs.Names.{path_name};
 ghost use Rattle.names.specs.Read.{ending, Listed};
-ghost use Rattle.names.specs.declared.Read.TheVariants.{Next};
+ghost use Rattle.std.specs.Prelude.{Ok};
 ghost use Rattle.schema.specs.Schema.{ascending};
 ghost use Rattle.schema.specs.Places.{are_fields, fields_in, are_names, names_in, is_type, type_in, is_schema, is_entity, entity_in, is_action, action_in, Standing, ActionsOf, past_word};
 
@@ -48,7 +48,7 @@ fn principals_at(s: &[u8], at: usize) -> usize
 
 fn resources_at(s: &[u8], at: usize) -> usize
     requires { is_action s.now at ≡ true }
-    ensures { Next result ≡ ending (counted (ascending path_name) s.now (past_word s.now (past_word s.now at))) }
+    ensures { Ok result ≡ ending (counted (ascending path_name) s.now (past_word s.now (past_word s.now at))) }
 {
     let p = principals_at(s, at);
     past_names(s, p)
@@ -88,7 +88,7 @@ pub fn actions(s: &[u8]) -> Row
 {
     let p = past_entities(s, 7, names::u16_at(s, 5));
     let number = names::read_u16(s, p);
-    let Read::Next(at) = number else {
+    let Ok(at) = number else {
         return Row { count: 0, at: 0 };
     };
     let count = names::u16_at(s, p);

@@ -4,7 +4,7 @@ ghost use Rattle.std.proofs.Math.Option.{none};
 ghost use Rattle.names.specs.Fields.{counted, levels};
 ghost use Rattle.names.specs.Names.{path_name};
 ghost use Rattle.names.specs.Read.{ending, row, is_row};
-ghost use Rattle.names.specs.declared.Read.TheVariants.{Next};
+ghost use Rattle.std.specs.Prelude.{Ok};
 ghost use Rattle.schema.specs.Schema.{ascending, type_at, attributes, entity_type, action};
 ghost use Rattle.schema.specs.Places.{is_type, are_fields, are_names, is_entity, are_entities, entities_at, is_action, attribute_at, KindHere, Below, Inside};
 
@@ -20,17 +20,16 @@ pub fn count_at(s: &[u8], at: usize) -> usize
     names::wide(s[at])
 }
 
-// The type below the sets around it.
+// The type below the sets around it. Each step stands on the type found by the one before,
+// which a `take_while` over the bytes would not know.
 fn below_sets(s: &[u8], start: usize) -> usize
     requires { is_type s.now start ≡ true }
     ensures below { Below s.now start result }
     ensures other { get_or s.now result 0 ≡ 4 → ⊥ }
 {
     let mut at = start;
-    let mut kind = kind_at(s, at);
-    while kind == 4 {
+    while kind_at(s, at) == 4 {
         at += 1;
-        kind = kind_at(s, at);
     }
     at
 }
@@ -43,28 +42,24 @@ fn inside(s: &[u8], start: usize) -> Row
     let at = below_sets(s, start);
     let kind = kind_at(s, at);
     let next = at + 1;
-    if kind == 6 {
-        let count = count_at(s, next);
-        return Row {
-            count: count,
+    match kind {
+        6 => Row {
+            count: count_at(s, next),
             at: next + 1,
-        };
+        },
+        3 | 7 => Row {
+            count: 0,
+            at: names::past_word(s, next),
+        },
+        _ => Row { count: 0, at: next },
     }
-    if kind == 3 {
-        let end = names::past_word(s, next);
-        return Row { count: 0, at: end };
-    }
-    if kind == 7 {
-        let end = names::past_word(s, next);
-        return Row { count: 0, at: end };
-    }
-    Row { count: 0, at: next }
 }
 
 // Behind so many attributes: where one is a record, those in it are passed before the others.
+// The count grows on the way, by what a record holds, so that no range can say it beforehand.
 fn past_attributes(s: &[u8], first: Row) -> usize
     requires { is_row attribute_at s.now first.count first.at ≡ true }
-    ensures { Next result ≡ ending (row attribute_at first.count s.now first.at) }
+    ensures { Ok result ≡ ending (row attribute_at first.count s.now first.at) }
 {
     let mut left = first.count;
     let mut at = first.at;
@@ -79,7 +74,7 @@ fn past_attributes(s: &[u8], first: Row) -> usize
 
 pub fn past_type(s: &[u8], at: usize) -> usize
     requires { is_type s.now at ≡ true }
-    ensures { Next result ≡ ending (type_at levels s.now at) }
+    ensures { Ok result ≡ ending (type_at levels s.now at) }
 {
     let within = inside(s, at);
     past_attributes(s, within)
@@ -88,33 +83,27 @@ pub fn past_type(s: &[u8], at: usize) -> usize
 // Behind the attributes whose count stands at `at`.
 fn past_fields(s: &[u8], at: usize) -> usize
     requires { are_fields s.now at ≡ true }
-    ensures { Next result ≡ ending (attributes (type_at levels) s.now at) }
+    ensures { Ok result ≡ ending (attributes (type_at levels) s.now at) }
 {
     let count = count_at(s, at);
-    let first = Row {
-        count: count,
-        at: at + 1,
-    };
-    past_attributes(s, first)
+    past_attributes(s, Row { count, at: at + 1 })
 }
 
 // Behind the names whose count stands at `start`.
 pub fn past_names(s: &[u8], start: usize) -> usize
     requires { are_names s.now start ≡ true }
-    ensures { Next result ≡ ending (counted (ascending path_name) s.now start) }
+    ensures { Ok result ≡ ending (counted (ascending path_name) s.now start) }
 {
-    let mut left = count_at(s, start);
     let mut at = start + 1;
-    while 0 < left {
+    for _ in 0..count_at(s, start) {
         at = names::past_word(s, at);
-        left -= 1;
     }
     at
 }
 
 pub fn past_entity(s: &[u8], at: usize) -> usize
     requires { is_entity s.now at ≡ true }
-    ensures { Next result ≡ ending (entity_type none s.now at) }
+    ensures { Ok result ≡ ending (entity_type none s.now at) }
 {
     let ancestors = names::past_word(s, at);
     let fields = past_names(s, ancestors);
@@ -124,20 +113,18 @@ pub fn past_entity(s: &[u8], at: usize) -> usize
 // Behind so many entity types.
 pub fn past_entities(s: &[u8], start: usize, count: usize) -> usize
     requires { are_entities s.now count start ≡ true }
-    ensures { Next result ≡ ending (entities_at count s.now start) }
+    ensures { Ok result ≡ ending (entities_at count s.now start) }
 {
-    let mut left = count;
     let mut at = start;
-    while 0 < left {
+    for _ in 0..count {
         at = past_entity(s, at);
-        left -= 1;
     }
     at
 }
 
 pub fn past_action(s: &[u8], at: usize) -> usize
     requires { is_action s.now at ≡ true }
-    ensures { Next result ≡ ending (action none s.now at) }
+    ensures { Ok result ≡ ending (action none s.now at) }
 {
     let id = names::past_word(s, at);
     let principals = names::past_word(s, id);

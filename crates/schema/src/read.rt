@@ -8,30 +8,27 @@ ghost use Rattle.names.specs.Read.{ending, word_at, earlier};
 ghost use Rattle.schema.specs.Schema.{after, ascending, attributes, type_at, entity_type, key_after, action, key_of, schema_record};
 ghost use Rattle.schema.specs.Places.{key_at, earlier_key};
 
-use names::{Before, Class, Read};
+use names::{Class, Read, Refusal};
 
 // The name at `at` stands after the one before.
-fn follows(s: &[u8], before: Before, at: usize) -> bool
+fn follows(s: &[u8], before: Option<usize>, at: usize) -> bool
     ensures { result ≡ after (earlier s.now before) (word_at s.now at) }
 {
     match before {
-        Before::Nothing => true,
-        Before::At(p) => names::is_below(names::word(s, p), names::word(s, at)),
+        None => true,
+        Some(p) => names::is_below(names::word(s, p), names::word(s, at)),
     }
 }
 
 // A name of a class, after the one before it.
-fn read_name(s: &[u8], at: usize, class: Class, before: Before) -> Read
+fn read_name(s: &[u8], at: usize, class: Class, before: Option<usize>) -> Read
     ensures { result ≡ ending (ascending (class_of class) (earlier s.now before) s.now at) }
 {
-    let name = names::read_string(s, at, class);
-    let Read::Next(n) = name else {
-        return name;
-    };
+    let n = names::read_string(s, at, class)?;
     if follows(s, before, at) {
-        return Read::Next(n);
+        return Ok(n);
     }
-    Read::Refused(8)
+    Err(Refusal::NotAscending)
 }
 
 // The type whose first byte stands at `at`, with so many levels left.
@@ -39,29 +36,21 @@ fn read_name(s: &[u8], at: usize, class: Class, before: Before) -> Read
 fn read_type(s: &[u8], at: usize, left: usize) -> Read
     ensures { result ≡ ending (type_at left s.now at) }
 {
-    if s.len() <= at {
-        return Read::Refused(2);
-    }
-    let kind = s[at];
+    let Some(&kind) = s.get(at) else {
+        return Err(Refusal::Cut);
+    };
     if 10 < kind {
-        return Read::Refused(5);
+        return Err(Refusal::UndefinedChoice);
     }
     if left == 0 {
-        return Read::Refused(7);
+        return Err(Refusal::TooDeep);
     }
-    if kind == 4 {
-        return read_type(s, at + 1, left - 1);
+    match kind {
+        4 => read_type(s, at + 1, left - 1),
+        6 => read_attributes(s, at + 1, left - 1),
+        3 | 7 => names::read_string(s, at + 1, Class::PathName),
+        _ => Ok(at + 1),
     }
-    if kind == 6 {
-        return read_attributes(s, at + 1, left - 1);
-    }
-    if kind == 3 {
-        return names::read_string(s, at + 1, Class::PathName);
-    }
-    if kind == 7 {
-        return names::read_string(s, at + 1, Class::PathName);
-    }
-    Read::Next(at + 1)
 }
 
 // A count of attributes and the attributes.
@@ -69,95 +58,71 @@ fn read_type(s: &[u8], at: usize, left: usize) -> Read
 fn read_attributes(s: &[u8], start: usize, left: usize) -> Read
     ensures { result ≡ ending (attributes (type_at left) s.now start) }
 {
-    if s.len() <= start {
-        return Read::Refused(2);
-    }
-    let mut rest = names::wide(s[start]);
+    let Some(&count) = s.get(start) else {
+        return Err(Refusal::Cut);
+    };
     let mut at = start + 1;
-    let mut before = Before::Nothing;
-    while 0 < rest {
-        let name = read_name(s, at, Class::Plain, before);
-        let Read::Next(n) = name else {
-            return name;
-        };
-        let declared = read_type(s, n, left);
-        let Read::Next(m) = declared else {
-            return declared;
-        };
-        before = Before::At(at);
+    let mut before = None;
+    for _ in 0..names::wide(count) {
+        let n = read_name(s, at, Class::Plain, before)?;
+        let m = read_type(s, n, left)?;
+        before = Some(at);
         at = m;
-        rest -= 1;
     }
-    Read::Next(at)
+    Ok(at)
 }
 
 // A count of path names and the names, ascending.
 fn read_names(s: &[u8], start: usize) -> Read
     ensures { result ≡ ending (counted (ascending path_name) s.now start) }
 {
-    if s.len() <= start {
-        return Read::Refused(2);
-    }
-    let mut rest = names::wide(s[start]);
+    let Some(&count) = s.get(start) else {
+        return Err(Refusal::Cut);
+    };
     let mut at = start + 1;
-    let mut before = Before::Nothing;
-    while 0 < rest {
-        let name = read_name(s, at, Class::PathName, before);
-        let Read::Next(n) = name else {
-            return name;
-        };
-        before = Before::At(at);
+    let mut before = None;
+    for _ in 0..names::wide(count) {
+        let n = read_name(s, at, Class::PathName, before)?;
+        before = Some(at);
         at = n;
-        rest -= 1;
     }
-    Read::Next(at)
+    Ok(at)
 }
 
 // An entity type, after the one before it.
-fn read_entity(s: &[u8], at: usize, before: Before) -> Read
+fn read_entity(s: &[u8], at: usize, before: Option<usize>) -> Read
     ensures { result ≡ ending (entity_type (earlier s.now before) s.now at) }
 {
-    let name = read_name(s, at, Class::PathName, before);
-    let Read::Next(n) = name else {
-        return name;
-    };
-    let ancestors = read_names(s, n);
-    let Read::Next(m) = ancestors else {
-        return ancestors;
-    };
+    let n = read_name(s, at, Class::PathName, before)?;
+    let m = read_names(s, n)?;
     read_attributes(s, m, 32)
 }
 
 fn read_entities(s: &[u8], start: usize, count: usize) -> Read
     ensures { result ≡ ending (many (λ e. e.name) entity_type count none s.now start) }
 {
-    let mut rest = count;
     let mut at = start;
-    let mut before = Before::Nothing;
-    while 0 < rest {
-        let entity = read_entity(s, at, before);
-        let Read::Next(n) = entity else {
-            return entity;
-        };
-        before = Before::At(at);
+    let mut before = None;
+    for _ in 0..count {
+        let n = read_entity(s, at, before)?;
+        before = Some(at);
         at = n;
-        rest -= 1;
     }
-    Read::Next(at)
+    Ok(at)
 }
 
 // The action at `at` stands after the one before: by the type name, then the id.
-fn action_follows(s: &[u8], before: Before, at: usize) -> bool
+fn action_follows(s: &[u8], before: Option<usize>, at: usize) -> bool
     ensures { result ≡ key_after (earlier_key s.now before) (key_at s.now at) }
 {
     match before {
-        Before::Nothing => true,
-        Before::At(p) => key_below(s, p, at),
+        None => true,
+        Some(p) => key_below(s, p, at),
     }
 }
 
 fn key_below(s: &[u8], p: usize, at: usize) -> bool
-    ensures { result ≡ key_after (earlier_key s.now (Before.At p)) (key_at s.now at) }
+    ensures { result ≡ key_after (earlier_key s.now (Some p)) (key_at s.now at) }
 {
     let kind = names::word(s, p);
     let next = names::word(s, at);
@@ -171,72 +136,43 @@ fn key_below(s: &[u8], p: usize, at: usize) -> bool
 }
 
 // An action, after the one before it.
-fn read_action(s: &[u8], at: usize, before: Before) -> Read
+fn read_action(s: &[u8], at: usize, before: Option<usize>) -> Read
     ensures { result ≡ ending (action (earlier_key s.now before) s.now at) }
 {
-    let name = names::read_string(s, at, Class::PathName);
-    let Read::Next(n) = name else {
-        return name;
-    };
-    let id = names::read_string(s, n, Class::Plain);
-    let Read::Next(m) = id else {
-        return id;
-    };
+    let n = names::read_string(s, at, Class::PathName)?;
+    let m = names::read_string(s, n, Class::Plain)?;
     if action_follows(s, before, at) {
-        let principals = read_names(s, m);
-        let Read::Next(p) = principals else {
-            return principals;
-        };
-        let resources = read_names(s, p);
-        let Read::Next(q) = resources else {
-            return resources;
-        };
+        let p = read_names(s, m)?;
+        let q = read_names(s, p)?;
         return read_type(s, q, 32);
     }
-    Read::Refused(8)
+    Err(Refusal::NotAscending)
 }
 
+// The same loop as that of `read_entities`, over another reader and another key. One function for
+// both would take the reader from the caller, and its contract what the reader is defined as and the
+// key besides, which is more than the six lines that it would spare.
 fn read_actions(s: &[u8], start: usize, count: usize) -> Read
     ensures { result ≡ ending (many key_of action count none s.now start) }
 {
-    let mut rest = count;
     let mut at = start;
-    let mut before = Before::Nothing;
-    while 0 < rest {
-        let action = read_action(s, at, before);
-        let Read::Next(n) = action else {
-            return action;
-        };
-        before = Before::At(at);
+    let mut before = None;
+    for _ in 0..count {
+        let n = read_action(s, at, before)?;
+        before = Some(at);
         at = n;
-        rest -= 1;
     }
-    Read::Next(at)
+    Ok(at)
 }
 
 // The whole record.
 pub fn read_schema(s: &[u8]) -> Read
     ensures { result ≡ ending (whole schema_record s.now) }
 {
-    let heading = names::read_start(s, b"DWS", 1);
-    let Read::Next(at) = heading else {
-        return heading;
-    };
-    let entity_count = names::read_u16(s, at);
-    let Read::Next(n) = entity_count else {
-        return entity_count;
-    };
-    let entities = read_entities(s, n, names::u16_at(s, at));
-    let Read::Next(m) = entities else {
-        return entities;
-    };
-    let action_count = names::read_u16(s, m);
-    let Read::Next(p) = action_count else {
-        return action_count;
-    };
-    let actions = read_actions(s, p, names::u16_at(s, m));
-    let Read::Next(end) = actions else {
-        return actions;
-    };
+    let at = names::read_start(s, b"DWS", 1)?;
+    let n = names::read_u16(s, at)?;
+    let m = read_entities(s, n, names::u16_at(s, at))?;
+    let p = names::read_u16(s, m)?;
+    let end = read_actions(s, p, names::u16_at(s, m))?;
     names::read_end(s, end)
 }

@@ -7,7 +7,7 @@ ghost use Rattle.types.specs.Meaning.{scalar_of, rich_of, base_of, tag_of};
 ghost use Rattle.schema.specs.Find.{extension_type, rich_type};
 ghost use Rattle.schema.specs.Places.{is_type, type_in, KindHere};
 
-use types::{Base, Rich, Scalar, Source, Tag, TimeType};
+use types::{Base, Rich, Scalar, Source, Tag};
 
 // The first byte of a type.
 pub fn kind_at(s: &[u8], at: usize) -> u8
@@ -39,10 +39,7 @@ fn extension_type(word: &[u8]) -> Scalar
     if names::same(word, b"decimal") {
         return Scalar::Decimal;
     }
-    let TimeType::As(time) = types::time_type(word) else {
-        return Scalar::String;
-    };
-    time
+    types::time_type(word).unwrap_or(Scalar::String)
 }
 
 // The type below the array layers.
@@ -51,48 +48,32 @@ fn base_at(s: &[u8], at: usize) -> Base
     requires fact { get_or s.now at 0 ≡ 4 → ⊥ }
     ensures { (c : List ℕ) → base_of s.now c result ≡ rich_type (type_in s.now at) }
 {
-    let kind = kind_at(s, at);
-    if kind == 0 {
-        return Base::Plain(Scalar::Long);
+    match kind_at(s, at) {
+        0 => Base::Plain(Scalar::Long),
+        1 => Base::Plain(Scalar::String),
+        2 => Base::Plain(Scalar::Bool),
+        3 => {
+            let name = names::word(s, at + 1);
+            Base::Plain(extension_type(names::simple_name(name)))
+        }
+        5 => Base::AnyArray,
+        6 => Base::Plain(Scalar::Object),
+        7 => Base::Tagged(tag_at(s, at + 1)),
+        10 => Base::Plain(Scalar::Never),
+        _ => Base::Untagged,
     }
-    if kind == 1 {
-        return Base::Plain(Scalar::String);
-    }
-    if kind == 2 {
-        return Base::Plain(Scalar::Bool);
-    }
-    if kind == 3 {
-        let scalar = extension_type(names::simple_name(names::word(s, at + 1)));
-        return Base::Plain(scalar);
-    }
-    if kind == 5 {
-        return Base::AnyArray;
-    }
-    if kind == 6 {
-        return Base::Plain(Scalar::Object);
-    }
-    if kind == 7 {
-        let tag = tag_at(s, at + 1);
-        return Base::Tagged(tag);
-    }
-    if kind == 10 {
-        return Base::Plain(Scalar::Never);
-    }
-    Base::Untagged
 }
 
-// The type that the checks compare.
+// The type that the checks compare. The layers are passed as in `past::below_sets`, and counted.
 pub fn rich_type(s: &[u8], at: usize) -> Rich
     requires { is_type s.now at ≡ true }
     ensures { (c : List ℕ) → rich_of s.now c result ≡ rich_type (type_in s.now at) }
 {
     let mut t = at;
     let mut layers = 0;
-    let mut kind = kind_at(s, t);
-    while kind == 4 {
+    while kind_at(s, t) == 4 {
         t += 1;
         layers += 1;
-        kind = kind_at(s, t);
     }
     let base = base_at(s, t);
     Rich { layers, base }

@@ -8,7 +8,6 @@
 mod layout;
 mod refusal;
 
-use program::{Loaded, print};
 use std::env::Env;
 use std::io;
 use std::rt::Files;
@@ -17,46 +16,34 @@ fn main(rt: HostRuntime) -> io::Result<()> {
     called(&rt, &rt.stderr())
 }
 
-// The whole run, with what is printed and what is said of files.
+// The whole run, with what is printed and what is said of files: the files that the arguments name,
+// one after another.
 fn called(rt: &(impl Files + Env + Print), err: &impl Print) -> io::Result<()> {
     let count = program::argument_count(rt);
     if count <= 1 {
-        return print(rt, b"usage: showrecord FILE..\n");
+        return println!(rt; "usage: showrecord FILE..");
     }
-    arguments(rt, err, count)
-}
-
-// The files that the arguments name, one after another.
-fn arguments(rt: &(impl Files + Env + Print), err: &impl Print, count: usize) -> io::Result<()> {
     for i in 1..count {
         argument(rt, err, i)?;
     }
     Ok(())
 }
 
-fn argument(rt: &(impl Files + Env + Print), err: &impl Print, i: usize) -> io::Result<()> {
-    let mut name = [0u8; 4096];
-    let n = program::argument(rt, i, &mut name);
-    file(rt, err, &name[..n])
-}
-
 // One file: its name, then the record that it is, walked or refused.
-fn file(rt: &(impl Files + Print), err: &impl Print, name: &[u8]) -> io::Result<()> {
-    let mut space = program::record_space();
-    let loaded = program::load(rt, err, name, &mut space);
-    let Loaded::Bytes(n) = loaded else {
-        return Ok(());
-    };
-    print(rt, name)?;
-    show(rt, names::part_of(&space, 0, n))
+fn argument(rt: &(impl Files + Env + Print), err: &impl Print, i: usize) -> io::Result<()> {
+    let mut space = [0; 4096];
+    let n = program::argument(rt, i, &mut space);
+    let name = &space[..n];
+    program::with_file::<{ program::RECORD_SPACE }, _>(rt, err, name, |bytes| {
+        rt.write_all(name)?;
+        show(rt, bytes)
+    })
 }
 
 fn show(out: &impl Print, bytes: &[u8]) -> io::Result<()> {
     let kind = offence::kind_of(bytes);
-    let number = offence::number_of(kind, bytes);
-    let table = layout::TABLE;
-    if number != 0 {
-        return refusal::show(out, &table, bytes, kind, number);
+    match offence::number_of(kind, bytes) {
+        0 => layout::show(out, bytes, kind),
+        number => refusal::show(out, bytes, kind, number),
     }
-    layout::show(out, &table, bytes, offence::record_of(kind))
 }

@@ -11,11 +11,10 @@ use borrow.Author.Tests.{lt-ltb, le-ltb, eq-eqb, ne_eqb}
 use lib.Dec.{ltb}
 use lib.ListN.{length, get_or, set, take, length-append, length-set}
 use lib.Seq.{length-take-le, take_all, take-length, get_or-take, set_split, take-set-lt, drop-set-lt}
-use Rattle.names.specs.Fields.{whole}
-use Rattle.names.specs.Read.{ending, read_number, value_or}
-use Rattle.names.specs.declared.Read.{Read}
+use Rattle.names.specs.Fields.{whole, number_of}
+use Rattle.names.specs.Read.{ending, value_or, Read}
 use Rattle.names.specs.Writer.{store, Stored}
-use Rattle.names.specs.Laws.Readers.{accept, passes, refused_by, refuses}
+use Rattle.names.specs.Laws.Readers.{accept, passes, refused_by}
 use Rattle.names.specs.Laws.Rows.{listed_length}
 use Rattle.targets.specs.Targets.{Target, target, target_record}
 use Rattle.targets.specs.Places.{are_targets, targets_in, CountedAt}
@@ -29,6 +28,8 @@ use Rattle.steps.specs.declared.Stepped.{Stepped}
 use Rattle.steps.specs.Steps.{is_pending, marked, unchanged, append_to, append, withdraw}
 use Rattle.steps.specs.Answers.{stepped_of}
 use Rattle.steps.specs.Parts.{Answered}
+use Rattle.std.specs.Prelude.{Ok, Err}
+use Rattle.names.specs.declared.refusal.Refusal.{Refusal}
 
 -- ---- the front of a buffer
 
@@ -51,11 +52,11 @@ pub ruleset putting = (rules, set_kept)
 
 -- A list that was read, and the target.
 module _ (list : List ℕ) (end : ℕ) (new : List ℕ) (inside : end ≤ length list) (x : Read) (is : x ≡ ending (alone_target new 0)) where
-  pub target_refused : (r : ℕ) → x ≡ Read.Refused r → (k : ℕ) → k ≡ read_number x → (a : Answer) → Refuses k 3 a → outcome_of a list ≡ append_to list (take end list) (targets_in (take end list)) new
+  pub target_refused : (r : Refusal) → x ≡ Err r → (a : Answer) → Refuses (number_of r) 3 a → outcome_of a list ≡ append_to list (take end list) (targets_in (take end list)) new
   unfolding append_to
-  target_refused r e k f a i = i.is list ∙ rw (refused_by (alone_target new 0) x r is e, ← refuses e f)
+  target_refused r e a i = i.is list ∙ rw (refused_by (alone_target new 0) x r is e)
 
-  module _ (p : ℕ) (e : x ≡ Read.Next p) (at : ℕ) (c : CountedAt (take end list) (targets_in (take end list)).list at) where
+  module _ (p : ℕ) (e : x ≡ Ok p) (at : ℕ) (c : CountedAt (take end list) (targets_in (take end list)).list at) where
     abbrev ts : List Target
     ts = (targets_in (take end list)).list
 
@@ -117,11 +118,11 @@ pub ruleset appending_to = (rules, length-take-le, target_refused, count_stands,
 
 -- the list is read first
 module _ (buffer : List ℕ) (used : ℕ) (new : List ℕ) (end : ℕ) (same : take end buffer ≡ take used buffer) (x : Read) (is : x ≡ ending (whole target_record (take end buffer))) where
-  pub list_refused : (r : ℕ) → x ≡ Read.Refused r → (k : ℕ) → k ≡ read_number x → (a : Answer) → Refuses k 3 a → outcome_of a buffer ≡ append buffer used new
+  pub list_refused : (r : Refusal) → x ≡ Err r → (a : Answer) → Refuses (number_of r) 3 a → outcome_of a buffer ≡ append buffer used new
   unfolding append
-  list_refused r e k f a i = i.is buffer ∙ rw (← same, refused_by (whole target_record (take end buffer)) x r is e, ← refuses e f)
+  list_refused r e a i = i.is buffer ∙ rw (← same, refused_by (whole target_record (take end buffer)) x r is e)
 
-  module _ (p : ℕ) (e : x ≡ Read.Next p) where
+  module _ (p : ℕ) (e : x ≡ Ok p) where
     pub list_read : are_targets (take end buffer) ≡ true
     list_read = passes (whole target_record (take end buffer)) is e
 
@@ -136,11 +137,11 @@ pub ruleset appending = (rules, length-take-le, list_refused, list_read, list_ap
 -- ---- withdrawing
 
 module _ (n : List ℕ) (st : Steps) (position : ℕ) (x : Read) (is : x ≡ ending (whole target_record n)) where
-  pub unread : (r : ℕ) → x ≡ Read.Refused r → (k : ℕ) → k ≡ read_number x → (a : Stepped) → Answered st k 3 a → stepped_of a [] ≡ withdraw st n position
+  pub unread : (r : Refusal) → x ≡ Err r → (k : ℕ) → k ≡ number_of r → (a : Stepped) → Answered st k 3 a → stepped_of a [] ≡ withdraw st n position
   unfolding withdraw
-  unread r e k f a i = i.is [] ∙ rw (refused_by (whole target_record n) x r is e, ← refuses e f)
+  unread r e k f a i = i.is [] ∙ rw (refused_by (whole target_record n) x r is e, f)
 
-  module _ (p : ℕ) (e : x ≡ Read.Next p) where
+  module _ (p : ℕ) (e : x ≡ Ok p) where
     pub read_list : are_targets n ≡ true
     read_list = passes (whole target_record n) is e
 

@@ -9,13 +9,12 @@ use borrow.Author.Rules.{rules}
 use borrow.Author.Tests.{ne_eqb}
 use lib.ListN.{length, get_or}
 use Rattle.names.specs.Read.{ending, Listed}
-use Rattle.names.specs.declared.Read.TheVariants as Read
 use Rattle.names.specs.Laws.Rows.{Remaining, remaining_over, remaining_stands, remaining_first}
 use Rattle.targets.specs.Targets.{Target, target}
 use Rattle.targets.specs.Places.{is_target}
-use Rattle.steps.specs.declared.Pending.TheVariants as Pending
 use Rattle.steps.specs.Steps.{is_pending, first_pending}
 use Rattle.steps.specs.Parts.{FindsPending}
+use Rattle.std.specs.Prelude.{Ok, Some, None}
 
 -- the invariant: what is left of the list answers as the whole does, and each position of it has a mark
 pub record Searching (n marks : List ℕ) (o : Option (ℕ × Target)) (rest at position : ℕ) : Type 0 where
@@ -27,7 +26,7 @@ module _ (n marks : List ℕ) where
   search_begins list rest at e m l = record { left = record { left = list; there = rw e l; same = refl }; few = omega arith }
 
   module _ (o : Option (ℕ × Target)) (rest at position : ℕ) (l : Searching n marks o rest at position) where
-    pub search_over : rest ≤ 0 → FindsPending n o Pending.Nothing
+    pub search_over : rest ≤ 0 → FindsPending n o None
     unfolding first_pending
     search_over h = record { value = remaining_over target n (first_pending marks position) o rest at h l.left; stands = tt }
 
@@ -38,13 +37,13 @@ module _ (n marks : List ℕ) where
       pub search_stands : is_target n at ≡ true
       search_stands = remaining_stands target n (first_pending marks position) o rest at h l.left
 
-      pub search_found : get_or marks position 0 ≡ 0 → FindsPending n o (Pending.At position at)
+      pub search_found : get_or marks position 0 ≡ 0 → FindsPending n o (Some (position, at))
       unfolding first_pending is_pending
       search_found e =
           let f = remaining_first target n (first_pending marks position) o (record { namespace = []; id = [] }) rest at h l.left in
           record { value = sym (rw e) ∙ f.same; stands = (search_stands, search_index) }
 
-      pub search_on : (get_or marks position 0 ≡ 0 → ⊥) → (m : ℕ) → Read.Next m ≡ ending (target n at) → Searching n marks o (rest - 1) m (position + 1)
+      pub search_on : (get_or marks position 0 ≡ 0 → ⊥) → (m : ℕ) → Ok m ≡ ending (target n at) → Searching n marks o (rest - 1) m (position + 1)
       unfolding first_pending is_pending
       search_on e m d =
           let f = remaining_first target n (first_pending marks position) o (record { namespace = []; id = [] }) rest at h l.left in

@@ -33,9 +33,5 @@ pub struct Stepped {
     pub state: Steps,
 }
 
-// The first pending target: its position, and where it stands in the record.
-#[derive(Clone, Copy)]
-pub enum Pending {
-    Nothing,
-    At(usize, usize),
-}
+// The first pending target, if there is one: its position, and where it stands in the record.
+pub type Pending = Option<(usize, usize)>;

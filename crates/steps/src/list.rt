@@ -8,8 +8,8 @@ ghost use Rattle.steps.specs.Answers.{stepped_of};
 
 use crate::state::{answered, marked};
 use crate::{Stepped, Steps};
-use names::Read;
-use reports::{Answer, refused, written};
+use names::Refusal;
+use reports::{Answer, refuse, written};
 
 // How many bytes the first `used` of some are: all of them where there are fewer.
 fn front(s: &[u8], used: usize) -> usize
@@ -39,19 +39,18 @@ fn append_to(list: &mut [u8], end: usize, new: &[u8]) -> Answer
     requires list_value { are_targets (take end list.old) ≡ true }
     ensures { outcome_of result list.new ≡ append_to list.old (take end list.old) (targets_in (take end list.old)) new.now }
 {
-    let target = targets::read_alone(new);
-    let Read::Next(_) = target else {
-        return refused(names::refusal_number(target), 3);
-    };
+    if let Err(refusal) = targets::read_alone(new) {
+        return refuse(refusal, 3);
+    }
     let at = targets::count_at(&list[..end]);
     if 254 < list[at] {
-        return refused(18, 0);
+        return refuse(Refusal::ListFull, 0);
     }
     if 32768 < end + new.len() {
-        return refused(18, 0);
+        return refuse(Refusal::ListFull, 0);
     }
     if list.len() - end < new.len() {
-        return refused(11, 0);
+        return refuse(Refusal::NoSpace, 0);
     }
     written(put_target(list, at, end, new))
 }
@@ -61,10 +60,9 @@ pub fn append(list: &mut [u8], used: usize, new: &[u8]) -> Answer
     ensures { outcome_of result list.new ≡ append list.old used new.now }
 {
     let end = front(list, used);
-    let record = targets::read_targets(&list[..end]);
-    let Read::Next(_) = record else {
-        return refused(names::refusal_number(record), 3);
-    };
+    if let Err(refusal) = targets::read_targets(&list[..end]) {
+        return refuse(refusal, 3);
+    }
     append_to(list, end, new)
 }
 
@@ -72,17 +70,16 @@ pub fn append(list: &mut [u8], used: usize, new: &[u8]) -> Answer
 pub fn withdraw(targets: &[u8], state: Steps, position: u8) -> Stepped
     ensures { stepped_of result [] ≡ withdraw state targets.now position }
 {
-    let record = targets::read_targets(targets);
-    let Read::Next(_) = record else {
-        return answered(state, names::refusal_number(record), 3);
-    };
+    if let Err(refusal) = targets::read_targets(targets) {
+        return answered(state, u8::from(refusal), 3);
+    }
     let i = names::wide(position);
     if targets::count(targets) <= i {
-        return answered(state, 19, 0);
+        return answered(state, u8::from(Refusal::NotPending), 0);
     }
     let marks = state.marks;
     if 0 < marks[i] {
-        return answered(state, 19, 0);
+        return answered(state, u8::from(Refusal::NotPending), 0);
     }
     answered(marked(state, i, 2), 0, 0)
 }

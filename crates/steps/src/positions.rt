@@ -16,11 +16,11 @@ pub fn first_pending(targets: &[u8], state: Steps) -> Pending
     let mut position = 0;
     while 0 < rest {
         if marks[position] == 0 {
-            return Pending::At(position, at);
+            return Some((position, at));
         }
         at = targets::next_target(targets, at);
         position += 1;
         rest -= 1;
     }
-    Pending::Nothing
+    None
 }

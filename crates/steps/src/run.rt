@@ -12,18 +12,17 @@ ghost use Rattle.steps.specs.Answers.{stepped_of};
 
 use crate::positions::first_pending;
 use crate::state::{answered, begins, done, told};
-use crate::{Pending, Stepped, Steps};
+use crate::{Stepped, Steps};
 use reports::State;
-use typecheck::{Progress, Records};
+use typecheck::Progress;
 
 // The records are read as Check reads them, and no target is done.
 pub fn start(rules: u8, schema: &[u8], condition: &[u8], targets: &[u8]) -> Stepped
     ensures { stepped_of result [] ≡ start rules schema.now condition.now targets.now }
 {
     let state = begins(rules);
-    let records = typecheck::read_records(schema, condition, targets);
-    if let Records::Refused(number, which) = records {
-        return answered(state, number, which);
+    if let Err(found) = typecheck::read_records(schema, condition, targets) {
+        return answered(state, u8::from(found.refusal), found.record);
     }
     answered(state, 0, 0)
 }
@@ -113,7 +112,7 @@ fn step_over<'a>(
         return so_far(state, buf);
     }
     let pending = first_pending(targets, state);
-    let Pending::At(position, at) = pending else {
+    let Some((position, at)) = pending else {
         return so_far(state, buf);
     };
     do_target(schema, condition, targets, state, position, at, buf, table)
@@ -131,9 +130,8 @@ pub fn step<'a>(
     ensures buf_after { stepped_of result buf.new ≡ step state schema.now condition.now targets.now buf.old }
     ensures spared { Spared result.answer table.old table.new }
 {
-    let records = typecheck::read_records(schema, condition, targets);
-    if let Records::Refused(number, which) = records {
-        return answered(state, number, which);
+    if let Err(found) = typecheck::read_records(schema, condition, targets) {
+        return answered(state, u8::from(found.refusal), found.record);
     }
     step_over(schema, condition, targets, state, buf, table)
 }

@@ -2,17 +2,9 @@
 // arguments it reads nothing. The option `--own-bodies` before it gives each binder its own body.
 #![tactic(auto)]
 
-use program::Loaded;
 use std::env::Env;
 use std::io;
 use std::rt::Files;
-
-// What the option says, and how many there are: `rules` is 2 where each binder has its own body, and else 0.
-#[derive(Clone, Copy)]
-struct Options {
-    rules: u8,
-    count: usize,
-}
 
 fn main(rt: HostRuntime) -> io::Result<()> {
     called(&rt, &rt.stderr())
@@ -20,46 +12,31 @@ fn main(rt: HostRuntime) -> io::Result<()> {
 
 // The whole run, with what is printed and what is said of files and usage.
 fn called(rt: &(impl Files + Env + Print), err: &impl Print) -> io::Result<()> {
-    let options = chosen(rt);
-    let count = program::argument_count(rt);
-    if program::fits(count.wrapping_sub(options.count), 1) {
-        return file(rt, err, options);
+    let own = own_bodies(rt);
+    let options = usize::from(own);
+    let count = program::argument_count(rt).saturating_sub(options);
+    if !program::fits(count, 1) {
+        return println!(err; "usage: sumcond [--own-bodies] [CONDITION]");
     }
-    program::print_usage(err, b"usage: sumcond [--own-bodies] [CONDITION]\n")
-}
-
-// The option: the first argument may be it.
-fn chosen(env: &impl Env) -> Options {
-    if is_word(env, 1, b"--own-bodies") {
-        return Options { rules: 2, count: 1 };
-    }
-    Options { rules: 0, count: 0 }
-}
-
-// Whether an argument is this word.
-fn is_word(env: &impl Env, i: usize, word: &[u8]) -> bool {
-    let mut space = [0u8; 16];
-    let n = program::argument(env, i, &mut space);
-    names::same(names::part_of(&space, 0, n), word)
-}
-
-fn file(rt: &(impl Files + Env + Print), err: &impl Print, options: Options) -> io::Result<()> {
-    let mut condition = program::record_space();
-    let read = program::load_argument(
+    program::with_record(
         rt,
         err,
-        options.count.wrapping_add(1),
+        options + 1,
         b"cond.dwc",
-        &mut condition,
-    );
-    let Loaded::Bytes(n) = read else {
-        return Ok(());
-    };
-    run(rt, options.rules, names::part_of(&condition, 0, n))
+        |condition| run(rt, own, condition),
+    )
 }
 
-fn run(out: &impl Print, rules: u8, condition: &[u8]) -> io::Result<()> {
-    let mut space = program::report_space();
+// Whether the first argument is the option.
+fn own_bodies(env: &impl Env) -> bool {
+    let mut space = [0; 16];
+    let n = program::argument(env, 1, &mut space);
+    matches!(&space[..n], b"--own-bodies")
+}
+
+fn run(out: &impl Print, own: bool, condition: &[u8]) -> io::Result<()> {
+    let rules = if own { 2 } else { 0 };
+    let mut space = [0; 65536];
     let answer = dogwood::dogwood_sums_with(rules, condition, &mut space);
     program::print_run(out, answer.number, answer.record, answer.count, &space)
 }

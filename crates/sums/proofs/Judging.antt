@@ -8,6 +8,7 @@ use native.Mathlib.Omega.{arith}
 use borrow.Author.Rules.{rules}
 use lib.ListN.{length}
 use lib.Dec.{lit<}
+use Rattle.std.specs.Prelude.{None, Some}
 use Rattle.names.specs.Names.{same, last_of}
 use Rattle.names.specs.Read.{word_at}
 use Rattle.names.specs.Text.{text}
@@ -37,8 +38,7 @@ use Rattle.reports.specs.Laws.Sinks.{header_room, message_room, count_room, appe
 use Rattle.messages.specs.declared.Word.TheVariants as Word
 use Rattle.messages.specs.declared.Word.TheVariants.{Name, Joined}
 use Rattle.messages.specs.declared.Sentence.{Sentence}
-use Rattle.messages.specs.declared.Said.{Said}
-use Rattle.messages.specs.Words.{text_of, quoted, Stands, say, said_breaches, SaidStands, Tells, span_in}
+use Rattle.messages.specs.Words.{Said, text_of, quoted, Stands, say, said_breaches, SaidStands, Tells, span_in}
 use Rattle.messages.specs.Laws.Lengths.{Bytes, text_within}
 use Rattle.sums.specs.Summands.{SummandIs}
 use Rattle.sums.specs.Sums.{summand_breach, summand_binders, aggregate_breaches}
@@ -60,7 +60,7 @@ module _ (s : List ℕ) (at p : ℕ) (there : word_at s p ≡ last_of (segments_
   last : last_of (segments_in s at) ≡ w
   last = sym (is ∙ there)
 
-  pub path_long : b ≡ true → Tells s s (summand_breach (word_at s name) (some (path (segments_in s at)))) Said.Nothing
+  pub path_long : b ≡ true → Tells s s (summand_breach (word_at s name) (some (path (segments_in s at)))) None
   unfolding summand_breach text
   path_long e = record { is = λ span. rw (last, ← long, e); stands = tt }
 
@@ -88,7 +88,7 @@ module _ (s : List ℕ) (x : Bound) where
     unfolding summand_breach quoted
     bound_timepoint e r j = rw (e, j) (record { is = λ span. refl; stands = record { first = tt; second = tt; third = tt; fourth = tt; below = lit< tt } })
 
-    pub bound_nothing : x ≡ Nothing → Tells s s (summand_breach (word_at s name) (bound_in s x)) Said.Nothing
+    pub bound_nothing : x ≡ Nothing → Tells s s (summand_breach (word_at s name) (bound_in s x)) None
     unfolding summand_breach
     bound_nothing e = rw e (record { is = λ span. refl; stands = tt })
 
@@ -96,10 +96,10 @@ pub ruleset bounds = (rules, segments_there, bound_path, bound_timepoint, bound_
 
 -- What is said, put in: nothing; a message, measured, behind its header; or no room for it.
 module _ (s : List ℕ) (x : Said) (old : List ℕ) (st : State) (span : Ends) where
-  pub said_nothing : x ≡ Said.Nothing → Sound (sink old st) → Appended old st (said_breaches s s x (span_in span)) old st
+  pub said_nothing : x ≡ None → Sound (sink old st) → Appended old st (said_breaches s s x (span_in span)) old st
   said_nothing e p = rw e (recorded_none old st p)
 
-  module _ (m : Sentence) (e : x ≡ Said.Message m) (stands : SaidStands s s x) where
+  module _ (m : Sentence) (e : x ≡ Some m) (stands : SaidStands s s x) where
     pub message_stands : Stands s s m
     message_stands = rw e at stands
 

@@ -5,10 +5,8 @@ use mathlib.Core.List.{List}
 use Prim.Native.Nat.{ℕ}
 use native.Mathlib.Omega.{arith}
 use borrow.Author.Rules.{rules}
-use Rattle.names.specs.declared.Read.{Read}
-use Rattle.names.specs.declared.Read.TheVariants.{Next, Refused}
-use Rattle.names.specs.Fields.{Got, got, bad, either, whole}
-use Rattle.names.specs.Read.{ending, value_or}
+use Rattle.names.specs.Fields.{Got, got, bad, either, whole, number_of}
+use Rattle.names.specs.Read.{ending, value_or, Read}
 use Rattle.names.specs.Laws.Readers.{passes}
 use Rattle.condition.specs.Condition.{Condition, opaque, condition_record}
 use lib.Seq.{length-take-le}
@@ -22,20 +20,22 @@ use Rattle.walk.specs.Scopes.{Binding, binding_of}
 use Rattle.walk.specs.Enclosing.{binding_in}
 use Rattle.walk.specs.declared.Binding as walk
 use Rattle.sums.specs.Sums.{breaches, sums_with, sums}
+use Rattle.std.specs.Prelude.{Ok, Err}
+use Rattle.names.specs.declared.refusal.Refusal.{Refusal}
 
 pub ruleset run_over = (rules, length-take-le, record_small, sound_start, appended)
 
 -- by what the reader answered
 module _ (d : Binding) (g : Got Condition) (x : Read) (is : x ≡ ending g) (old : List ℕ) where
-  stopped : (n : ℕ) → x ≡ Refused n → refusal n 2 old ≡ either (λ r. refusal r 2 old) (λ c. reported (breaches d c) old) g
+  stopped : (n : Refusal) → x ≡ Err n → refusal (number_of n) 2 old ≡ either (λ r. refusal r 2 old) (λ c. reported (breaches d c) old) g
   unfolding ending
   stopped n e = go g is
     where
-      go : (g : Got Condition) → x ≡ ending g → refusal n 2 old ≡ either (λ r. refusal r 2 old) (λ c. reported (breaches d c) old) g
+      go : (g : Got Condition) → x ≡ ending g → refusal (number_of n) 2 old ≡ either (λ r. refusal r 2 old) (λ c. reported (breaches d c) old) g
       go (got a m) i = let z : ◌≡◌ {A = ℕ} 0 1 = cc in absurd (omega arith)
-      go (bad r) i = let q : n ≡ r = cc in ap (λ (k : ℕ). refusal k 2 old) q
+      go (bad r) i = let q : n ≡ r = cc in ap (λ (k : Refusal). refusal (number_of k) 2 old) q
 
-  went : (n : ℕ) → x ≡ Next n → reported (breaches d (value_or (opaque nowhere) g)) old ≡ either (λ r. refusal r 2 old) (λ c. reported (breaches d c) old) g
+  went : (n : ℕ) → x ≡ Ok n → reported (breaches d (value_or (opaque nowhere) g)) old ≡ either (λ r. refusal r 2 old) (λ c. reported (breaches d c) old) g
   unfolding ending value_or
   went n e = go g is
     where
@@ -44,11 +44,11 @@ module _ (d : Binding) (g : Got Condition) (x : Read) (is : x ≡ ending g) (old
       go (bad r) i = let z : ◌≡◌ {A = ℕ} 0 1 = cc in absurd (omega arith)
 
 module _ (rules : ℕ) (s : List ℕ) (x : Read) (is : x ≡ ending (whole condition_record s)) (old : List ℕ) (r : Answer) where
-  pub sums_refused : (n : ℕ) → x ≡ Refused n → Refuses n 2 r → outcome_of r old ≡ sums_with rules s old
+  pub sums_refused : (n : Refusal) → x ≡ Err n → Refuses (number_of n) 2 r → outcome_of r old ≡ sums_with rules s old
   unfolding sums_with
   sums_refused n e h = h.is old ∙ stopped (binding_of rules) (whole condition_record s) x is old n e
 
-  module _ (n : ℕ) (e : x ≡ Next n) where
+  module _ (n : ℕ) (e : x ≡ Ok n) where
     pub sums_reads : is_record s ≡ true
     sums_reads = passes (whole condition_record s) is e
 

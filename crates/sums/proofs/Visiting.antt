@@ -14,7 +14,6 @@ use Rattle.names.specs.Names.{plain}
 use Rattle.names.specs.Paths.{path_of}
 use Rattle.names.specs.Laws.Readers.{split, got_value, Each, keys_up_to}
 use Rattle.nodes.specs.declared.Several.{Several}
-use Rattle.nodes.specs.declared.NextLeaf.{NextLeaf}
 use Rattle.nodes.specs.declared.ComparisonAt.{ComparisonAt}
 use Rattle.nodes.specs.declared.PredicateAt.{PredicateAt}
 use Rattle.nodes.specs.declared.ArgumentAt.{ArgumentAt}
@@ -25,7 +24,7 @@ use Rattle.nodes.specs.Kinds.{kind_of, term_kind_of, aggregate_kind_of}
 use Rattle.condition.specs.Places.{version_in, record_in, condition_in, is_term, term_in, aggregate_in, is_arguments, arguments_in}
 use Rattle.nodes.specs.Laws.Inside.{aggregate_first, aggregate_inside}
 use Rattle.nodes.specs.Looked.{KindHere, TermKindHere, AggregateKindHere, AggregateHere}
-use Rattle.nodes.specs.Parts.{ComparisonHere, PredicateHere, ArgumentHere, is_terms, leaves_in, NextLeafIs}
+use Rattle.nodes.specs.Parts.{ComparisonHere, PredicateHere, ArgumentHere, is_terms, leaves_in, NextLeafIs, NextPart}
 use Rattle.nodes.specs.Laws.Leaves.{leaves_gather, one_term, one_leaves, leaf_next, leaf_stands, leaf_plain, fewer_leaves}
 use Rattle.walk.specs.Index.{Index, Reached}
 use Rattle.walk.specs.Scopes.{Scoped, Binding, nodes_by}
@@ -43,6 +42,8 @@ use Rattle.reports.specs.Kept.{fold}
 use Rattle.reports.specs.Sink.{Sink, sink, Sound, append, append_all, Appended}
 use Rattle.reports.specs.Laws.Sinks.{recorded_none, recorded_more, recorded_then, Reporting, reporting_begins, reporting_next, reporting_over}
 use Rattle.sums.specs.Sums.{aggregate_breaches, term_breaches, terms_breaches, arguments_breaches, condition_breaches, breaches}
+use Rattle.names.specs.declared.refusal.Refusal.TheVariants.{UndefinedChoice, TooDeep}
+use Rattle.std.specs.Prelude.{Some, None}
 
 -- ---- an array holds no aggregate, however deep
 
@@ -94,7 +95,7 @@ module _ (d : Binding) (bs : List Binder) where
       let a = split (u8 s at) _ e in
       go (leb 1 a.value && leb a.value last) a.place a.rest
     where
-      go : (b : Bool) (p : ℕ) → cond b (refuse 7) (refuse 5) s p ≡ got x n → P
+      go : (b : Bool) (p : ℕ) → cond b (refuse TooDeep) (refuse UndefinedChoice) s p ≡ got x n → P
       go true p i = no_value i
       go false p i = no_value i
 
@@ -180,14 +181,14 @@ module _ (d : Binding) (bs : List Binder) (s : List ℕ) where
       ap (gather (term_breaches d bs)) (one_leaves s at acc) ∙ leaves_gather (term_breaches d bs) (λ op l r. refl) (term_in s at) in
       record { stands = one_term s at acc; so = record { still = k; same = ap (append_all a) e } }
 
-  module _ (left : Several) (x : NextLeaf) (y : NextLeafIs s (leaves_in s left.count left.first) x) where
-    pub leaves_done : {old now : List ℕ} {st₀ st : State} {found : List Breach} → LeavesOn d bs s (append_all (sink old st₀) found) (sink now st) left → x ≡ NextLeaf.Done → Appended old st₀ found now st
+  module _ (left : Several) (x : NextPart) (y : NextLeafIs s (leaves_in s left.count left.first) x) where
+    pub leaves_done : {old now : List ℕ} {st₀ st : State} {found : List Breach} → LeavesOn d bs s (append_all (sink old st₀) found) (sink now st) left → x ≡ None → Appended old st₀ found now st
     leaves_done l e =
         let i : leaves_in s left.count left.first ≡ [] = rw e at y in
         let r = l.so in
         reporting_over append (term_breaches d bs) (rw i at r)
 
-    module _ (p : ℕ) (rest : Several) (e : x ≡ NextLeaf.At p rest) where
+    module _ (p : ℕ) (rest : Several) (e : x ≡ Some (p, rest)) where
       pub leaves_turn : {whole : Sink} {now next : List ℕ} {st r : State} → LeavesOn d bs s whole (sink now st) left → Appended now st (term_breaches d bs (term_in s p)) next r → LeavesOn d bs s whole (sink next r) rest
       leaves_turn l q = let i = l.so in record { stands = (leaf_next s left x y p rest e).others; so = reporting_next append (term_breaches d bs) (rw (leaf_next s left x y p rest e).value at i) q }
 

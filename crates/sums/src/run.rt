@@ -10,7 +10,6 @@ ghost use Rattle.sums.specs.Sums.{breaches, sums_with, sums};
 
 use crate::Place;
 use crate::terms::in_condition;
-use names::Read;
 use reports::{Answer, State};
 use walk::Binding;
 
@@ -83,8 +82,8 @@ pub fn sums_with(rules: u8, condition: &[u8], reports: &mut [u8]) -> Answer
 {
     let read = condition::read_condition(condition);
     match read {
-        Read::Next(n) => in_record(condition, walk::binding_of(rules), reports),
-        Read::Refused(number) => reports::refused(number, 2),
+        Ok(_) => in_record(condition, walk::binding_of(rules), reports),
+        Err(refusal) => reports::refuse(refusal, 2),
     }
 }
 

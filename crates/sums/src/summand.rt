@@ -16,7 +16,7 @@ ghost use Rattle.sums.specs.Summands.{SummandIs, binders_at, Looked};
 ghost use Rattle.sums.specs.Sums.{summand_breach, summand_binders, aggregate_breaches};
 
 use crate::Place;
-use messages::{Said, Word, say};
+use messages::{Sentence, Word, say};
 use nodes::{Bound, Ends, SlotAt};
 use reports::{Message, State};
 use walk::Binding;
@@ -31,7 +31,7 @@ fn is_decimal(word: &[u8]) -> bool
 }
 
 // A summand that is declared by a path: its last segment says the type. Its name stands at `name`.
-fn by_path(s: &[u8], segments: usize, name: usize) -> Said
+fn by_path(s: &[u8], segments: usize, name: usize) -> Option<Sentence>
     requires segments_here { SegmentsHere s.now segments }
     requires s_len_bound { length s.now ≤ 32768 }
     ensures { Tells s.now s.now (summand_breach (word_at s.now name) (some (path (segments_in s.now segments)))) result }
@@ -40,7 +40,7 @@ fn by_path(s: &[u8], segments: usize, name: usize) -> Said
     let none = Word::Nothing;
     let last = names::word(s, nodes::last_segment(s, segments));
     if names::same(last, b"Long") {
-        return Said::Nothing;
+        return None;
     }
     if is_decimal(last) {
         return say(Message::CannotSumDecimal, word, word, none, none);
@@ -49,7 +49,7 @@ fn by_path(s: &[u8], segments: usize, name: usize) -> Said
 }
 
 // A summand, by what its name is bound to; a name that nothing binds is passed.
-fn by_bound(s: &[u8], bound: Bound, name: usize) -> Said
+fn by_bound(s: &[u8], bound: Bound, name: usize) -> Option<Sentence>
     requires bound_stands { BoundStands s.now bound }
     requires s_len_bound { length s.now ≤ 32768 }
     ensures { Tells s.now s.now (summand_breach (word_at s.now name) (bound_in s.now bound)) result }
@@ -59,17 +59,17 @@ fn by_bound(s: &[u8], bound: Bound, name: usize) -> Said
     match bound {
         Bound::Segments(p) => by_path(s, p, name),
         Bound::Timepoint => say(Message::CannotSumTimepoint, word, word, none, none),
-        Bound::Nothing => Said::Nothing,
+        Bound::Nothing => None,
     }
 }
 
 // What is said, at a span: it is measured first, then written straight to the buffer.
-fn append(buf: &mut [u8], state: State, s: &[u8], span: Ends, said: Said) -> State
+fn append(buf: &mut [u8], state: State, s: &[u8], span: Ends, said: Option<Sentence>) -> State
     requires sound { Sound (sink buf.old state) }
     requires said_stands { SaidStands s.now s.now said }
     ensures { Appended buf.old state (said_breaches s.now s.now said (span_in span)) buf.new result }
 {
-    let Said::Message(message) = said else {
+    let Some(message) = said else {
         return state;
     };
     let long = messages::message_size(s, s, message);

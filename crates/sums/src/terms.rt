@@ -9,7 +9,7 @@ ghost use Rattle.sums.specs.Sums.{term_breaches, arguments_breaches, condition_b
 
 use crate::Place;
 use crate::summand::in_sum;
-use nodes::{NextLeaf, Several};
+use nodes::Several;
 use reports::State;
 
 // A leaf is a Sum, or has none. (An array holds none, and the bodies of aggregates are conditions of their own.)
@@ -44,14 +44,11 @@ fn in_term(s: &[u8], env: &[u16], place: Place, at: usize, buf: &mut [u8], state
         count: 1,
         first: at,
     };
-    loop {
-        let next = nodes::next_leaf(s, left.count, left.first);
-        let NextLeaf::At(leaf, others) = next else {
-            return now;
-        };
+    while let Some((leaf, others)) = nodes::next_leaf(s, left.count, left.first) {
         now = in_leaf(s, env, place, leaf, buf, now);
         left = others;
     }
+    now
 }
 
 // So many arguments of a predicate, one after the other.

@@ -9,10 +9,8 @@ use borrow.Author.Tests.{eq-eqb, ne_eqb}
 use lib.ListN.{length, drop, drop_of_length-le}
 use lib.Seq.{length-take-le}
 use Rattle.names.specs.Lists.{gather}
-use Rattle.names.specs.declared.Read.{Read}
-use Rattle.names.specs.declared.Read.TheVariants.{Next, Refused}
-use Rattle.names.specs.Fields.{Got, got, bad, either, whole}
-use Rattle.names.specs.Read.{ending, accepted, value_or}
+use Rattle.names.specs.Fields.{Got, got, bad, either, whole, number_of}
+use Rattle.names.specs.Read.{ending, accepted, value_or, Read}
 use Rattle.names.specs.Laws.Readers.{passes, refused_by}
 use Rattle.condition.specs.Condition.{Condition, opaque, condition_record}
 use Rattle.condition.specs.Places.{nowhere, is_record, record_in, condition_in}
@@ -34,6 +32,8 @@ use Rattle.sweeps.specs.Entries.{Entry, listed}
 use Rattle.sweeps.specs.Entering.{enter, Fit, Entered}
 use Rattle.sweeps.specs.Windows.{concrete_of, concrete_in, concrete_windows, in_sweeps, entries, swept, windows}
 use Rattle.sweeps.specs.Laws.Entries.{fit_start, all_listed}
+use Rattle.std.specs.Prelude.{Ok, Err}
+use Rattle.names.specs.declared.refusal.Refusal.{Refusal}
 
 -- ---- the window of one condition
 
@@ -116,11 +116,11 @@ read_value d f k (got a n) e = refl
 read_value d f k (bad r) e = absurd (false≢true e)
 
 module _ (s : List ℕ) (period : ℕ) (x : Read) (is : x ≡ ending (whole condition_record s)) (old : List ℕ) (r : Answer) where
-  pub windows_refused : (n : ℕ) → x ≡ Refused n → Refuses n 2 r → outcome_of r old ≡ windows s period old
+  pub windows_refused : (n : Refusal) → x ≡ Err n → Refuses (number_of n) 2 r → outcome_of r old ≡ windows s period old
   unfolding windows
   windows_refused n e h = rw (refused_by (whole condition_record s) x n is e) (h.is old)
 
-  module _ (n : ℕ) (e : x ≡ Next n) where
+  module _ (n : ℕ) (e : x ≡ Ok n) where
     pub windows_reads : is_record s ≡ true
     windows_reads = passes (whole condition_record s) is e
 

@@ -9,7 +9,7 @@ ghost use Rattle.sweeps.specs.Entering.{Fit, Entered};
 ghost use Rattle.sweeps.specs.Windows.{concrete_in, in_sweeps, entries, swept, windows};
 
 use crate::entries::enter;
-use names::Read;
+use names::Refusal;
 use nodes::WindowAt;
 use reports::{Answer, State};
 
@@ -90,7 +90,7 @@ fn swept(s: &[u8], period: u64, out: &mut [u8]) -> Answer
     ensures { outcome_of result out.new ≡ swept period out.old (record_in s.now) }
 {
     if period == 0 {
-        return reports::refused(14, 0);
+        return reports::refuse(Refusal::NoPeriod, 0);
     }
     in_record(s, period, out)
 }
@@ -101,7 +101,7 @@ pub fn windows(condition: &[u8], period: u64, output: &mut [u8]) -> Answer
 {
     let read = condition::read_condition(condition);
     match read {
-        Read::Next(n) => swept(condition, period, output),
-        Read::Refused(number) => reports::refused(number, 2),
+        Ok(_) => swept(condition, period, output),
+        Err(refusal) => reports::refuse(refusal, 2),
     }
 }

@@ -1,14 +1,13 @@
 // The targets of an accepted target record: how many, one after another, and one by its position.
 ghost use Rattle.std.specs.Prelude.{◌≡◌, true, length, ◌<◌};
 ghost use Rattle.names.specs.Read.{ending, Listed};
-ghost use Rattle.names.specs.declared.Read.TheVariants.{Next};
+ghost use Rattle.std.specs.Prelude.{Ok};
 ghost use Rattle.targets.specs.Targets.{target};
 ghost use Rattle.targets.specs.PathRecord.{target_at};
 ghost use Rattle.targets.specs.Appending.{count_at};
 ghost use Rattle.targets.specs.Places.{are_targets, targets_in, is_target, target_in, CountedAt, FindsTarget};
 
 use crate::scope::past_narrowing;
-use names::Found;
 
 // Where the count of targets stands.
 pub fn count_at(s: &[u8]) -> usize
@@ -42,27 +41,25 @@ pub fn first_target(s: &[u8]) -> usize
 // Where the target after the one at `at` stands.
 pub fn next_target(s: &[u8], at: usize) -> usize
     requires { is_target s.now at ≡ true }
-    ensures { Next result ≡ ending (target s.now at) }
+    ensures { Ok result ≡ ending (target s.now at) }
 {
     let id = names::past_word(s, at);
     names::past_word(s, id)
 }
 
 // The target of a position, counted from 0.
-pub fn target_at(s: &[u8], position: usize) -> Found
+pub fn target_at(s: &[u8], position: usize) -> Option<usize>
     requires { are_targets s.now ≡ true }
     ensures { FindsTarget s.now (target_at position (targets_in s.now).list) result }
 {
     if count(s) <= position {
-        return Found::Absent;
+        return None;
     }
     let mut at = first_target(s);
-    let mut rest = position;
-    while 0 < rest {
+    for _ in 0..position {
         at = next_target(s, at);
-        rest -= 1;
     }
-    Found::At(at)
+    Some(at)
 }
 
 pub fn namespace_of(s: &[u8], at: usize) -> &[u8]

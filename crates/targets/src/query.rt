@@ -12,13 +12,10 @@ pub fn path_side(s: &[u8]) -> Side
     requires { is_query s.now ≡ true }
     ensures { Asks (query_in s.now).side result }
 {
-    if s.len() <= 5 {
-        return Side::Principal;
+    match s.get(5) {
+        None | Some(0) => Side::Principal,
+        Some(_) => Side::Resource,
     }
-    if s[5] == 0 {
-        return Side::Principal;
-    }
-    Side::Resource
 }
 
 // How many segments its path has.
@@ -26,10 +23,10 @@ pub fn path_len(s: &[u8]) -> usize
     requires { is_query s.now ≡ true }
     ensures { result ≡ length (query_in s.now).path }
 {
-    if s.len() <= 6 {
-        return 0;
+    match s.get(6) {
+        None => 0,
+        Some(&n) => names::wide(n),
     }
-    names::wide(s[6])
 }
 
 // Where they stand.
@@ -45,9 +42,8 @@ pub fn path_position(s: &[u8]) -> usize
     requires { is_query s.now ≡ true }
     ensures { result ≡ (query_in s.now).position }
 {
-    let n = s.len();
-    if n == 0 {
-        return 0;
+    match s.last() {
+        None => 0,
+        Some(&position) => names::wide(position),
     }
-    names::wide(s[n - 1])
 }

@@ -6,31 +6,25 @@ ghost use Rattle.targets.specs.Targets.{narrowing, target, target_record};
 ghost use Rattle.targets.specs.PathRecord.{scope_side, path_record};
 ghost use Rattle.targets.specs.Appending.{alone_target};
 
-use names::{Class, Read};
+use names::{Class, Read, Refusal};
 
 fn read_narrowing(s: &[u8], at: usize) -> Read
     ensures { result ≡ ending (narrowing s.now at) }
 {
-    if s.len() <= at {
-        return Read::Refused(2);
+    let Some(&kind) = s.get(at) else {
+        return Err(Refusal::Cut);
+    };
+    match kind {
+        0 | 1 => Ok(at + 1),
+        2..=4 => names::read_string(s, at + 1, Class::PathName),
+        _ => Err(Refusal::UndefinedChoice),
     }
-    let kind = s[at];
-    if 4 < kind {
-        return Read::Refused(5);
-    }
-    if kind < 2 {
-        return Read::Next(at + 1);
-    }
-    names::read_string(s, at + 1, Class::PathName)
 }
 
 fn read_target(s: &[u8], at: usize) -> Read
     ensures { result ≡ ending (target s.now at) }
 {
-    let namespace = names::read_string(s, at, Class::PathOrNone);
-    let Read::Next(n) = namespace else {
-        return namespace;
-    };
+    let n = names::read_string(s, at, Class::PathOrNone)?;
     names::read_string(s, n, Class::Plain)
 }
 
@@ -38,10 +32,7 @@ fn read_target(s: &[u8], at: usize) -> Read
 pub fn read_alone(s: &[u8]) -> Read
     ensures { result ≡ ending (alone_target s.now 0) }
 {
-    let target = read_target(s, 0);
-    let Read::Next(end) = target else {
-        return target;
-    };
+    let end = read_target(s, 0)?;
     names::read_end(s, end)
 }
 
@@ -49,76 +40,46 @@ pub fn read_alone(s: &[u8]) -> Read
 fn read_list(s: &[u8], start: usize) -> Read
     ensures { result ≡ ending (counted (each target) s.now start) }
 {
-    if s.len() <= start {
-        return Read::Refused(2);
-    }
-    let mut rest = names::wide(s[start]);
+    let Some(&count) = s.get(start) else {
+        return Err(Refusal::Cut);
+    };
     let mut at = start + 1;
-    while 0 < rest {
-        let own = read_target(s, at);
-        let Read::Next(n) = own else {
-            return own;
-        };
-        at = n;
-        rest -= 1;
+    for _ in 0..names::wide(count) {
+        at = read_target(s, at)?;
     }
-    Read::Next(at)
+    Ok(at)
 }
 
 // The whole target record.
 pub fn read_targets(s: &[u8]) -> Read
     ensures { result ≡ ending (whole target_record s.now) }
 {
-    let heading = names::read_start(s, b"DWT", 1);
-    let Read::Next(p) = heading else {
-        return heading;
-    };
-    let principal = read_narrowing(s, p);
-    let Read::Next(q) = principal else {
-        return principal;
-    };
-    let resource = read_narrowing(s, q);
-    let Read::Next(n) = resource else {
-        return resource;
-    };
-    let list = read_list(s, n);
-    let Read::Next(end) = list else {
-        return list;
-    };
+    let p = names::read_start(s, b"DWT", 1)?;
+    let q = read_narrowing(s, p)?;
+    let n = read_narrowing(s, q)?;
+    let end = read_list(s, n)?;
     names::read_end(s, end)
 }
 
 fn read_side(s: &[u8], at: usize) -> Read
     ensures { result ≡ ending (scope_side s.now at) }
 {
-    if s.len() <= at {
-        return Read::Refused(2);
+    let Some(&side) = s.get(at) else {
+        return Err(Refusal::Cut);
+    };
+    match side {
+        0 | 1 => Ok(at + 1),
+        _ => Err(Refusal::UndefinedChoice),
     }
-    if 1 < s[at] {
-        return Read::Refused(5);
-    }
-    Read::Next(at + 1)
 }
 
 // The whole path record.
 pub fn read_path(s: &[u8]) -> Read
     ensures { result ≡ ending (whole path_record s.now) }
 {
-    let heading = names::read_start(s, b"DWP", 1);
-    let Read::Next(p) = heading else {
-        return heading;
-    };
-    let side = read_side(s, p);
-    let Read::Next(n) = side else {
-        return side;
-    };
-    let path = names::read_path(s, n);
-    let Read::Next(m) = path else {
-        return path;
-    };
-    let position = names::read_u8(s, m);
-    let Read::Next(end) = position else {
-        return position;
-    };
+    let p = names::read_start(s, b"DWP", 1)?;
+    let n = read_side(s, p)?;
+    let m = names::read_path(s, n)?;
+    let end = names::read_u8(s, m)?;
     names::read_end(s, end)
 }

@@ -1,7 +1,7 @@
 // The narrowings of an accepted target record.
 ghost use Rattle.std.specs.Prelude.{◌≡◌, true};
 ghost use Rattle.names.specs.Read.{ending};
-ghost use Rattle.names.specs.declared.Read.TheVariants.{Next};
+ghost use Rattle.std.specs.Prelude.{Ok};
 ghost use Rattle.targets.specs.Targets.{narrowing};
 ghost use Rattle.targets.specs.Places.{are_targets, targets_in, is_narrowing, narrowing_in, Narrows, NarrowedAt};
 
@@ -12,37 +12,30 @@ pub fn narrowing_at(s: &[u8], at: usize) -> Narrowed
     requires { is_narrowing s.now at ≡ true }
     ensures { Narrows s.now (narrowing_in s.now at) result }
 {
-    if s.len() <= at {
+    let Some(&kind) = s.get(at) else {
         return Narrowed::Absent;
+    };
+    match kind {
+        0 => Narrowed::Absent,
+        1 => Narrowed::Any,
+        2 => Narrowed::IsType(at + 1),
+        3 => Narrowed::Uid(at + 1),
+        _ => Narrowed::Member(at + 1),
     }
-    let kind = s[at];
-    if kind == 0 {
-        return Narrowed::Absent;
-    }
-    if kind == 1 {
-        return Narrowed::Any;
-    }
-    if kind == 2 {
-        return Narrowed::IsType(at + 1);
-    }
-    if kind == 3 {
-        return Narrowed::Uid(at + 1);
-    }
-    Narrowed::Member(at + 1)
 }
 
 // Where the byte after the narrowing at `at` stands.
 pub fn past_narrowing(s: &[u8], at: usize) -> usize
     requires { is_narrowing s.now at ≡ true }
-    ensures { Next result ≡ ending (narrowing s.now at) }
+    ensures { Ok result ≡ ending (narrowing s.now at) }
 {
-    if s.len() <= at {
+    let Some(&kind) = s.get(at) else {
         return at;
+    };
+    match kind {
+        0 | 1 => at + 1,
+        _ => names::past_word(s, at + 1),
     }
-    if s[at] < 2 {
-        return at + 1;
-    }
-    names::past_word(s, at + 1)
 }
 
 // Where the principal's narrowing stands.

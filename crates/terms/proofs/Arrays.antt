@@ -8,7 +8,6 @@ use native.Mathlib.Numerals.{add-one, sub-one}
 use native.Mathlib.Omega.{arith}
 use borrow.Author.Rules.{rules}
 use lib.ListN.{length, get_or}
-use Rattle.names.specs.declared.Read.TheVariants.{Next}
 use Rattle.names.specs.Fields.{got, Reader, next, u8, choose}
 use Rattle.names.specs.Read.{ending, accepted}
 use Rattle.names.specs.Laws.Readers.{split, u8_view, accept, is_accepted, has_value, got_value, got_place}
@@ -25,35 +24,35 @@ use Rattle.nodes.specs.Offsets.{term_part}
 use Rattle.nodes.specs.Laws.Inside.{term_place}
 use Rattle.nodes.specs.Laws.Opens.{raw_term, ends_at}
 use Rattle.resolution.specs.Places.{typed_of}
-use Rattle.resolution.specs.declared.Typed.{Typed}
-use Rattle.resolution.specs.declared.Typed.TheVariants.{As, Nothing}
 use Rattle.terms.specs.Terms.{term_type, element_types, all_like, array_of}
 use Rattle.terms.specs.Bounds.{layers_of, Within}
 use Rattle.terms.specs.Literals.{seen_with, array_after, seen_type, array_rich, TypedAt, LeafTyped, list_at, list_in}
 use Rattle.terms.specs.declared.Element.{Element}
 use Rattle.terms.specs.declared.Seen.{Seen}
+use Rattle.std.specs.Prelude.{Ok, Some, None}
+use Rattle.resolution.specs.Coded.{Typed}
 
 -- One element more.
 module _ (s c : List ℕ) where
-  pub like_same : (t u : Rich) (b : Bool) → b ≡ same_type (rich_of s c t) (rich_of s c u) → b ≡ true → Seen.Like u ≡ seen_with s c (Seen.Like u) (As t)
+  pub like_same : (t u : Rich) (b : Bool) → b ≡ same_type (rich_of s c t) (rich_of s c u) → b ≡ true → Seen.Like u ≡ seen_with s c (Seen.Like u) (Some t)
   like_same t u b e f = rw (← e, f)
 
-  pub like_other : (t u : Rich) (b : Bool) → b ≡ same_type (rich_of s c t) (rich_of s c u) → b ≡ false → Seen.Mixed ≡ seen_with s c (Seen.Like u) (As t)
+  pub like_other : (t u : Rich) (b : Bool) → b ≡ same_type (rich_of s c t) (rich_of s c u) → b ≡ false → Seen.Mixed ≡ seen_with s c (Seen.Like u) (Some t)
   like_other t u b e f = rw (← e, f)
 
-  with_none : (seen : Seen) → Seen.Mixed ≡ seen_with s c seen Nothing
+  with_none : (seen : Seen) → Seen.Mixed ≡ seen_with s c seen None
   with_none Seen.Empty = refl
   with_none (Seen.Like u) = refl
   with_none Seen.Mixed = refl
 
-  pub with_nothing : (seen : Seen) (r : Typed) → r ≡ Nothing → Seen.Mixed ≡ seen_with s c seen r
+  pub with_nothing : (seen : Seen) (r : Typed) → r ≡ None → Seen.Mixed ≡ seen_with s c seen r
   with_nothing seen r e = rw e (with_none seen)
 
-  module _ (seen : Seen) (r : Typed) (t : Rich) (e : r ≡ As t) where
+  module _ (seen : Seen) (r : Typed) (t : Rich) (e : r ≡ Some t) where
     pub with_first : seen ≡ Seen.Empty → Seen.Like t ≡ seen_with s c seen r
     with_first f = rw (f, e)
 
-    pub with_next : (u : Rich) (a : Seen) → seen ≡ Seen.Like u → a ≡ seen_with s c (Seen.Like u) (As t) → a ≡ seen_with s c seen r
+    pub with_next : (u : Rich) (a : Seen) → seen ≡ Seen.Like u → a ≡ seen_with s c (Seen.Like u) (Some t) → a ≡ seen_with s c seen r
     with_next u a f g = rw (f, e) g
 
     pub with_mixed : seen ≡ Seen.Mixed → Seen.Mixed ≡ seen_with s c seen r
@@ -62,28 +61,28 @@ module _ (s c : List ℕ) where
   -- the elements seen and one more decide as the longer list does
   seen_more : (seen : Seen) (r : Typed) (rest : List (Option Ty)) → array_after s c (seen_with s c seen r) rest ≡ array_after s c seen (typed_of s c r ∷ rest)
   unfolding array_of all_like
-  seen_more Seen.Empty Nothing rest = refl
-  seen_more Seen.Empty (As t) rest = refl
-  seen_more (Seen.Like u) Nothing rest = refl
-  seen_more (Seen.Like u) (As t) rest = go (same_type (rich_of s c t) (rich_of s c u)) refl
+  seen_more Seen.Empty None rest = refl
+  seen_more Seen.Empty (Some t) rest = refl
+  seen_more (Seen.Like u) None rest = refl
+  seen_more (Seen.Like u) (Some t) rest = go (same_type (rich_of s c t) (rich_of s c u)) refl
     where
-      go : (b : Bool) → same_type (rich_of s c t) (rich_of s c u) ≡ b → array_after s c (seen_with s c (Seen.Like u) (As t)) rest ≡ array_after s c (Seen.Like u) (some (rich_of s c t) ∷ rest)
+      go : (b : Bool) → same_type (rich_of s c t) (rich_of s c u) ≡ b → array_after s c (seen_with s c (Seen.Like u) (Some t)) rest ≡ array_after s c (Seen.Like u) (some (rich_of s c t) ∷ rest)
       go true e = rw e
       go false e = rw e
-  seen_more Seen.Mixed Nothing rest = refl
-  seen_more Seen.Mixed (As t) rest = refl
+  seen_more Seen.Mixed None rest = refl
+  seen_more Seen.Mixed (Some t) rest = refl
 
   seen_within : (n : ℕ) (seen : Seen) (r : Typed) → Within n (seen_type seen) → Within n r → Within n (seen_type (seen_with s c seen r))
-  seen_within n Seen.Empty Nothing h i = i
-  seen_within n Seen.Empty (As t) h i = i
-  seen_within n (Seen.Like u) Nothing h i = i
-  seen_within n (Seen.Like u) (As t) h i = go (same_type (rich_of s c t) (rich_of s c u))
+  seen_within n Seen.Empty None h i = i
+  seen_within n Seen.Empty (Some t) h i = i
+  seen_within n (Seen.Like u) None h i = i
+  seen_within n (Seen.Like u) (Some t) h i = go (same_type (rich_of s c t) (rich_of s c u))
     where
       go : (b : Bool) → Within n (seen_type (cond b (Seen.Like u) Seen.Mixed))
       go true = h
       go false = record { layers = omega arith; tag = omega arith }
-  seen_within n Seen.Mixed Nothing h i = i
-  seen_within n Seen.Mixed (As t) h i = h
+  seen_within n Seen.Mixed None h i = i
+  seen_within n Seen.Mixed (Some t) h i = h
 
   -- no element more
   array_value : (seen : Seen) → rich_of s c (array_rich seen) ≡ array_after s c seen []
@@ -92,29 +91,12 @@ module _ (s c : List ℕ) where
   array_value (Seen.Like t) = rw add-one
   array_value Seen.Mixed = refl
 
-  array_within : (n : ℕ) (seen : Seen) → Within n (seen_type seen) → Within (n + 1) (As (array_rich seen))
+  array_within : (n : ℕ) (seen : Seen) → Within n (seen_type seen) → Within (n + 1) (Some (array_rich seen))
   array_within n Seen.Empty h = record { layers = omega arith; tag = omega arith }
   array_within n (Seen.Like t) h = record { layers = omega arith; tag = h.tag }
   array_within n Seen.Mixed h = record { layers = omega arith; tag = omega arith }
 
 pub ruleset joining = (rules, like_same, like_other, with_nothing, with_first, with_next, with_mixed)
-
--- The array's type in the code.
-module _ (seen : Seen) where
-  pub array_empty : seen ≡ Seen.Empty → array_rich Seen.Empty ≡ array_rich seen
-  array_empty e = rw e
-
-  pub array_mixed : seen ≡ Seen.Mixed → array_rich Seen.Mixed ≡ array_rich seen
-  array_mixed e = rw e
-
-  module _ (t : Rich) (e : seen ≡ Seen.Like t) where
-    pub array_like : (r : Rich) → r ≡ array_rich (Seen.Like t) → r ≡ array_rich seen
-    array_like r f = rw e f
-
-    pub like-fits : layers_of (seen_type seen) < 32 → t.layers < 32
-    like-fits h = rw e at h
-
-pub ruleset arraying = (rules, array_empty, array_mixed, array_like, like-fits)
 
 -- The elements of a list, taken apart.
 module _ (v : ℕ) (f : Reader Condition) (t : Bool → Reader Term) (c : List ℕ) where
@@ -231,7 +213,7 @@ module _ (s c : List ℕ) (left start : ℕ) where
     pub things : Terms
     pub end : ℕ
     pub read : elements (version_in c) (condition_at (version_in c) left) (term_at (version_in c) left) rest c at ≡ got things end
-    pub ends : ending (list_at left c start) ≡ Next end
+    pub ends : ending (list_at left c start) ≡ Ok end
     pub same : array_after s c seen (element_types things) ≡ array_of (element_types (list_in left c start))
     pub within : Within left (seen_type seen)
 
@@ -281,13 +263,13 @@ module _ (s c : List ℕ) (left start : ℕ) where
             within = rw is (seen_within s c left seen e.typed l.within t.within);
           }
 
-    pub left_over : rest ≤ 0 → (r : Rich) → r ≡ array_rich seen → TypedAt s c (list_at left c start) (some (array_of (element_types (list_in left c start)))) (left + 1) (record { typed = As r; next = at })
+    pub left_over : rest ≤ 0 → (r : Rich) → r ≡ array_rich seen → TypedAt s c (list_at left c start) (some (array_of (element_types (list_in left c start)))) (left + 1) (record { typed = Some r; next = at })
     unfolding element_types
     left_over h r e =
         let v = elements_over (version_in c) (condition_at (version_in c) left) (term_at (version_in c) left) c rest at h l.read in
         record {
           value = ap some (ap (rich_of s c) e ∙ array_value s c seen ∙ ap (λ (x : Terms). array_after s c seen (element_types x)) (sym v.0) ∙ l.same);
-          ends = l.ends ∙ ap Next v.1;
+          ends = l.ends ∙ ap Ok v.1;
           within = rw e (array_within s c left seen l.within);
         }
 

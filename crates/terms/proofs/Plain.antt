@@ -6,7 +6,6 @@ use mathlib.Core.Option.{none}
 use Prim.Native.Nat.{ℕ, ◌+◌, ◌≤◌}
 use native.Mathlib.Omega.{arith}
 use borrow.Author.Rules.{rules}
-use borrow.Author.Tests.{ne_eqb}
 use lib.ListN.{length, get_or, take, drop}
 use Rattle.names.specs.Fields.{got, string_of}
 use Rattle.names.specs.Names.{path_name, simple_name}
@@ -14,9 +13,9 @@ use Rattle.names.specs.Read.{word_at}
 use Rattle.names.specs.Laws.Readers.{string_view}
 use Rattle.types.specs.Meaning.{bytes_of, tag_of, layered}
 use Rattle.types.specs.declared.Source.{Source}
-use Rattle.types.specs.declared.Scalar.TheVariants as Scalar
 use Rattle.types.specs.declared.Tag.{Tag}
 use Rattle.types.specs.declared.Base.TheVariants as Base
+use Rattle.types.specs.declared.Rich.{Rich}
 use Rattle.condition.specs.Condition.{Term, entity, literal, integer, decimal, string, bool, context_field, scope_field, var, wildcard, array, aggregate, sigil, entity_fields}
 use Rattle.condition.specs.Condition as tree
 use Rattle.nodes.specs.Kinds.{term_kind_of}
@@ -28,36 +27,11 @@ use Rattle.nodes.specs.Laws.Views.{PartView, entity_view}
 use Rattle.nodes.specs.Laws.Given.{EntityView, entity_parts}
 use Rattle.nodes.specs.Laws.Opens.{term_stands, raw_term}
 use Rattle.resolution.specs.Places.{typed_of}
-use Rattle.resolution.specs.declared.Typed.{Typed}
-use Rattle.resolution.specs.declared.Typed.TheVariants.{As, Nothing}
 use Rattle.terms.specs.Terms.{term_type}
 use Rattle.terms.specs.Bounds.{Within}
-use Rattle.terms.specs.Literals.{plain, kind_type, EntityTag, LeafTyped}
-
--- By the kind alone.
-module _ (k : ℕ) where
-  pub kind_integer : k ≡ 2 → plain Scalar.Long ≡ kind_type k
-  kind_integer e = rw e
-
-  pub kind_decimal : k ≡ 3 → plain Scalar.Decimal ≡ kind_type k
-  kind_decimal e = rw e
-
-  pub kind_string : k ≡ 4 → plain Scalar.String ≡ kind_type k
-  kind_string e = rw e
-
-  pub kind_bool : k ≡ 5 → plain Scalar.Bool ≡ kind_type k
-  kind_bool e = rw e
-
-  pub kind_aggregate : k ≡ 11 → plain Scalar.Long ≡ kind_type k
-  kind_aggregate e = rw e
-
-  pub kind_arith : k ≡ 12 → plain Scalar.Long ≡ kind_type k
-  kind_arith e = rw e
-
-  pub kind_other : (k ≡ 2 → ⊥) → (k ≡ 3 → ⊥) → (k ≡ 4 → ⊥) → (k ≡ 5 → ⊥) → (k ≡ 11 → ⊥) → (k ≡ 12 → ⊥) → Nothing ≡ kind_type k
-  kind_other a b c d e f = rw (ne_eqb k 2 a, ne_eqb k 3 b, ne_eqb k 4 c, ne_eqb k 5 d, ne_eqb k 11 e, ne_eqb k 12 f)
-
-pub ruleset by_kinds = (rules, kind_integer, kind_decimal, kind_string, kind_bool, kind_aggregate, kind_arith, kind_other)
+use Rattle.terms.specs.Literals.{kind_type, EntityTag, LeafTyped}
+use Rattle.resolution.specs.Coded.{Typed}
+use Rattle.std.specs.Prelude.{Some}
 
 -- A tag that was found in the condition's bytes is one of the condition.
 one_record : (c : List ℕ) (x : Source) → bytes_of c c x ≡ c
@@ -121,12 +95,13 @@ module _ (c : List ℕ) (at : ℕ) (acc : is_term c at ≡ true) (k : ℕ) (o : 
       pub name_byte : p + 1 ≤ length c
       name_byte = let h = name_inside in omega arith
 
-      pub leaf_entity : (tag : Tag) → EntityTag c p tag → LeafTyped c at (As (record { layers = 0; base = Base.Tagged tag }))
+      pub leaf_entity : (tag : Tag) → EntityTag c p tag
+          → (r : Rich) → r ≡ record { layers = 0; base = Base.Tagged tag } → LeafTyped c at (Some r)
       unfolding term_type layered
-      leaf_entity tag is = record {
+      leaf_entity tag is r it = rw it (record {
         value = λ s. let v = string_view path_name c p spelt in rw (is.value s, named.whole, parts.whole, v.word);
         within = record { layers = omega arith; tag = is.short };
-      }
+      })
 
   pub leaf_kind : (term_kind_of (term_in c at) ≡ 10 → ⊥) → (k ≡ 1 → ⊥) → (r : Typed) → r ≡ kind_type k → LeafTyped c at r
   leaf_kind h i r e =

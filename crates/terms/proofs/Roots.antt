@@ -21,20 +21,20 @@ use Rattle.resolution.specs.Resolution.{scope_type, scope_path}
 use Rattle.resolution.specs.Passes.{scope_of, briefly}
 use Rattle.resolution.specs.Places.{types_in, are_segments, segments_in, Behind, typed_of, small_type, small_path}
 use Rattle.resolution.specs.Laws.Segments.{no_segments, first_segment}
-use Rattle.resolution.specs.declared.Typed.{Typed}
-use Rattle.resolution.specs.declared.Typed.TheVariants.{As, Nothing}
 use Rattle.resolution.specs.declared.ScopePath.{ScopePath}
 use Rattle.terms.specs.Terms.{if_resolved, side_type_by, side_type, root_type}
 use Rattle.terms.specs.Facts.{facts_in}
 use Rattle.terms.specs.Answers.{TypeOf, resolved_of}
 use Rattle.terms.specs.declared.Facts.{Facts}
+use Rattle.resolution.specs.Coded.{Typed}
+use Rattle.std.specs.Prelude.{Some, None}
 
 -- no type
-pub nothing_typed : (s c : List ℕ) {o : Option Ty} → o ≡ none → TypeOf s c o Nothing
+pub nothing_typed : (s c : List ℕ) {o : Option Ty} → o ≡ none → TypeOf s c o None
 nothing_typed s c e = record { value = sym e; small = omega arith }
 
 -- the end of a path
-pub end_resolved : (e : ScopePath) (t : Rich) → e ≡ ScopePath.Resolved t → As t ≡ resolved_of e
+pub end_resolved : (e : ScopePath) (t : Rich) → e ≡ ScopePath.Resolved t → Some t ≡ resolved_of e
 end_resolved e t i = rw i
 
 pub ruleset path_ends = (rules, end_resolved)
@@ -79,7 +79,7 @@ pub ruleset one_side = (rules, side_bare, side_path)
 
 -- The root of a path.
 module _ (s c n : List ℕ) (facts : Facts) (a : ℕ) (path : Row) (are : are_segments c path ≡ true) where
-  pub root_none : path.count ≡ 0 → TypeOf s c (root_type (facts_in s c n facts) (action_in s a) (segments_in c path)) Nothing
+  pub root_none : path.count ≡ 0 → TypeOf s c (root_type (facts_in s c n facts) (action_in s a) (segments_in c path)) None
   unfolding root_type
   root_none e = nothing_typed s c (ap (root_type (facts_in s c n facts) (action_in s a)) (sym (no_segments c path are (omega arith))))
 
@@ -99,7 +99,7 @@ module _ (s c n : List ℕ) (facts : Facts) (a : ℕ) (path : Row) (are : are_se
         root_resource t row l r h =
             record { value = h.value ∙ ap (λ (ws : List (List ℕ)). side_type (schema_in s) (narrowed n facts.resource) ws (segments_in c tail)) l.value ∙ rw (← e₁, f, ← e₂, t) refl ∙ sym rooted; small = h.small }
 
-        pub root_other : b₂ ≡ false → TypeOf s c (root_type (facts_in s c n facts) (action_in s a) (segments_in c path)) Nothing
+        pub root_other : b₂ ≡ false → TypeOf s c (root_type (facts_in s c n facts) (action_in s a) (segments_in c path)) None
         unfolding root_type text
         root_other g =
             let i : root_type (facts_in s c n facts) (action_in s a) (w ∷ segments_in c tail) ≡ none = rw (← e₁, f, ← e₂, g) in

@@ -5,13 +5,12 @@ use mathlib.Core.Option.{Option, none, some}
 use Prim.Native.Nat.{ℕ}
 use native.Mathlib.Omega.{arith}
 use borrow.Author.Rules.{rules}
-use Rattle.names.specs.Read.{word_at}
+use Rattle.names.specs.Read.{word_at, Found}
 use Rattle.types.specs.Laws.Texts.{numbers_small}
 use Rattle.types.specs.Meaning.{layered}
 use Rattle.types.specs.declared.Scalar.TheVariants as Scalar
 use Rattle.types.specs.declared.Rich.{Rich}
 use Rattle.schema.specs.Places.{action_in, found_in}
-use Rattle.names.specs.declared.Found.{Found}
 use Rattle.names.specs.declared.Row.{Row}
 use Rattle.targets.specs.Places.{narrowed, targets_in}
 use Rattle.targets.specs.declared.Narrowed.{Narrowed}
@@ -28,8 +27,6 @@ use Rattle.nodes.specs.declared.Bound.{Bound}
 use Rattle.resolution.specs.Resolution.{context_type_by, context_type}
 use Rattle.resolution.specs.Places.{typed_of, small_type}
 use Rattle.resolution.specs.Places as resolution
-use Rattle.resolution.specs.declared.Typed.{Typed}
-use Rattle.resolution.specs.declared.Typed.TheVariants.{As, Nothing}
 use Rattle.terms.specs.Terms.{facts_of, annotation_type_by, input_type, var_type, term_type, root_type, scope_field_type}
 use Rattle.terms.specs.Terms as Terms
 use Rattle.terms.specs.Bounds.{Within}
@@ -41,6 +38,8 @@ use Rattle.terms.specs.declared.Facts.{Facts}
 use Rattle.terms.specs.declared.Element.{Element}
 use Rattle.terms.proofs.Fields.{action_stands}
 use Rattle.terms.proofs.Roots.{nothing_typed}
+use Rattle.std.specs.Prelude.{Some, None}
+use Rattle.resolution.specs.Coded.{Typed}
 
 -- the facts of a target
 pub facts_made : (n : List ℕ) (found : Found) (common : Common) (p r : Narrowed) → narrowed n p ≡ (targets_in n).scope.principal → narrowed n r ≡ (targets_in n).scope.resource → FactsOf n found common (record { action = found; principal = p; resource = r; common = common; node = 0 })
@@ -50,19 +49,19 @@ pub ruleset making = (rules, facts_made)
 
 -- Under a declared action, and under none.
 module _ (s c : List ℕ) (at : ℕ) where
-  pub context_undeclared : (action : Found) → action ≡ Found.Absent → TypeOf s c (context_type (found_in (action_in s) action) (path_in c at)) Nothing
+  pub context_undeclared : (action : Found) → action ≡ None → TypeOf s c (context_type (found_in (action_in s) action) (path_in c at)) None
   unfolding context_type_by
   context_undeclared action e = nothing_typed s c (rw e)
 
-  pub scope_undeclared : (facts : Facts) (n : List ℕ) → facts.action ≡ Found.Absent → TypeOf s c (scope_field_type (facts_in s c n facts) (path_in c at)) Nothing
+  pub scope_undeclared : (facts : Facts) (n : List ℕ) → facts.action ≡ None → TypeOf s c (scope_field_type (facts_in s c n facts) (path_in c at)) None
   unfolding scope_field_type
   scope_undeclared facts n e = nothing_typed s c (rw e)
 
   module _ (p : ℕ) (row : Row) (l : SegmentsOf c at row) (r : Typed) where
-    pub context_declared : (action : Found) → action ≡ Found.At p → typed_of s c r ≡ context_type (some (action_in s p)) (resolution.segments_in c row) → small_type (typed_of s c r) → TypeOf s c (context_type (found_in (action_in s) action) (path_in c at)) r
+    pub context_declared : (action : Found) → action ≡ Some p → typed_of s c r ≡ context_type (some (action_in s p)) (resolution.segments_in c row) → small_type (typed_of s c r) → TypeOf s c (context_type (found_in (action_in s) action) (path_in c at)) r
     context_declared action e h small = record { value = rw (e, ← l.value) h; small = small }
 
-    pub scope_declared : (facts : Facts) → facts.action ≡ Found.At p → (n : List ℕ) → TypeOf s c (root_type (facts_in s c n facts) (action_in s p) (resolution.segments_in c row)) r → TypeOf s c (scope_field_type (facts_in s c n facts) (path_in c at)) r
+    pub scope_declared : (facts : Facts) → facts.action ≡ Some p → (n : List ℕ) → TypeOf s c (root_type (facts_in s c n facts) (action_in s p) (resolution.segments_in c row)) r → TypeOf s c (scope_field_type (facts_in s c n facts) (path_in c at)) r
     unfolding scope_field_type
     scope_declared facts e n h = record { value = h.value ∙ ap (root_type (facts_in s c n facts) (action_in s p)) l.value ∙ rw e; small = h.small }
 
@@ -86,8 +85,8 @@ more : {r : Typed} → Within 0 r → Within 32 r
 more h = record { layers = omega (arith, h.layers); tag = h.tag }
 
 within_small : (s c : List ℕ) (r : Typed) → Within 32 r → small_type (typed_of s c r)
-within_small s c (As t) h = numbers_small s c t h.layers h.tag
-within_small s c Nothing h = omega arith
+within_small s c (Some t) h = numbers_small s c t h.layers h.tag
+within_small s c None h = omega arith
 
 pub plain_typed : (s c : List ℕ) (at : ℕ) (e : Element) → TypedAt s c (term_here c at) (term_type none (term_in c at)) 32 e → TypeOf s c (term_type none (term_in c at)) e.typed
 plain_typed s c at e h = record { value = h.value; small = within_small s c e.typed h.within }
@@ -99,17 +98,21 @@ module _ (s c : List ℕ) (facts : Facts) (name : List ℕ) (b : Bound) (says : 
   pub bound_stands : (p : ℕ) → b ≡ Bound.Segments p → SegmentsHere c p
   bound_stands p e = rw e at says.stands
 
-  pub name_annotated : (p : ℕ) → b ≡ Bound.Segments p → (r : Rich) → AnnotationTyped c (path (segments_in c p)) r → NameTyped s c facts name (As r)
+  pub name_annotated : (p : ℕ) → b ≡ Bound.Segments p → (r : Rich) → AnnotationTyped c (path (segments_in c p)) r → NameTyped s c facts name (Some r)
   unfolding var_type
   name_annotated p e r h =
       let i : last_named name (around_at (binding_in facts.common.binding) c facts.node) ≡ some (path (segments_in c p)) = sym says.value ∙ rw e in
-      record { value = λ n. ap some (h.value s) ∙ rw i; small = within_small s c (As r) (more h.within) }
+      record { value = λ n. ap some (h.value s) ∙ rw i; small = within_small s c (Some r) (more h.within) }
 
-  pub name_timepoint : b ≡ Bound.Timepoint → NameTyped s c facts name (plain Scalar.Timepoint)
+  pub name_timepoint : b ≡ Bound.Timepoint
+      → (r : Rich) → Some r ≡ plain Scalar.Timepoint → NameTyped s c facts name (Some r)
   unfolding var_type annotation_type_by layered
-  name_timepoint e =
+  name_timepoint e r it =
       let i : last_named name (around_at (binding_in facts.common.binding) c facts.node) ≡ some timepoint = sym says.value ∙ rw e in
-      record { value = λ n. rw i; small = within_small s c (plain Scalar.Timepoint) (record { layers = omega arith; tag = omega arith }) }
+      rw it (record {
+        value = λ n. rw i;
+        small = within_small s c (plain Scalar.Timepoint) (record { layers = omega arith; tag = omega arith });
+      })
 
   pub name_free : b ≡ Bound.Nothing → (r : Typed) → TypedBy s (input_type (found_in (action_in s) facts.action) name) r → NameTyped s c facts name r
   unfolding var_type

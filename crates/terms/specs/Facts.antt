@@ -8,12 +8,12 @@ use Rattle.targets.specs.Places.{narrowed, targets_in}
 use Rattle.condition.specs.Places.{is_record}
 use Rattle.walk.specs.Index.{nodes_of}
 use Rattle.walk.specs.Enclosing.{around_at, binding_in, Names}
-use Rattle.names.specs.declared.Found.{Found}
 use Rattle.resolution.specs.Places.{typed_of, small_type}
-use Rattle.resolution.specs.declared.Typed.{Typed}
 use Rattle.terms.specs.declared.Common.{Common}
 use Rattle.terms.specs.declared.Facts.{Facts}
 use Rattle.terms.specs.Terms as Terms
+use Rattle.names.specs.Read.{Found}
+use Rattle.resolution.specs.Coded.{Typed}
 
 -- the narrowing of each side
 abbrev pub scope_in : List ℕ → Facts → Scope

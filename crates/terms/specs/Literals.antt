@@ -1,10 +1,9 @@
 -- Array literals: what the elements seen so far make of those to come, and what the type of an element says.
-use Rattle.std.specs.Prelude.{ℕ, ◌+◌, ◌≤◌, ◌≡◌, cond, List, eqb}
+use Rattle.std.specs.Prelude.{ℕ, ◌+◌, ◌≤◌, ◌≡◌, cond, List, eqb, Ok, Some, None}
 use Rattle.std.proofs.Math.Option.{Option, none}
 use Rattle.names.specs.Fields.{Got, Reader}
 use Rattle.names.specs.Names.{simple_name}
 use Rattle.names.specs.Read.{ending, value_or, word_at}
-use Rattle.names.specs.declared.Read.TheVariants.{Next}
 use Rattle.types.specs.Types.{Ty, array, mixed_array, same_type}
 use Rattle.types.specs.Meaning.{rich_of, tag_of}
 use Rattle.types.specs.declared.Tag.{Tag}
@@ -14,16 +13,15 @@ use Rattle.types.specs.declared.Scalar.{Scalar}
 use Rattle.condition.specs.Condition.{Terms, nil, element_list, condition_at, term_at}
 use Rattle.condition.specs.Places.{version_in, term_in}
 use Rattle.resolution.specs.Places.{typed_of}
-use Rattle.resolution.specs.declared.Typed.{Typed}
-use Rattle.resolution.specs.declared.Typed.TheVariants.{As, Nothing}
 use Rattle.terms.specs.Terms.{term_type, all_like, array_of}
 use Rattle.terms.specs.Bounds.{Within}
 use Rattle.terms.specs.declared.Element.{Element}
 use Rattle.terms.specs.declared.Seen.{Seen}
+use Rattle.resolution.specs.Coded.{Typed}
 
 -- the type of a scalar
 abbrev pub plain : Scalar → Typed
-plain a = As (record { layers = 0; base = Base.Plain a })
+plain a = Some (record { layers = 0; base = Base.Plain a })
 
 -- the type of a term by its kind alone: of the literals, of an aggregate and of arithmetic
 abbrev pub kind_type : ℕ → Typed
@@ -33,16 +31,16 @@ kind_type k =
     (cond (eqb k 4) (plain Scalar.String)
     (cond (eqb k 5) (plain Scalar.Bool)
     (cond (eqb k 11) (plain Scalar.Long)
-    (cond (eqb k 12) (plain Scalar.Long) Nothing)))))
+    (cond (eqb k 12) (plain Scalar.Long) None)))))
 
 -- one element more
 abbrev pub seen_with : List ℕ → List ℕ → Seen → Typed → Seen
-seen_with s c Seen.Empty Nothing = Seen.Mixed
-seen_with s c Seen.Empty (As t) = Seen.Like t
-seen_with s c (Seen.Like u) Nothing = Seen.Mixed
-seen_with s c (Seen.Like u) (As t) = cond (same_type (rich_of s c t) (rich_of s c u)) (Seen.Like u) Seen.Mixed
-seen_with s c Seen.Mixed Nothing = Seen.Mixed
-seen_with s c Seen.Mixed (As t) = Seen.Mixed
+seen_with s c Seen.Empty None = Seen.Mixed
+seen_with s c Seen.Empty (Some t) = Seen.Like t
+seen_with s c (Seen.Like u) None = Seen.Mixed
+seen_with s c (Seen.Like u) (Some t) = cond (same_type (rich_of s c t) (rich_of s c u)) (Seen.Like u) Seen.Mixed
+seen_with s c Seen.Mixed None = Seen.Mixed
+seen_with s c Seen.Mixed (Some t) = Seen.Mixed
 
 -- the array's type, by the elements seen and the types of those to come
 abbrev pub array_after : List ℕ → List ℕ → Seen → List (Option Ty) → Ty
@@ -52,14 +50,14 @@ array_after s c Seen.Mixed rest = mixed_array
 
 -- the type of the elements, where they have one
 abbrev pub seen_type : Seen → Typed
-seen_type Seen.Empty = Nothing
-seen_type (Seen.Like t) = As t
-seen_type Seen.Mixed = Nothing
+seen_type Seen.Empty = None
+seen_type (Seen.Like t) = Some t
+seen_type Seen.Mixed = None
 
 -- what was read has this type, ends at this place, and has at most so many layers
 pub record TypedAt {A : Type 0} (s c : List ℕ) (g : Got A) (o : Option Ty) (layers : ℕ) (r : Element) : Type 0 where
   pub value : typed_of s c r.typed ≡ o
-  pub ends : ending g ≡ Next r.next
+  pub ends : ending g ≡ Ok r.next
   pub within : Within layers r.typed
 
 -- a count of elements and the elements, with so many levels left

@@ -11,10 +11,9 @@ ghost use Rattle.terms.specs.Facts.{NameTyped};
 ghost use Rattle.terms.specs.Answers.{WordTag, OtherTyped, WordTyped, AnnotationTyped, TypedBy};
 
 use crate::Facts;
-use names::Found;
 use nodes::Bound;
 use resolution::Typed;
-use types::{Base, Rich, Scalar, Source, Tag, TimeType};
+use types::{Base, Rich, Scalar, Source, Tag};
 
 // The string at `at` as a tag.
 fn word_tag(condition: &[u8], at: usize) -> Tag
@@ -39,59 +38,36 @@ fn word_tag(condition: &[u8], at: usize) -> Tag
 fn other_type(condition: &[u8], at: usize) -> Rich
     ensures { OtherTyped condition.now at result }
 {
-    let TimeType::As(time) = types::time_type(names::word(condition, at)) else {
+    let Some(time) = types::time_type(names::word(condition, at)) else {
         let tag = word_tag(condition, at);
-        return Rich {
-            layers: 0,
-            base: Base::Tagged(tag),
-        };
+        return Rich::from(Base::Tagged(tag));
     };
-    Rich {
-        layers: 0,
-        base: Base::Plain(time),
-    }
+    Rich::from(time)
 }
 
-// The type that the word at `at` names.
+// The type that the word at `at` names. A `match` on byte strings is no plainer: the check asks
+// what holds in its last arm once for each byte at which the word may differ.
 fn word_type(condition: &[u8], at: usize) -> Rich
     ensures { WordTyped condition.now at result }
 {
     let word = names::word(condition, at);
     if names::same(word, b"Long") {
-        return Rich {
-            layers: 0,
-            base: Base::Plain(Scalar::Long),
-        };
+        return Rich::from(Scalar::Long);
     }
     if names::same(word, b"String") {
-        return Rich {
-            layers: 0,
-            base: Base::Plain(Scalar::String),
-        };
+        return Rich::from(Scalar::String);
     }
     if names::same(word, b"Bool") {
-        return Rich {
-            layers: 0,
-            base: Base::Plain(Scalar::Bool),
-        };
+        return Rich::from(Scalar::Bool);
     }
     if names::same(word, b"Boolean") {
-        return Rich {
-            layers: 0,
-            base: Base::Plain(Scalar::Bool),
-        };
+        return Rich::from(Scalar::Bool);
     }
     if names::same(word, b"decimal") {
-        return Rich {
-            layers: 0,
-            base: Base::Plain(Scalar::Decimal),
-        };
+        return Rich::from(Scalar::Decimal);
     }
     if names::same(word, b"Decimal") {
-        return Rich {
-            layers: 0,
-            base: Base::Plain(Scalar::Decimal),
-        };
+        return Rich::from(Scalar::Decimal);
     }
     other_type(condition, at)
 }
@@ -101,16 +77,9 @@ fn field_type(s: &[u8], at: usize, name: &[u8]) -> Typed
     requires { is_type s.now at ≡ true }
     ensures { TypedBy s.now (field_type name.now (type_in s.now at)) result }
 {
-    let inner = schema::record_fields(s, at);
-    let Found::At(fields) = inner else {
-        return Typed::Nothing;
-    };
-    let found = schema::attribute(s, fields, name);
-    let Found::At(field) = found else {
-        return Typed::Nothing;
-    };
-    let rich = schema::rich_type(s, field);
-    Typed::As(rich)
+    let fields = schema::record_fields(s, at)?;
+    let field = schema::attribute(s, fields, name)?;
+    Some(schema::rich_type(s, field))
 }
 
 // The type of a field of the `input` record in the context of the action at `action`.
@@ -119,14 +88,8 @@ fn input_type(s: &[u8], action: usize, name: &[u8]) -> Typed
     ensures { TypedBy s.now (input_type (some (action_in s.now action)) name.now) result }
 {
     let context = schema::context(s, action);
-    let inner = schema::record_fields(s, context);
-    let Found::At(fields) = inner else {
-        return Typed::Nothing;
-    };
-    let found = schema::attribute(s, fields, b"input");
-    let Found::At(input) = found else {
-        return Typed::Nothing;
-    };
+    let fields = schema::record_fields(s, context)?;
+    let input = schema::attribute(s, fields, b"input")?;
     field_type(s, input, name)
 }
 
@@ -136,10 +99,7 @@ fn free_type(s: &[u8], facts: Facts, name: &[u8]) -> Typed
     ensures { TypedBy s.now (input_type (found_in (action_in s.now) facts.action) name.now) result }
 {
     let action = facts.action;
-    let Found::At(p) = action else {
-        return Typed::Nothing;
-    };
-    input_type(s, p, name)
+    input_type(s, action?, name)
 }
 
 // The type of an annotation, whose count of segments stands at `at`: its last segment's.
@@ -162,11 +122,8 @@ pub fn var_type(schema: &[u8], condition: &[u8], env: &[u16], facts: Facts, name
     let binding = common.binding;
     let bound = walk::bound_by(binding, condition, env, facts.node, name);
     match bound {
-        Bound::Segments(p) => Typed::As(segments_type(condition, p)),
-        Bound::Timepoint => Typed::As(Rich {
-            layers: 0,
-            base: Base::Plain(Scalar::Timepoint),
-        }),
+        Bound::Segments(p) => Some(segments_type(condition, p)),
+        Bound::Timepoint => Some(Rich::from(Scalar::Timepoint)),
         Bound::Nothing => free_type(schema, facts, name),
     }
 }

@@ -8,7 +8,7 @@ mod target;
 mod term;
 
 pub use env::var_type;
-use names::{Found, Row};
+use names::Row;
 use resolution::Typed;
 pub use target::{at_node, facts_of};
 use targets::Narrowed;
@@ -28,7 +28,7 @@ pub struct Common {
 // have in common, and at which reached condition, by its number in walk order.
 #[derive(Clone, Copy)]
 pub struct Facts {
-    pub action: Found,
+    pub action: Option<usize>,
     pub principal: Narrowed,
     pub resource: Narrowed,
     pub common: Common,

@@ -18,50 +18,20 @@ use types::{Base, Rich, Scalar, Source, Tag};
 fn kind_type(kind: u8) -> Typed
     ensures { result ≡ kind_type kind }
 {
-    if kind == 2 {
-        return Typed::As(Rich {
-            layers: 0,
-            base: Base::Plain(Scalar::Long),
-        });
+    match kind {
+        2 | 11 | 12 => Some(Rich::from(Scalar::Long)),
+        3 => Some(Rich::from(Scalar::Decimal)),
+        4 => Some(Rich::from(Scalar::String)),
+        5 => Some(Rich::from(Scalar::Bool)),
+        _ => None,
     }
-    if kind == 3 {
-        return Typed::As(Rich {
-            layers: 0,
-            base: Base::Plain(Scalar::Decimal),
-        });
-    }
-    if kind == 4 {
-        return Typed::As(Rich {
-            layers: 0,
-            base: Base::Plain(Scalar::String),
-        });
-    }
-    if kind == 5 {
-        return Typed::As(Rich {
-            layers: 0,
-            base: Base::Plain(Scalar::Bool),
-        });
-    }
-    if kind == 11 {
-        return Typed::As(Rich {
-            layers: 0,
-            base: Base::Plain(Scalar::Long),
-        });
-    }
-    if kind == 12 {
-        return Typed::As(Rich {
-            layers: 0,
-            base: Base::Plain(Scalar::Long),
-        });
-    }
-    Typed::Nothing
 }
 
 // One element more: the first decides, and an element without a type or of another one makes the array mixed.
 fn seen_with<'a>(schema: &'a [u8], condition: &'a [u8], seen: Seen, typed: Typed) -> Seen
     ensures { result ≡ seen_with schema.now condition.now seen typed }
 {
-    let Typed::As(t) = typed else {
+    let Some(t) = typed else {
         return Seen::Mixed;
     };
     match seen {
@@ -72,7 +42,7 @@ fn seen_with<'a>(schema: &'a [u8], condition: &'a [u8], seen: Seen, typed: Typed
 }
 
 fn alike<'a>(schema: &'a [u8], condition: &'a [u8], first: Rich, other: Rich) -> Seen
-    ensures { result ≡ seen_with schema.now condition.now (Seen.Like first) (Typed.As other) }
+    ensures { result ≡ seen_with schema.now condition.now (Seen.Like first) (Some other) }
 {
     if types::equal(schema, condition, other, first) {
         return Seen::Like(first);
@@ -86,15 +56,9 @@ fn array_of(seen: Seen) -> Rich
     ensures { result ≡ array_rich seen }
 {
     match seen {
-        Seen::Empty => Rich {
-            layers: 0,
-            base: Base::AnyArray,
-        },
+        Seen::Empty => Rich::from(Base::AnyArray),
         Seen::Like(t) => one_layer(t),
-        Seen::Mixed => Rich {
-            layers: 0,
-            base: Base::MixedArray,
-        },
+        Seen::Mixed => Rich::from(Base::MixedArray),
     }
 }
 
@@ -132,8 +96,7 @@ fn leaf_type(condition: &[u8], at: usize) -> Typed
     let kind = nodes::term_kind_at(condition, at);
     if kind == 1 {
         let tag = entity_tag(condition, nodes::term_part(condition, at));
-        let base = Base::Tagged(tag);
-        return Typed::As(Rich { layers: 0, base });
+        return Some(Rich::from(Base::Tagged(tag)));
     }
     kind_type(kind)
 }
@@ -164,6 +127,8 @@ fn array_type<'a>(schema: &'a [u8], condition: &'a [u8], start: usize, left: usi
     let mut rest = names::byte_at(condition, start);
     let mut at = start + 1;
     let mut seen = Seen::Empty;
+    // Counted down by hand: the loop stands in a cycle of two functions, whose proof is one list by
+    // position, and a `for` asks for all of that list anew.
     while 0 < rest {
         let element = element_type(schema, condition, at, left);
         let typed = element.typed;
@@ -172,6 +137,6 @@ fn array_type<'a>(schema: &'a [u8], condition: &'a [u8], start: usize, left: usi
         rest -= 1;
     }
     let rich = array_of(seen);
-    let typed = Typed::As(rich);
+    let typed = Some(rich);
     Element { typed, next: at }
 }

@@ -17,11 +17,8 @@ fn if_resolved(end: ScopePath) -> Typed
     ensures { result ≡ resolved_of end }
 {
     match end {
-        ScopePath::Resolved(t) => Typed::As(t),
-        ScopePath::Missing(_) => Typed::Nothing,
-        ScopePath::NonRecord(_) => Typed::Nothing,
-        ScopePath::Ambiguous => Typed::Nothing,
-        ScopePath::Unknown => Typed::Nothing,
+        ScopePath::Resolved(t) => Some(t),
+        _ => None,
     }
 }
 
@@ -63,7 +60,7 @@ pub fn root_type<'a>(
 {
     let count = path.count;
     if count == 0 {
-        return Typed::Nothing;
+        return None;
     }
     let head = path.at;
     let tail = resolution::behind(condition, path);
@@ -78,5 +75,5 @@ pub fn root_type<'a>(
         let narrowing = facts.resource;
         return side_type(schema, condition, targets, narrowing, row, tail);
     }
-    Typed::Nothing
+    None
 }

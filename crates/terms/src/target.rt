@@ -4,10 +4,9 @@ ghost use Rattle.targets.specs.Places.{are_targets};
 ghost use Rattle.terms.specs.Facts.{at_node, FactsOf};
 
 use crate::{Common, Facts};
-use names::Found;
 
 // The facts of a target whose action was looked up: the scope is the target record's, and the reached condition is the first.
-pub fn facts_of(targets: &[u8], action: Found, common: Common) -> Facts
+pub fn facts_of(targets: &[u8], action: Option<usize>, common: Common) -> Facts
     requires { are_targets targets.now ≡ true }
     ensures { FactsOf targets.now action common result }
 {
@@ -26,15 +25,5 @@ pub fn facts_of(targets: &[u8], action: Found, common: Common) -> Facts
 pub fn at_node(facts: Facts, node: usize) -> Facts
     ensures { result ≡ at_node facts node }
 {
-    let action = facts.action;
-    let principal = facts.principal;
-    let resource = facts.resource;
-    let common = facts.common;
-    Facts {
-        action,
-        principal,
-        resource,
-        common,
-        node,
-    }
+    Facts { node, ..facts }
 }

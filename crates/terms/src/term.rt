@@ -12,7 +12,7 @@ use crate::Facts;
 use crate::env::var_type;
 use crate::literals::element_type;
 use crate::scope::root_type;
-use names::{Found, Row};
+use names::Row;
 use resolution::Typed;
 
 // The segments of the path at `at`.
@@ -28,14 +28,17 @@ fn segments(condition: &[u8], at: usize) -> Row
 }
 
 // The type of a path into an action's context; an undeclared action has none.
-pub fn context_field_type(schema: &[u8], condition: &[u8], action: Found, at: usize) -> Typed
+pub fn context_field_type(
+    schema: &[u8],
+    condition: &[u8],
+    action: Option<usize>,
+    at: usize,
+) -> Typed
     requires action_value { found_stands (is_action schema.now) action ≡ true }
     requires at_value { is_path condition.now at ≡ true }
     ensures { TypeOf schema.now condition.now (context_type (found_in (action_in schema.now) action) (path_in condition.now at)) result }
 {
-    let Found::At(p) = action else {
-        return Typed::Nothing;
-    };
+    let p = action?;
     let path = segments(condition, at);
     resolution::context_type(schema, p, condition, path)
 }
@@ -54,9 +57,7 @@ fn scope_field_type<'a>(
     ensures { TypeOf schema.now condition.now (scope_field_type (facts_in schema.now condition.now targets.now facts) (path_in condition.now at)) result }
 {
     let action = facts.action;
-    let Found::At(p) = action else {
-        return Typed::Nothing;
-    };
+    let p = action?;
     let path = segments(condition, at);
     root_type(schema, condition, targets, facts, p, path)
 }
@@ -83,17 +84,11 @@ pub fn term_type<'a>(
     requires at_value { is_term condition.now at ≡ true }
     ensures { TypeOf schema.now condition.now (term_type (some (facts_in schema.now condition.now targets.now facts)) (term_in condition.now at)) result }
 {
-    let kind = nodes::term_kind_at(condition, at);
     let part = nodes::term_part(condition, at);
-    if kind == 6 {
-        let action = facts.action;
-        return context_field_type(schema, condition, action, part);
+    match nodes::term_kind_at(condition, at) {
+        6 => context_field_type(schema, condition, facts.action, part),
+        7 => scope_field_type(schema, condition, targets, facts, part),
+        8 => var_type(schema, condition, env, facts, names::word(condition, part)),
+        _ => plain_type(schema, condition, at),
     }
-    if kind == 7 {
-        return scope_field_type(schema, condition, targets, facts, part);
-    }
-    if kind == 8 {
-        return var_type(schema, condition, env, facts, names::word(condition, part));
-    }
-    plain_type(schema, condition, at)
 }

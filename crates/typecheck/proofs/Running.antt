@@ -11,10 +11,9 @@ use borrow.Author.Tests.{ne_eqb}
 use lib.ListN.{length, length-map, drop, drop_of_length-le}
 use lib.Seq.{length-take-le}
 use Rattle.names.specs.Lists.{maybe, gather}
-use Rattle.names.specs.Fields.{whole}
-use Rattle.names.specs.Read.{ending, read_number, Listed}
-use Rattle.names.specs.declared.Read.{Read}
-use Rattle.names.specs.Laws.Readers.{accept, passes, refused_by, refuses}
+use Rattle.names.specs.Fields.{whole, number_of}
+use Rattle.names.specs.Read.{ending, Listed, Read, Found}
+use Rattle.names.specs.Laws.Readers.{accept, passes, refused_by}
 use Rattle.names.specs.Laws.Rows.{listed_first, listed_over}
 use Rattle.types.specs.Types as types
 use Rattle.types.specs.Meaning.{profile_in}
@@ -22,7 +21,6 @@ use Rattle.types.specs.declared.Profile.{Profile}
 use Rattle.schema.specs.Schema.{Schema, Action, schema_record}
 use Rattle.schema.specs.Find.{find_action}
 use Rattle.schema.specs.Places.{is_schema, schema_in, is_action, action_in, found_in, found_stands, FindsAction, ActionsOf}
-use Rattle.names.specs.declared.Found.{Found}
 use Rattle.names.specs.declared.Row.{Row}
 use Rattle.targets.specs.Targets.{Scope, Target, Targets, target, target_record}
 use Rattle.targets.specs.Places.{targets_in, is_target, target_in}
@@ -53,14 +51,14 @@ use Rattle.terms.specs.Facts.{facts_in, scope_in, at_node, Ready, Known, FactsOf
 use Rattle.rules.specs.Rules.{node_breaches}
 use Rattle.typecheck.specs.Check.{profile_of, Choices, choices_of, breaches_at, is_checked, visits_under_by, visits_under, CheckOutcome, checked_by, checked, check_with, check}
 use Rattle.typecheck.specs.Answers.{check_outcome_of, WithVisits, Spared}
-use Rattle.typecheck.specs.Run.{Accepted, ReadAs, reading, choices_in, chosen_in, KnownUnder, under_visits, UnderKnown, UnderHere, found_by, begun_from, Visited}
+use Rattle.typecheck.specs.Run.{Accepted, ReadAs, reading, choices_in, chosen_in, KnownUnder, under_visits, UnderKnown, UnderHere, found_by, begun_from, Visited, Under, Records}
 use Rattle.typecheck.specs.Laws.Visits.{found_all, full_stays, full_begins, found_append, begun_append, begun_few, begun_run}
 use Rattle.typecheck.specs.Laws.Reading.{check_reading, accepted_reading}
 use Rattle.typecheck.specs.declared.CheckAnswer.{CheckAnswer}
 use Rattle.typecheck.specs.declared.Progress.{Progress}
-use Rattle.typecheck.specs.declared.Records.{Records}
-use Rattle.typecheck.specs.declared.Under.{Under}
-use Rattle.typecheck.specs.declared.Under.TheVariants.{Skipped, Checked}
+use Rattle.std.specs.Prelude.{Ok, Err, Some, None}
+use Rattle.names.specs.declared.refusal.Refusal.{Refusal}
+use Rattle.typecheck.specs.declared.RefusedRecord.{RefusedRecord}
 
 -- ---- visits
 
@@ -135,22 +133,22 @@ pub ruleset each_node = (rules, nodes_begin, node_known, nodes_turn, nodes_over,
 
 -- where the target is checked
 module _ (s c n : List ℕ) (x : Under) where
-  pub target_passed : x ≡ Skipped → (old : List ℕ) (st : State) (table : List ℕ) → Lent (sink old st) table → Visited old st (under_visits s c n x) old (record { state = st; visits = 0 }) table
+  pub target_passed : x ≡ None → (old : List ℕ) (st : State) (table : List ℕ) → Lent (sink old st) table → Visited old st (under_visits s c n x) old (record { state = st; visits = 0 }) table
   unfolding gather begun_from
   target_passed e old st table p = rw e (record { pushed = recorded_none old st p; counted = refl })
 
-  module _ (f : Facts) (e : x ≡ Checked f) where
+  module _ (f : Facts) (e : x ≡ Some f) where
     pub facts_known : (env : List ℕ) → UnderKnown s c env x → KnownUnder s c env f
     facts_known env h = rw e at h
 
-    pub target_told : {old now table : List ℕ} {st₀ : State} {r : Progress} → Visited old st₀ (under_visits s c n (Checked f)) now r table → Visited old st₀ (under_visits s c n x) now r table
+    pub target_told : {old now table : List ℕ} {st₀ : State} {r : Progress} → Visited old st₀ (under_visits s c n (Some f)) now r table → Visited old st₀ (under_visits s c n x) now r table
     target_told p = rw e p
 
 pub ruleset where_checked = (rules, target_passed, facts_known, target_told)
 
 -- ---- under a target
 
-module _ (s n : List ℕ) (found : Found) (p : ℕ) (e : found ≡ Found.At p) where
+module _ (s n : List ℕ) (found : Found) (p : ℕ) (e : found ≡ Some p) where
   pub action_stands : found_stands (is_action s) found ≡ true → is_action s p ≡ true
   action_stands h = rw e at h
 
@@ -173,13 +171,13 @@ module _ (s n : List ℕ) (at : ℕ) (w : List ℕ) (is_w : w ≡ (target_in n a
   looked_up : found_in (action_in s) x ≡ find_action (schema_in s) (target_in n at).namespace (target_in n at).id
   looked_up = rw (← is_w, ← is_v) finds.value
 
-  pub target_checked : b ≡ true → (f : Facts) → FactsOf n x common f → UnderHere s n common at (Checked f)
+  pub target_checked : b ≡ true → (f : Facts) → FactsOf n x common f → UnderHere s n common at (Some f)
   target_checked h f k = record {
     known = λ c env r. record { at = λ i l. record { ready = rw k.shared r; action = rw k.action finds.stands; node = l } };
     value = λ c. rw (k.shared, k.action, k.scope) (under_checked (chosen_in common) (schema_in s) (record_in c) (targets_in n).scope (target_in n at) (found_in (action_in s) x) looked_up (sym is_b ∙ h));
   }
 
-  pub target_skipped : b ≡ false → UnderHere s n common at Skipped
+  pub target_skipped : b ≡ false → UnderHere s n common at None
   target_skipped h = record {
     known = λ c env r. tt;
     value = λ c. under_skips (chosen_in common) (schema_in s) (record_in c) (targets_in n).scope (target_in n at) (found_in (action_in s) x) looked_up (sym is_b ∙ h);
@@ -213,7 +211,7 @@ module _ (f : Target → List (List Breach)) (n : List ℕ) where
       pub targets_stand : is_target n at ≡ true
       targets_stand = (listed_first target n (record { namespace = []; id = [] }) l.left rest at h l.there).stands
 
-      targets_turn : {next table' : List ℕ} {r : Progress} → Visited now st (f (target_in n at)) next r table' → r.visits ≤ 3641 → (m : ℕ) → Read.Next m ≡ ending (target n at) → TargetsLeft f n all total (sink next r.state) table' (count + r.visits) (rest - 1) m
+      targets_turn : {next table' : List ℕ} {r : Progress} → Visited now st (f (target_in n at)) next r table' → r.visits ≤ 3641 → (m : ℕ) → Ok m ≡ ending (target n at) → TargetsLeft f n all total (sink next r.state) table' (count + r.visits) (rest - 1) m
       unfolding gather
       targets_turn e few m g =
           let d = listed_first target n (record { namespace = []; id = [] }) l.left rest at h l.there in
@@ -226,8 +224,8 @@ module _ (f : Target → List (List Breach)) (n : List ℕ) where
 
 -- under one target no more visits are begun than the condition has reached nodes
 under_few : (s c n : List ℕ) (x : Under) → is_record c ≡ true → length c ≤ 32768 → length (under_visits s c n x) ≤ 3641
-under_few s c n Skipped acc l = omega arith
-under_few s c n (Checked f) acc l =
+under_few s c n None acc l = omega arith
+under_few s c n (Some f) acc l =
     omega (arith, length-map (nodes_by (binding_in f.common.binding) (record_in c)) (breaches_at types.dated (profile_in f.common.profile) (schema_in s) (scope_in n f) (found_in (action_in s) f.action)), length_by (record_in c) (binding_in f.common.binding), record_nodes c acc)
 
 module _ (s c n : List ℕ) (common : Common) (at : ℕ) (x : Under) (h : UnderHere s n common at x) where
@@ -243,7 +241,7 @@ module _ (s c n : List ℕ) (common : Common) (at : ℕ) (x : Under) (h : UnderH
     pub target_sum : count + r.visits < 18446744073709551616
     target_sum = omega (arith, l.few, visits_few a e)
 
-    pub target_turn : (m : ℕ) → Read.Next m ≡ ending (target n at) → TargetsLeft (visits_under (chosen_in common) (schema_in s) (record_in c) (targets_in n).scope) n all total (sink next r.state) table' (count + r.visits) (rest - 1) m
+    pub target_turn : (m : ℕ) → Ok m ≡ ending (target n at) → TargetsLeft (visits_under (chosen_in common) (schema_in s) (record_in c) (targets_in n).scope) n all total (sink next r.state) table' (count + r.visits) (rest - 1) m
     target_turn m g = targets_turn (visits_under (chosen_in common) (schema_in s) (record_in c) (targets_in n).scope) n count rest at l p (rw (h.value c) at e) (visits_few a e) m g
 
 pub ruleset each_target = (rules, targets_begin, targets_over, targets_full, targets_stand, target_known, target_sum, target_turn)
@@ -274,34 +272,34 @@ target_alone rules p h b l s c n row at x u v = rw (← h, ← l) (rw (u.value c
 pub ruleset alone = (rules, length-take-le, all_ready, target_known, target_alone)
 
 module _ (s c n : List ℕ) (x : Read) (is_x : x ≡ ending (whole schema_record s)) where
-  pub schema_refused : (r : ℕ) → x ≡ Read.Refused r → (k : ℕ) → k ≡ read_number x → ReadAs s c n (Records.Refused k 1)
+  pub schema_refused : (r : Refusal) → x ≡ Err r → ReadAs s c n (Err (record { refusal = r; «record» = 1 }))
   unfolding reading
-  schema_refused r e k f = rw (refused_by (whole schema_record s) x r is_x e, ← refuses e f)
+  schema_refused r e = rw (refused_by (whole schema_record s) x r is_x e)
 
-  module _ (p : ℕ) (e : x ≡ Read.Next p) where
+  module _ (p : ℕ) (e : x ≡ Ok p) where
     schema_read : is_schema s ≡ true
     schema_read = passes (whole schema_record s) is_x e
 
     module _ (y : Read) (is_y : y ≡ ending (whole condition_record c)) where
-      pub condition_refused : (r : ℕ) → y ≡ Read.Refused r → (k : ℕ) → k ≡ read_number y → ReadAs s c n (Records.Refused k 2)
+      pub condition_refused : (r : Refusal) → y ≡ Err r → ReadAs s c n (Err (record { refusal = r; «record» = 2 }))
       unfolding reading
-      condition_refused r d k f =
+      condition_refused r d =
           let g = accept (whole schema_record s) schema_read in
-          rw (g.read, refused_by (whole condition_record c) y r is_y d, ← refuses d f)
+          rw (g.read, refused_by (whole condition_record c) y r is_y d)
 
-      module _ (p' : ℕ) (e' : y ≡ Read.Next p') where
+      module _ (p' : ℕ) (e' : y ≡ Ok p') where
         condition_read : is_record c ≡ true
         condition_read = passes (whole condition_record c) is_y e'
 
         module _ (z : Read) (is_z : z ≡ ending (whole target_record n)) where
-          pub targets_refused : (r : ℕ) → z ≡ Read.Refused r → (k : ℕ) → k ≡ read_number z → ReadAs s c n (Records.Refused k 3)
+          pub targets_refused : (r : Refusal) → z ≡ Err r → ReadAs s c n (Err (record { refusal = r; «record» = 3 }))
           unfolding reading
-          targets_refused r d k f =
+          targets_refused r d =
               let g = accept (whole schema_record s) schema_read in
               let h = accept (whole condition_record c) condition_read in
-              rw (g.read, h.read, refused_by (whole target_record n) z r is_z d, ← refuses d f)
+              rw (g.read, h.read, refused_by (whole target_record n) z r is_z d)
 
-          pub records_read : (p'' : ℕ) → z ≡ Read.Next p'' → Accepted s c n
+          pub records_read : (p'' : ℕ) → z ≡ Ok p'' → Accepted s c n
           records_read p'' e'' = record { schema = schema_read; condition = condition_read; targets = passes (whole target_record n) is_z e'' }
 
 pub ruleset reading_records = (rules, schema_refused, condition_refused, targets_refused, records_read)
@@ -320,21 +318,21 @@ pub ruleset choosing = (rules, chosen_strict, chosen_plain)
 
 -- what was read is checked, or the refusal is answered: with rules, and with none
 module _ (s c n b : List ℕ) (x : Records) (is : ReadAs s c n x) where
-  pub accepted_records : x ≡ Records.Read → Accepted s c n
+  pub accepted_records : {u : Unit {0}} → x ≡ Ok u → Accepted s c n
   accepted_records e = rw e at is
 
   module _ (rules : ℕ) where
-    pub refused_records : (k w : ℕ) → x ≡ Records.Refused k w → {a : Answer} → Refuses k w a → {r : CheckAnswer} → WithVisits a 0 r → check_outcome_of r b ≡ check_with rules s c n b
-    refused_records k w e f v = v.is b ∙ ap (λ (o : Outcome). record { outcome = o; visits = 0 }) (f.is b) ∙ sym (check_reading rules s c n b ∙ rw (rw e at is))
+    pub refused_records : (f : RefusedRecord) → x ≡ Err f → {a : Answer} → Refuses (number_of f.refusal) f.«record» a → {r : CheckAnswer} → WithVisits a 0 r → check_outcome_of r b ≡ check_with rules s c n b
+    refused_records r e f v = v.is b ∙ ap (λ (o : Outcome). record { outcome = o; visits = 0 }) (f.is b) ∙ sym (check_reading rules s c n b ∙ rw (rw e at is))
 
-    pub records_checked : x ≡ Records.Read → (p : Profile) → profile_in p ≡ profile_of rules → (d : walk.Binding) → binding_in d ≡ binding_of rules → (a : CheckAnswer) (t : List ℕ) → check_outcome_of a t ≡ checked (choices_in p d) (schema_in s) (record_in c) (targets_in n) b → check_outcome_of a t ≡ check_with rules s c n b
+    pub records_checked : {u : Unit {0}} → x ≡ Ok u → (p : Profile) → profile_in p ≡ profile_of rules → (d : walk.Binding) → binding_in d ≡ binding_of rules → (a : CheckAnswer) (t : List ℕ) → check_outcome_of a t ≡ checked (choices_in p d) (schema_in s) (record_in c) (targets_in n) b → check_outcome_of a t ≡ check_with rules s c n b
     records_checked e p h d l a t i = i ∙ rw (h, l) (sym (check_reading rules s c n b ∙ rw (accepted_reading s c n (accepted_records e))))
 
-  pub refused_plain : (k w : ℕ) → x ≡ Records.Refused k w → {a : Answer} → Refuses k w a → {r : CheckAnswer} → WithVisits a 0 r → check_outcome_of r b ≡ check s c n b
+  pub refused_plain : (f : RefusedRecord) → x ≡ Err f → {a : Answer} → Refuses (number_of f.refusal) f.«record» a → {r : CheckAnswer} → WithVisits a 0 r → check_outcome_of r b ≡ check s c n b
   unfolding check
-  refused_plain k w e f v = refused_records 0 k w e f v
+  refused_plain r e f v = refused_records 0 r e f v
 
-  pub plain_checked : x ≡ Records.Read → (a : CheckAnswer) (t : List ℕ) → check_outcome_of a t ≡ checked (choices_in Profile.Plain Binding.Flat) (schema_in s) (record_in c) (targets_in n) b → check_outcome_of a t ≡ check s c n b
+  pub plain_checked : {u : Unit {0}} → x ≡ Ok u → (a : CheckAnswer) (t : List ℕ) → check_outcome_of a t ≡ checked (choices_in Profile.Plain Binding.Flat) (schema_in s) (record_in c) (targets_in n) b → check_outcome_of a t ≡ check s c n b
   unfolding check profile_of binding_of binding_in
   plain_checked e a t i = records_checked 0 e Profile.Plain refl Binding.Flat refl a t i
 

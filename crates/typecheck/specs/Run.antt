@@ -1,7 +1,7 @@
 -- What the loops of the run ask and say: the three records that were read, a target with its visits, and the visits that are begun.
-use Rattle.std.specs.Prelude.{ℕ, suc, ◌<◌, ◌≡◌, true, cond, List, [], ◌∷◌, map, length}
+use Rattle.std.specs.Prelude.{ℕ, suc, ◌<◌, ◌≡◌, true, cond, List, [], ◌∷◌, map, length, Some, None}
 use Rattle.names.specs.Lists.{gather}
-use Rattle.names.specs.Fields.{either, whole}
+use Rattle.names.specs.Fields.{either, whole, number_of}
 use Rattle.types.specs.Types.{dated}
 use Rattle.types.specs.declared.Profile.{Profile}
 use Rattle.types.specs.Meaning.{profile_in}
@@ -24,10 +24,16 @@ use Rattle.reports.specs.Sink.{Sink, sink, push_all}
 use Rattle.reports.specs.Slots.{Pushed}
 use Rattle.typecheck.specs.Check.{Choices, breaches_at, visits_under}
 use Rattle.typecheck.specs.declared.Progress.{Progress}
-use Rattle.typecheck.specs.declared.Records.{Records}
-use Rattle.typecheck.specs.declared.Records.TheVariants.{Refused, Read}
-use Rattle.typecheck.specs.declared.Under.{Under}
-use Rattle.typecheck.specs.declared.Under.TheVariants.{Skipped, Checked}
+use Rattle.typecheck.specs.declared.RefusedRecord.{RefusedRecord}
+use Rattle.std.specs.Prelude as code
+
+-- what the code answers of the three records: they are read, or one is refused
+abbrev pub Records : Type 0
+Records = code.Result (Unit {0}) RefusedRecord
+
+-- the facts that a target is checked under, or none where it is skipped
+abbrev pub Under : Type 0
+Under = code.Option Facts
 
 -- the three records are accepted
 pub record Accepted (s c n : List ℕ) : Type 0 where
@@ -51,8 +57,8 @@ by_reading f g (read s c ts) = g s c ts
 
 -- what reading them says: they are accepted, or refused by this number and record
 abbrev pub ReadAs : List ℕ → List ℕ → List ℕ → Records → Type 0
-ReadAs s c n Read = Accepted s c n
-ReadAs s c n (Refused number which) = reading s c n ≡ refused number which
+ReadAs s c n (code.Ok u) = Accepted s c n
+ReadAs s c n (code.Err e) = reading s c n ≡ refused (number_of e.refusal) e.«record»
 
 -- what the code's choices mean, and those that all targets have in common
 abbrev pub choices_in : Profile → Binding → Choices
@@ -67,12 +73,12 @@ pub record KnownUnder (s c env : List ℕ) (f : Facts) : Type 0 where
 
 -- the visits under a target, and what is known where it is checked
 abbrev pub under_visits : List ℕ → List ℕ → List ℕ → Under → List (List Breach)
-under_visits s c n Skipped = []
-under_visits s c n (Checked f) = map (breaches_at dated (profile_in f.common.profile) (schema_in s) (scope_in n f) (found_in (action_in s) f.action)) (nodes_by (binding_in f.common.binding) (record_in c))
+under_visits s c n None = []
+under_visits s c n (Some f) = map (breaches_at dated (profile_in f.common.profile) (schema_in s) (scope_in n f) (found_in (action_in s) f.action)) (nodes_by (binding_in f.common.binding) (record_in c))
 
 abbrev pub UnderKnown : List ℕ → List ℕ → List ℕ → Under → Type 0
-UnderKnown s c env Skipped = Unit {0}
-UnderKnown s c env (Checked f) = KnownUnder s c env f
+UnderKnown s c env None = Unit {0}
+UnderKnown s c env (Some f) = KnownUnder s c env f
 
 -- the target at a place
 pub record UnderHere (s n : List ℕ) (common : Common) (at : ℕ) (r : Under) : Type 0 where

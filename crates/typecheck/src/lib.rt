@@ -3,6 +3,7 @@
 
 mod run;
 
+use names::Refusal;
 use reports::State;
 pub use run::{check, check_target, check_with, read_records, with_visits};
 use terms::Facts;
@@ -25,16 +26,15 @@ pub struct Progress {
     pub visits: usize,
 }
 
-// A target: it is skipped, or checked under its facts.
+// A target: the facts that it is checked under, or none where it is skipped.
+pub type Under = Option<Facts>;
+
+// A record that is refused: what for, and which record it is, by its number.
 #[derive(Clone, Copy)]
-pub enum Under {
-    Skipped,
-    Checked(Facts),
+pub struct RefusedRecord {
+    pub refusal: Refusal,
+    pub record: u8,
 }
 
-// The three records, read: all of them, or the number of a refusal and the record that it is about.
-#[derive(Clone, Copy)]
-pub enum Records {
-    Refused(u8, u8),
-    Read,
-}
+// The three records, read: all of them, or the first that is refused.
+pub type Records = Result<(), RefusedRecord>;

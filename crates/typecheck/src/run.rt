@@ -15,9 +15,8 @@ ghost use Rattle.typecheck.specs.Check.{profile_of, choices_of, visits_under, ch
 ghost use Rattle.typecheck.specs.Answers.{check_outcome_of, WithVisits, Spared};
 ghost use Rattle.typecheck.specs.Run.{Accepted, ReadAs, choices_in, chosen_in, KnownUnder, under_visits, UnderKnown, UnderHere, all_visits, Visited};
 
-use crate::{CheckAnswer, Progress, Records, Under};
-use names::{Found, Read};
-use reports::{Answer, State, refused};
+use crate::{CheckAnswer, Progress, Records, RefusedRecord, Under};
+use reports::{Answer, State, refuse};
 use schema::Namespace;
 use terms::{Common, Facts};
 use types::Profile;
@@ -38,7 +37,7 @@ fn nodes<'a>(
     requires lent { Lent (sink buf.old state) table.old }
     requires index { Index condition.now places.now }
     requires known_under { KnownUnder schema.now condition.now env.now facts }
-    ensures { Visited buf.old state (under_visits schema.now condition.now targets.now (Under.Checked facts)) buf.new result table.new }
+    ensures { Visited buf.old state (under_visits schema.now condition.now targets.now (Some facts)) buf.new result table.new }
 {
     let mut now = state;
     let mut i = 0;
@@ -78,7 +77,7 @@ fn under<'a>(
     requires under_known { UnderKnown schema.now condition.now env.now target }
     ensures { Visited buf.old state (under_visits schema.now condition.now targets.now target) buf.new result table.new }
 {
-    let Under::Checked(facts) = target else {
+    let Some(facts) = target else {
         return Progress { state, visits: 0 };
     };
     nodes(
@@ -87,13 +86,13 @@ fn under<'a>(
 }
 
 // Whether a target is checked: its action is undeclared, or admits an environment.
-fn is_checked(schema: &[u8], targets: &[u8], found: Found) -> bool
+fn is_checked(schema: &[u8], targets: &[u8], found: Option<usize>) -> bool
     requires schema_value { is_schema schema.now ≡ true }
     requires targets_value { are_targets targets.now ≡ true }
     requires found_value { found_stands (is_action schema.now) found ≡ true }
     ensures { result ≡ maybe true (admits_any_env (schema_in schema.now) (targets_in targets.now).scope) (found_in (action_in schema.now) found) }
 {
-    let Found::At(action) = found else {
+    let Some(action) = found else {
         return true;
     };
     resolution::admits_any_env(schema, targets, action)
@@ -115,9 +114,9 @@ fn under_target(schema: &[u8], targets: &[u8], common: Common, at: usize) -> Und
         targets::id_of(targets, at),
     );
     if is_checked(schema, targets, found) {
-        return Under::Checked(terms::facts_of(targets, found, common));
+        return Some(terms::facts_of(targets, found, common));
     }
-    Under::Skipped
+    None
 }
 
 // Each target of the record, up to the one under which a report does not fit.
@@ -244,19 +243,16 @@ fn checked<'a>(
 pub fn read_records(schema: &[u8], condition: &[u8], targets: &[u8]) -> Records
     ensures { ReadAs schema.now condition.now targets.now result }
 {
-    let first = schema::read_schema(schema);
-    let Read::Next(_) = first else {
-        return Records::Refused(names::refusal_number(first), 1);
-    };
-    let second = condition::read_condition(condition);
-    let Read::Next(_) = second else {
-        return Records::Refused(names::refusal_number(second), 2);
-    };
-    let third = targets::read_targets(targets);
-    let Read::Next(_) = third else {
-        return Records::Refused(names::refusal_number(third), 3);
-    };
-    Records::Read
+    if let Err(refusal) = schema::read_schema(schema) {
+        return Err(RefusedRecord { refusal, record: 1 });
+    }
+    if let Err(refusal) = condition::read_condition(condition) {
+        return Err(RefusedRecord { refusal, record: 2 });
+    }
+    if let Err(refusal) = targets::read_targets(targets) {
+        return Err(RefusedRecord { refusal, record: 3 });
+    }
+    Ok(())
 }
 
 // The visits under one target, the one that stands at `at`, with the caller's rules: the reached nodes are given, and the binders are put into a table.
@@ -349,9 +345,8 @@ pub fn check<'a>(
 ) -> CheckAnswer
     ensures { check_outcome_of result buf.new ≡ check schema.now condition.now targets.now buf.old }
 {
-    let records = read_records(schema, condition, targets);
-    if let Records::Refused(number, which) = records {
-        return with_visits(refused(number, which), 0);
+    if let Err(found) = read_records(schema, condition, targets) {
+        return with_visits(refuse(found.refusal, found.record), 0);
     }
     let mut table = [0u32; 2048];
     checked(
@@ -377,9 +372,8 @@ pub fn check_with<'a>(
     ensures buf_after { check_outcome_of result buf.new ≡ check_with rules schema.now condition.now targets.now buf.old }
     ensures spared { Spared result table.old table.new }
 {
-    let records = read_records(schema, condition, targets);
-    if let Records::Refused(number, which) = records {
-        return with_visits(refused(number, which), 0);
+    if let Err(found) = read_records(schema, condition, targets) {
+        return with_visits(refuse(found.refusal, found.record), 0);
     }
     reports::clear(table);
     let profile = profile_of(rules);

@@ -1,17 +1,10 @@
--- The words as they lie in the code's table, and the texts that are made of them. Assumes nothing.
---     at, rises                   the table's entry k is the word k
---     base-text, layers-text      a type's text by the table's words
---     below                       a base's word is in the table
---     repeated-room               room for a word once more
-use mathlib.Core.Path.{◌≡◌, refl, sym, ap, ◌∙◌}
-use mathlib.Core.List.{List, [], ◌∷◌, ◌++◌, append_assoc, append-nil}
-use Prim.Native.Nat.{ℕ, zero, suc, ◌+◌, ◌*◌, ◌≤◌, ◌<◌}
-use native.Mathlib.Nat.{suc-mul, mul-le-mul_right, zero-mul}
-use lib.ListN.{length, get_or, length-append}
-use lib.Dec.{lit<}
+-- The texts that are made of the table's words. Assumes nothing.
+--     base_text, layers_text      a type's text by the table's words, and its length
+--     repeated_room               room for a word once more
+use Rattle.std.proofs.Common.{◌≡◌, refl, sym, ap, ◌∙◌, ℕ, zero, suc, ◌+◌, ◌*◌, ◌≤◌, ◌<◌}
+use Rattle.std.proofs.Common.{List, ◌++◌, length, append_assoc, append-nil, length-append}
+use Rattle.std.proofs.Math.Nat.{suc-mul, mul-le-mul_right, zero-mul}
 use Rattle.names.specs.Text.{text}
-use Rattle.names.specs.Names.{same}
-use Rattle.names.specs.Laws.Tables.{Entry, right, right_below, entry}
 use Rattle.types.specs.Types.{Ty, rank, word, array, display, render}
 use Rattle.types.specs.Types as types
 use Rattle.types.specs.Laws.Texts.{array_text}
@@ -19,43 +12,6 @@ use Rattle.types.specs.Meaning.{scalar_of, base_of, tag_part, layered}
 use Rattle.types.specs.Words.{text_by, words, type_word, word_of, repeated}
 use Rattle.types.specs.declared.Base.{Base}
 use Rattle.types.specs.declared.Form.{Form}
-
-abbrev pub table : List ℕ
-table = text "intstringdecimalbooleantimepointobjectneverdatetimedurationentityarraymixed-type arrayarray<?>entity:array<>"
-
-abbrev pub starts : List ℕ
-starts = 0 ∷ 3 ∷ 9 ∷ 16 ∷ 23 ∷ 32 ∷ 38 ∷ 43 ∷ 51 ∷ 59 ∷ 65 ∷ 70 ∷ 86 ∷ 94 ∷ 94 ∷ 101 ∷ 107 ∷ 108 ∷ []
-
--- one computed test for the whole table
-pub at : (k : ℕ) → k < 17 → Entry table starts type_word k
-unfolding words right right_below same text
-at k h = entry table starts type_word 17 refl k h
-
-pub rises : (k : ℕ) → k < 17 → get_or starts k 0 ≤ get_or starts (k + 1) 0
-rises k h = (at k h).start
-
-rank_below : (a : types.Scalar) → rank a < 17
-rank_below types.long = lit< tt
-rank_below types.string = lit< tt
-rank_below types.decimal = lit< tt
-rank_below types.bool = lit< tt
-rank_below types.timepoint = lit< tt
-rank_below types.object = lit< tt
-rank_below types.never = lit< tt
-rank_below types.datetime = lit< tt
-rank_below types.duration = lit< tt
-
-word_below : (f : Form) (x : Base) → word_of f x < 17
-word_below f (Base.Plain a) = rank_below (scalar_of a)
-word_below Form.Display (Base.Tagged t) = lit< tt
-word_below Form.Render (Base.Tagged t) = lit< tt
-word_below f Base.Untagged = lit< tt
-word_below f Base.AnyArray = lit< tt
-word_below Form.Display Base.MixedArray = lit< tt
-word_below Form.Render Base.MixedArray = lit< tt
-
-pub below : (f : Form) (x : Base) (k : ℕ) → k ≡ word_of f x → k < 17
-below f x k is = rw is (word_below f x)
 
 scalar_word : (a : types.Scalar) → word a ≡ type_word (rank a)
 unfolding words
@@ -100,8 +56,9 @@ pub repeated_room : (i n : ℕ) (s : List ℕ) → i < n → length (repeated i 
 repeated_room i n s h = rw (length_repeated i s, length_repeated n s, ← suc-mul i (length s)) (mul-le-mul_right (length s) h)
 
 -- the opening of each layer, the text under them, and the closing of each layer
-pub layers_text : (f : Form) (n : ℕ) (t : Ty) → text_by f (layered n t) ≡ repeated n (type_word 15) ++ text_by f t ++ repeated n (type_word 16)
-unfolding layered repeated words
+pub layers_text : (f : Form) (n : ℕ) (t : Ty)
+    → text_by f (layered n t) ≡ repeated n (text "array<") ++ text_by f t ++ repeated n (text ">")
+unfolding layered repeated
 layers_text f zero t = sym (append-nil (text_by f t))
 layers_text f (suc n) t =
     let o : List ℕ = text "array<" in
@@ -120,5 +77,7 @@ layers_text f (suc n) t =
       append_assoc (os ++ o) w (zs ++ z),
     )
 
-pub layers_length : (f : Form) (n : ℕ) (t : Ty) → length (text_by f (layered n t)) ≡ length (repeated n (type_word 15)) + length (text_by f t) + length (repeated n (type_word 16))
+pub layers_length : (f : Form) (n : ℕ) (t : Ty)
+    → length (text_by f (layered n t))
+    ≡ length (repeated n (text "array<")) + length (text_by f t) + length (repeated n (text ">"))
 layers_length f n t = rw (layers_text f n t, length-append, length-append)

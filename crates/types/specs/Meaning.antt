@@ -1,11 +1,11 @@
 -- What the code's types mean, given the bytes of the schema and of the condition.
-use Rattle.std.specs.Prelude.{ℕ, zero, suc, List, [], take, drop}
+use Rattle.std.specs.Prelude.{ℕ, zero, suc, List, [], take, drop, Some, None}
+use Rattle.std.specs.Prelude as std
 use Rattle.std.proofs.Math.Option.{Option, none, some}
 use Rattle.types.specs.Types.{Ty, scalar, entity, any_array, mixed_array, array}
 use Rattle.types.specs.Types as types
 use Rattle.types.specs.declared.Profile.{Profile}
 use Rattle.types.specs.declared.Scalar.{Scalar}
-use Rattle.types.specs.declared.TimeType.{TimeType}
 use Rattle.types.specs.declared.Source.{Source}
 use Rattle.types.specs.declared.Tag.{Tag}
 use Rattle.types.specs.declared.Base.{Base}
@@ -23,9 +23,9 @@ scalar_of Scalar.Datetime = types.datetime
 scalar_of Scalar.Duration = types.duration
 
 -- the type that an answer of `time_type` names
-abbrev pub time_of : TimeType → Option types.Scalar
-time_of (TimeType.As a) = some (scalar_of a)
-time_of TimeType.Nothing = none
+abbrev pub time_of : std.Option Scalar → Option types.Scalar
+time_of (Some a) = some (scalar_of a)
+time_of None = none
 
 -- the profile that the code's enum stands for
 abbrev pub profile_in : Profile → types.Profile

@@ -1,10 +1,9 @@
--- The rules in which the tests of two types differ, by the code's enum, and the tests on two bases, case by case.
+-- The rules in which the tests of two types differ, by the code's enum, and what fits beside more layers.
 use Rattle.std.specs.Prelude.{Bool, true, false, List, ℕ}
 use Rattle.std.proofs.Math.Option.{Option}
-use Rattle.types.specs.Types.{Ty, fits, same_tag, tag_fits, tags_under, same_scalar}
-use Rattle.types.specs.Meaning.{scalar_of, profile_in}
+use Rattle.types.specs.Types.{Ty, fits, same_tag, tag_fits, tags_under}
+use Rattle.types.specs.Meaning.{profile_in}
 use Rattle.types.specs.declared.Profile.{Profile}
-use Rattle.types.specs.declared.Scalar.{Scalar}
 use Rattle.types.specs.declared.Base.{Base}
 use Rattle.types.specs.declared.Test.{Test}
 
@@ -32,35 +31,6 @@ tags_by (Test.Compatible p) = tags_under (profile_in p)
 -- `same_type`, `accepts` and `compatible`
 abbrev pub fits_by : Test → Ty → Ty → Bool
 fits_by r = fits (tags_by r) (loose r)
-
--- what fits beside a scalar; beside an entity without a tag; beside an array of unknown elements, of mixed ones
-abbrev pub plain_fits : Scalar → Base → Bool
-plain_fits a (Base.Plain b) = same_scalar (scalar_of a) (scalar_of b)
-plain_fits a (Base.Tagged t) = false
-plain_fits a Base.Untagged = false
-plain_fits a Base.AnyArray = false
-plain_fits a Base.MixedArray = false
-
-abbrev pub untagged_fits : Bool → Base → Bool
-untagged_fits l (Base.Plain b) = false
-untagged_fits l (Base.Tagged t) = l
-untagged_fits l Base.Untagged = true
-untagged_fits l Base.AnyArray = false
-untagged_fits l Base.MixedArray = false
-
-abbrev pub any_array_fits : Bool → Base → Bool
-any_array_fits l (Base.Plain b) = false
-any_array_fits l (Base.Tagged t) = false
-any_array_fits l Base.Untagged = false
-any_array_fits l Base.AnyArray = true
-any_array_fits l Base.MixedArray = l
-
-abbrev pub mixed_array_fits : Bool → Base → Bool
-mixed_array_fits l (Base.Plain b) = false
-mixed_array_fits l (Base.Tagged t) = false
-mixed_array_fits l Base.Untagged = false
-mixed_array_fits l Base.AnyArray = l
-mixed_array_fits l Base.MixedArray = true
 
 -- which bases fit beside a type with more layers
 abbrev pub unknown_fits : Bool → Base → Bool

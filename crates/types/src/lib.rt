@@ -1,6 +1,9 @@
 // The types that the checks compare: a number of array layers over a base. Their tests, and their texts.
 #![tactic(auto)]
 
+ghost use Rattle.std.specs.Prelude.{◌≡◌};
+ghost use Rattle.types.specs.declared.Base.TheVariants.{Plain};
+
 mod fitting;
 mod tags;
 mod texts;
@@ -11,7 +14,7 @@ pub use tags::tag_bytes;
 pub use texts::{display, render, text_length};
 pub use times::time_type;
 
-#[derive(Clone, Copy)]
+#[derive(Clone, Copy, PartialEq, Eq)]
 pub enum Scalar {
     Long,
     String,
@@ -22,13 +25,6 @@ pub enum Scalar {
     Never,
     Datetime,
     Duration,
-}
-
-// The type that a word names, where it is `datetime` or `duration`.
-#[derive(Clone, Copy)]
-pub enum TimeType {
-    As(Scalar),
-    Nothing,
 }
 
 // The record that holds a tag.
@@ -61,6 +57,24 @@ pub enum Base {
 pub struct Rich {
     pub layers: usize,
     pub base: Base,
+}
+
+// A base with no layers over it.
+impl From<Base> for Rich {
+    ghost from_gives = { λ base r. r ≡ record { layers = 0; base = base } };
+
+    fn from(base: Base) -> Rich {
+        Rich { layers: 0, base }
+    }
+}
+
+// A scalar with no layers over it.
+impl From<Scalar> for Rich {
+    ghost from_gives = { λ a r. r ≡ record { layers = 0; base = Plain a } };
+
+    fn from(scalar: Scalar) -> Rich {
+        Rich::from(Base::Plain(scalar))
+    }
 }
 
 // How an equality takes two entities: plain, any two are compatible, as in the Rust; strict, two known, different tags are not.

@@ -3,85 +3,53 @@ ghost use Rattle.std.specs.Prelude.{◌≡◌, ◌+◌, ◌≤◌, ◌<◌, leng
 ghost use Rattle.names.specs.Writer.{Stored};
 ghost use Rattle.types.specs.Types.{display, render};
 ghost use Rattle.types.specs.Meaning.{base_of, rich_of};
-ghost use Rattle.types.specs.Words.{text_by, type_word, mixed_word, tag_mark, word_of, repeated};
+ghost use Rattle.types.specs.Words.{text_by, type_word, word_of, repeated};
 
-use crate::fitting::rank_of;
 use crate::tags::tag_part;
 use crate::{Base, Form, Rich};
 
-// The words, one behind the other, and where each starts and the last one ends.
-const WORDS: [u8; 108] =
-    *b"intstringdecimalbooleantimepointobjectneverdatetimedurationentityarraymixed-type arrayarray<?>entity:array<>";
-
-const STARTS: [usize; 18] = [
-    0, 3, 9, 16, 23, 32, 38, 43, 51, 59, 65, 70, 86, 94, 94, 101, 107, 108,
+// The scalars' words, in the order of `Scalar`: a constant table, as document 01 names it.
+const WORDS: [&[u8]; 9] = [
+    b"int",
+    b"string",
+    b"decimal",
+    b"boolean",
+    b"timepoint",
+    b"object",
+    b"never",
+    b"datetime",
+    b"duration",
 ];
 
-const ENTITY: usize = 9;
+// What opens and what closes a layer.
+const OPEN: &[u8] = b"array<";
 
-const ARRAY: usize = 10;
+const CLOSE: &[u8] = b">";
 
-const OPEN: usize = 15;
-
-const CLOSE: usize = 16;
-
-fn mixed_word(form: Form) -> usize
-    ensures { result ≡ mixed_word form }
+// The word of a base, which its tag follows where it has one.
+#[tactic(auto, unfolding(crate::specs::Words::words, names::specs::Text::text))]
+fn word_of(form: Form, base: Base) -> &'static [u8]
+    ensures { result.now ≡ type_word (word_of form base) }
 {
-    match form {
-        Form::Display => 11,
-        Form::Render => 12,
+    match (base, form) {
+        (Base::Plain(a), _) => WORDS[a as usize],
+        (Base::Tagged(_), Form::Display) => b"",
+        (Base::Tagged(_), Form::Render) => b"entity:",
+        (Base::Untagged, _) => b"entity",
+        (Base::AnyArray, _) => b"array",
+        (Base::MixedArray, Form::Display) => b"mixed-type array",
+        (Base::MixedArray, Form::Render) => b"array<?>",
     }
 }
 
-fn tag_mark(form: Form) -> usize
-    ensures { result ≡ tag_mark form }
-{
-    match form {
-        Form::Display => 13,
-        Form::Render => 14,
-    }
-}
-
-// The word of a base.
-fn word_of(form: Form, base: Base) -> usize
-    ensures { result ≡ word_of form base }
-{
-    match base {
-        Base::Plain(a) => rank_of(a),
-        Base::Tagged(_) => tag_mark(form),
-        Base::Untagged => ENTITY,
-        Base::AnyArray => ARRAY,
-        Base::MixedArray => mixed_word(form),
-    }
-}
-
-fn word_length(k: usize) -> usize
-    requires { k < 17 }
-    ensures { result ≡ length (type_word k) }
-{
-    STARTS[k + 1] - STARTS[k]
-}
-
-fn put_word(buf: &mut [u8], at: usize, k: usize) -> usize
-    requires { (k < 17) × (at + length (type_word k) ≤ length buf.old) }
-    ensures { Stored buf.old at (type_word k) buf.new result }
-{
-    let start = STARTS[k];
-    let end = STARTS[k + 1];
-    let words = WORDS;
-    names::put(buf, at, &words[start..end])
-}
-
-fn put_words(buf: &mut [u8], at: usize, k: usize, n: usize) -> usize
-    requires { (k < 17) × (at + length (repeated n (type_word k)) ≤ length buf.old) }
-    ensures { Stored buf.old at (repeated n (type_word k)) buf.new result }
+// The word, `n` times.
+fn put_words(buf: &mut [u8], at: usize, word: &[u8], n: usize) -> usize
+    requires { at + length (repeated n word.now) ≤ length buf.old }
+    ensures { Stored buf.old at (repeated n word.now) buf.new result }
 {
     let mut next = at;
-    let mut i = 0;
-    while i < n {
-        next = put_word(buf, next, k);
-        i += 1;
+    for _ in 0..n {
+        next = names::put(buf, next, word);
     }
     next
 }
@@ -98,7 +66,7 @@ fn put_base<'a>(
     requires { at + length (text_by form (base_of schema.now condition.now base)) ≤ length buf.old }
     ensures { Stored buf.old at (text_by form (base_of schema.now condition.now base)) buf.new result }
 {
-    let next = put_word(buf, at, word_of(form, base));
+    let next = names::put(buf, at, word_of(form, base));
     names::put(buf, next, tag_part(schema, condition, base))
 }
 
@@ -113,12 +81,13 @@ fn put_type<'a>(
     requires { at + length (text_by form (rich_of schema.now condition.now t)) ≤ length buf.old }
     ensures { Stored buf.old at (text_by form (rich_of schema.now condition.now t)) buf.new result }
 {
-    let layers = t.layers;
-    let base = t.base;
-    let opened = put_words(buf, at, OPEN, layers);
-    let named = put_base(buf, opened, schema, condition, form, base);
-    put_words(buf, named, CLOSE, layers)
+    let opened = put_words(buf, at, OPEN, t.layers);
+    let named = put_base(buf, opened, schema, condition, form, t.base);
+    put_words(buf, named, CLOSE, t.layers)
 }
+
+// `display` and `render` are two names for one path: each promises the text of a definition that
+// other crates cite.
 
 // Writes what a type is called in a message.
 pub fn display<'a>(
@@ -153,9 +122,7 @@ pub fn text_length<'a>(schema: &'a [u8], condition: &'a [u8], form: Form, t: Ric
     requires { length (text_by form (rich_of schema.now condition.now t)) < 18446744073709551616 }
     ensures { result ≡ length (text_by form (rich_of schema.now condition.now t)) }
 {
-    let layers = t.layers;
-    let base = t.base;
-    let word = word_length(word_of(form, base));
-    let tag = tag_part(schema, condition, base);
-    layers * 7 + (word + tag.len())
+    let word = word_of(form, t.base);
+    let tag = tag_part(schema, condition, t.base);
+    t.layers * (OPEN.len() + CLOSE.len()) + (word.len() + tag.len())
 }

@@ -11,21 +11,20 @@ use Rattle.names.specs.Laws.Lists.{gather_append}
 use Rattle.names.specs.Read.{Listed}
 use Rattle.names.specs.Laws.Rows.{ListedFirst, listed_over, listed_first}
 use Rattle.nodes.specs.declared.Several.{Several}
-use Rattle.nodes.specs.declared.NextAggregate.{NextAggregate}
-use Rattle.nodes.specs.declared.NextAggregate.TheVariants.{At, Done}
 use Rattle.condition.specs.Condition.{param_ref, timepoint, Binder, binder}
 use Rattle.condition.specs.Walk.{declared_by, operand_aggregates, operand_binders, declares, binders, named_ones}
 use Rattle.condition.specs.Places.{record_in, is_condition, condition_in, is_aggregate, aggregate_in, is_binder, binder_in}
 use Rattle.nodes.specs.Offsets.{first_part}
 use Rattle.nodes.specs.Looked.{Skipped, KindHere, AggregateKindHere, QuantifiedHere}
 use Rattle.nodes.specs.Laws.Inside.{quantified_inside}
-use Rattle.nodes.specs.Parts.{is_binders, binders_in, BindersHere, is_terms, aggregates_in, AggregateNext, NextIs, OperandsHere}
+use Rattle.nodes.specs.Parts.{is_binders, binders_in, BindersHere, is_terms, aggregates_in, AggregateNext, NextIs, OperandsHere, NextPart}
 use Rattle.walk.specs.Index.{nodes_of, Index, Reached}
 use Rattle.walk.specs.Environment.{MayDeclare, Declared}
 use Rattle.condition.specs.Laws.Sizes.{named_append}
 use Rattle.nodes.specs.Laws.Pieces.{counted_here}
 use Rattle.walk.proofs.Bindings.{binders_index, call_declares, declares_none}
 use Rattle.walk.proofs.Environments.{same_table, declared_more}
+use Rattle.std.specs.Prelude.{Some, None}
 
 -- What is done and what is left make all, for which there is room.
 pub record Progress (s : List ℕ) (all : List Binder) (old : List ℕ) (before : ℕ) (left : List Binder) (table : List ℕ) (n : ℕ) : Type 0 where
@@ -59,17 +58,19 @@ pub record BindersOn (s : List ℕ) (start : ℕ) (old : List ℕ) (before n at 
   pub so : Progress s (binders_in s start) old before left table m
 
 module _ (s : List ℕ) (start : ℕ) (t : List ℕ) (a : ℕ) where
-  pub binders_begin : is_binders s start ≡ true → MayDeclare s (binders_in s start) t a → (n : ℕ) → n ≡ get_or s start 0 → BindersOn s start t a n (start + 1) t a
+  pub binders_begin : is_binders s start ≡ true → MayDeclare s (binders_in s start) t a → (n : ℕ) → n ≡ get_or s start 0 → BindersOn s start t a (n - 0) (start + 1) t a
   unfolding binders_in
-  binders_begin acc h n e = record { left = binders_in s start; there = rw e (counted_here binder s start acc); so = nothing_done s (binders_in s start) t a h }
+  binders_begin acc h n e =
+      let all : n - 0 ≡ n = omega arith in
+      record { left = binders_in s start; there = rw (all, e) (counted_here binder s start acc); so = nothing_done s (binders_in s start) t a h }
 
-  module _ (n at : ℕ) (u : List ℕ) (b : ℕ) (inv : BindersOn s start t a n at u b) where
-    pub binders_done : n ≤ 0 → Declared s (binders_in s start) t a u b
-    binders_done h = all_done s (binders_in s start) t a inv.left (listed_over binder s inv.left n at h inv.there) inv.so
+  module _ (end i at : ℕ) (u : List ℕ) (b : ℕ) (inv : BindersOn s start t a (end - i) at u b) where
+    pub binders_done : end ≤ i → Declared s (binders_in s start) t a u b
+    binders_done h = all_done s (binders_in s start) t a inv.left (listed_over binder s inv.left (end - i) at (omega arith) inv.there) inv.so
 
-    module _ (h : 0 < n) where
-      first : ListedFirst binder s (record { slot = param_ref; annotation = timepoint }) inv.left n at
-      first = listed_first binder s (record { slot = param_ref; annotation = timepoint }) inv.left n at h inv.there
+    module _ (h : i < end) where
+      first : ListedFirst binder s (record { slot = param_ref; annotation = timepoint }) inv.left (end - i) at
+      first = listed_first binder s (record { slot = param_ref; annotation = timepoint }) inv.left (end - i) at (omega arith) inv.there
 
       ahead : Progress s (binders_in s start) t a ((binder_in s at ∷ []) ++ first.others) u b
       unfolding binder_in
@@ -81,8 +82,10 @@ module _ (s : List ℕ) (start : ℕ) (t : List ℕ) (a : ℕ) where
       pub binder_may : MayDeclare s (binder_in s at ∷ []) u b
       binder_may = next_may s _ t a (binder_in s at ∷ []) first.others ahead
 
-      pub binders_next : (v : List ℕ) (c : ℕ) → Declared s (binder_in s at ∷ []) u b v c → (m : ℕ) → Skipped (binder s at) at m → BindersOn s start t a (n - 1) m v c
-      binders_next v c q m z = record { left = first.others; there = first.on m (sym z.ends); so = more_done s _ t a (binder_in s at ∷ []) first.others ahead q }
+      pub binders_next : (v : List ℕ) (c : ℕ) → Declared s (binder_in s at ∷ []) u b v c → (m : ℕ) → Skipped (binder s at) at m → BindersOn s start t a (end - (i + 1)) m v c
+      binders_next v c q m z =
+          let less : end - (i + 1) ≡ (end - i) - 1 = omega arith in
+          record { left = first.others; there = rw less (first.on m (sym z.ends)); so = more_done s _ t a (binder_in s at ∷ []) first.others ahead q }
 
 pub ruleset declaring_row = (rules, binders_index, binders_begin, binders_done, binder_stands, binder_may, binders_next)
 
@@ -116,12 +119,12 @@ module _ (s : List ℕ) where
   pub operands_begin : (at : ℕ) (r : Several) → OperandsHere s at r → (t : List ℕ) (a : ℕ) → MayDeclare s (declares (condition_in s at)) t a → AggregatesOn s (declares (condition_in s at)) t a r t a
   operands_begin at r h t a k = record { stands = h.stands; so = rw (← comparison_declares s at r h) (nothing_done s (declares (condition_in s at)) t a k) }
 
-  module _ (all : List Binder) (t : List ℕ) (a : ℕ) (r : Several) (u : List ℕ) (b : ℕ) (inv : AggregatesOn s all t a r u b) (x : NextAggregate) (y : NextIs s (aggregates_in s r.count r.first) x) where
-    pub operands_done : x ≡ Done → Declared s all t a u b
+  module _ (all : List Binder) (t : List ℕ) (a : ℕ) (r : Several) (u : List ℕ) (b : ℕ) (inv : AggregatesOn s all t a r u b) (x : NextPart) (y : NextIs s (aggregates_in s r.count r.first) x) where
+    pub operands_done : x ≡ None → Declared s all t a u b
     unfolding gather
     operands_done e = all_done s all t a _ (ap (gather declared_by) (rw e at y)) inv.so
 
-    module _ (p : ℕ) (rest : Several) (e : x ≡ At p rest) where
+    module _ (p : ℕ) (rest : Several) (e : x ≡ Some (p, rest)) where
       opened : AggregateNext s (aggregates_in s r.count r.first) p rest
       opened = rw e at y
 

@@ -2,7 +2,7 @@
 use mathlib.Core.Path.{◌≡◌, refl, sym, ap, ◌∙◌}
 use mathlib.Core.Bool.{Bool, true, false, cond}
 use mathlib.Core.List.{List, [], ◌∷◌, ◌++◌}
-use Prim.Native.Nat.{ℕ, ◌+◌, ◌*◌, ◌-◌, ◌≤◌, ◌<◌}
+use Prim.Native.Nat.{ℕ, ◌+◌, ◌*◌, ◌-◌, ◌/◌, ◌≤◌, ◌<◌}
 use native.Mathlib.Omega.{arith}
 use borrow.Author.Count.{below_more}
 use borrow.Author.Rules.{rules}
@@ -10,7 +10,6 @@ use borrow.Rule.Slice.PartMut.{put_mid, mid_len, same_len_mid, take_put, drop_pu
 use lib.ListN.{length, get_or, take, drop, set, length-append, length-take, length-drop, length-set}
 use lib.Seq.{length-take-le, take_at, drop_at, take-append-le, take-take, take-set-le, get_or-take, get_or-drop, get_or-set_same, get_or-set_other, ext_get_or}
 use Rattle.walk.specs.declared.Directory.{Directory}
-use Rattle.names.specs.declared.Found.TheVariants.{At, Absent}
 use Rattle.names.specs.Lists.{select}
 use Rattle.names.specs.Laws.Rows.{listed_length}
 use Rattle.nodes.specs.declared.Bound.{Bound}
@@ -30,6 +29,7 @@ use Rattle.walk.proofs.Environments.{entries_fit, environment-is}
 use Rattle.walk.proofs.Bindings.{binders_index}
 use Rattle.walk.proofs.Holders.{held_aggregate, holder_index, aggregate_stands, no_call}
 use Rattle.walk.proofs.Lookups.{holder_of}
+use Rattle.std.specs.Prelude.{Some, None}
 
 -- ---- an entry of the directory
 
@@ -42,7 +42,13 @@ module _ (table : List ℕ) (h : 3 * list_count table < length table) where
   pub left_all : (n : ℕ) → n ≡ list_count table → Left table 0 n
   left_all n e = record { met = omega arith; within = omega arith }
 
-  module _ (low high : ℕ) (l : Left table low high) (m : ℕ) (a : low ≤ m) (b : m < high) where
+  module _ (low high : ℕ) (l : Left table low high) (some : low < high) (m : ℕ) (middle : m ≡ (low + high) / 2) where
+    a : low ≤ m
+    a = omega arith
+
+    b : m < high
+    b = omega arith
+
     pub entry-fits : 3 * m + 4 ≤ length table
     entry-fits = omega (arith, l.within)
 
@@ -56,11 +62,11 @@ module _ (table : List ℕ) (h : 3 * list_count table < length table) where
       pub entry_index : e < length table
       entry_index = omega (arith, entry-fits)
 
-      pub entry_found : (p at : ℕ) → p ≡ get_or table e 0 → p ≡ at → EntryOf table at (At e)
+      pub entry_found : (p at : ℕ) → p ≡ get_or table e 0 → p ≡ at → EntryOf table at (Some e)
       unfolding EntryOf
       entry_found p at v w = (record { number = m; counted = omega (arith, l.within); there = is }, sym v ∙ w)
 
-pub entry_absent : (table : List ℕ) (at : ℕ) → EntryOf table at Absent
+pub entry_absent : (table : List ℕ) (at : ℕ) → EntryOf table at None
 unfolding EntryOf
 entry_absent table at = tt
 
@@ -254,12 +260,11 @@ row_holder s t i h p e n l = rw e (h.holds (omega arith))
 pub ruleset listing_holder = (rules, no_more, holder_index, aggregate_stands, no_call, row_holder)
 
 -- in a table that begins with rows
-pub record ListingOn (s old : List ℕ) (rows : ℕ) (table : List ℕ) (d : Directory) (row : ℕ) : Type 0 where
+pub record ListingOn (s old : List ℕ) (rows : ℕ) (table : List ℕ) (d : Directory) : Type 0 where
   pub so : MoreLists s old rows table d
-  pub turns : 2 * row ≤ rows + 1
 
 module _ (s t : List ℕ) (rows : ℕ) (h : RowsOnly s t rows) where
-  pub rows_begin : ListingOn s t rows t (record { free = rows; count = 0; last = 0 }) 0
+  pub rows_begin : ListingOn s t rows t (record { free = rows; count = 0; last = 0 })
   rows_begin = record {
     so = record {
       may = record { small = h.small; short = h.short; so = record { room = omega (arith, h.room); each = λ k l. absurd (omega arith) } };
@@ -267,14 +272,16 @@ module _ (s t : List ℕ) (rows : ℕ) (h : RowsOnly s t rows) where
       before = λ i l. refl;
       size = refl;
     };
-    turns = omega arith;
   }
 
   count_rows : rows ≡ 2 * length (nodes_of s)
   count_rows = sym (length-take-le rows t (omega (arith, h.room))) ∙ h.enclosing.size
 
-  module _ (u : List ℕ) (d : Directory) (row : ℕ) (inv : ListingOn s t rows u d row) where
-    module _ (l : 2 * row < rows) where
+  module _ (u : List ℕ) (d : Directory) (inv : ListingOn s t rows u d) where
+    module _ (row : ℕ) (turn : row < rows / 2) where
+      l : 2 * row < rows
+      l = omega arith
+
       pub row_index : 2 * row < length u
       row_index = omega (arith, inv.so.size, h.room)
 
@@ -283,7 +290,7 @@ module _ (s t : List ℕ) (rows : ℕ) (h : RowsOnly s t rows) where
           let e : get_or u (2 * row) 0 ≡ get_or (take rows t) (2 * row) 0 = inv.so.before (2 * row) l ∙ sym (get_or-take rows t (2 * row) 0 l) in
           record { holds = λ z. rw e (holder_of s (take rows t) row _ (h.enclosing.rows row (omega (arith, count_rows))) (λ q. omega (arith, e))) }
 
-      pub rows_next : (v : List ℕ) (c : Directory) → MoreLists s u d.free v c → ListingOn s t rows v c (row + 1)
+      pub rows_next : (v : List ℕ) (c : Directory) → MoreLists s u d.free v c → ListingOn s t rows v c
       rows_next v c m = record {
         so = record {
           may = m.may;
@@ -291,7 +298,6 @@ module _ (s t : List ℕ) (rows : ℕ) (h : RowsOnly s t rows) where
           before = λ i k. m.before i (omega (arith, inv.so.further)) ∙ inv.so.before i k;
           size = m.size ∙ inv.so.size;
         };
-        turns = omega arith;
       }
 
     pub row_may : MayList s u d

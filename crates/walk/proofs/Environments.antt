@@ -13,7 +13,7 @@ use lib.Seq.{length-take-le, take-set-lt, get_or-set_same, get_or-set_other}
 use Rattle.names.specs.Lists.{maybe, select}
 use Rattle.names.specs.Names.{same, below}
 use Rattle.names.specs.Laws.Names.{same_refl, same_eq, below_order, order_refl}
-use Rattle.walk.specs.declared.Spot.{Spot}
+use Rattle.std.specs.Prelude.{Result, Ok, Err}
 use Rattle.nodes.specs.declared.Bound.{Bound}
 use Rattle.nodes.specs.declared.Bound.TheVariants.{Nothing}
 use Rattle.condition.specs.Condition.{Slot, named, param_ref, binder_ref, Annotation, Binder, slot}
@@ -22,7 +22,7 @@ use Rattle.condition.specs.Places.{is_record, record_in, is_slot, is_annotation,
 use Rattle.condition.specs.Laws.Sizes.{named_append, record_bytes}
 use Rattle.nodes.specs.Looked.{Skipped}
 use Rattle.nodes.specs.Parts.{BoundBy, name_in}
-use Rattle.walk.specs.Environment.{name_at, Sorted, Entry, Environment, SomeEnvironment, SaysOf, SpotOf, insert_at, Inserted, MayDeclare, Declared}
+use Rattle.walk.specs.Environment.{name_at, Sorted, Entry, Environment, SomeEnvironment, SaysOf, SpotOf, Stands, Belongs, insert_at, Inserted, MayDeclare, Declared}
 use Rattle.condition.specs.Laws.Records.{record_small}
 use Rattle.walk.proofs.ByPlace.{prefix}
 use Rattle.walk.specs.Laws.Named.{last_append}
@@ -205,46 +205,54 @@ module _ (s : List ℕ) where
     short : length (take n old) ≡ n
     short = length-take-le n old (omega (arith, may.room))
 
-    module _ (has : has_name (binder_in s at).slot ≡ true) (p : Spot) (o : SpotOf s (take n old) (name_in s at) p) where
+    module _ (has : has_name (binder_in s at).slot ≡ true) (r : Result ℕ ℕ) (o : SpotOf s (take n old) (name_in s at) r) (i : ℕ) where
       one_named : length (named_ones (binder_in s at ∷ [])) ≡ 1
       unfolding named_ones select
       one_named = rw has
 
-      module _ (is : p.found ≡ true) where
-        spot_count : p.at < n
-        spot_count = rw short at (o.found is).0
+      module _ (is : r ≡ Ok i) where
+        here_spot : Stands s (take n old) (name_in s at) i
+        unfolding SpotOf
+        here_spot = rw is at o
 
-        pub spot_index : p.at < length old
+        spot_count : i < n
+        spot_count = rw short at here_spot.within
+
+        pub spot_index : i < length old
         spot_index = omega (arith, spot_count, may.room)
 
-        pub replaced_table : (t : List ℕ) → t ≡ set old p.at at → Declared s (binder_in s at ∷ []) old n t n
+        pub replaced_table : (t : List ℕ) → t ≡ set old i at → Declared s (binder_in s at ∷ []) old n t n
         replaced_table t e =
-            let f : take n t ≡ set (take n old) p.at at = ap (take n) e ∙ take-set-lt n old p.at at spot_count in
+            let f : take n t ≡ set (take n old) i at = ap (take n) e ∙ take-set-lt n old i at spot_count in
             record {
-              sorted = rw f (set_sorted s _ at p.at (o.found is).0 (o.found is).1 may.sorted);
+              sorted = rw f (set_sorted s _ at i here_spot.within here_spot.here may.sorted);
               count = omega arith;
-              size = ap length e ∙ length-set old p.at at;
-              on = λ bs env. rw f (replaced_on s bs _ env at acc has p.at (o.found is).0 (o.found is).1);
+              size = ap length e ∙ length-set old i at;
+              on = λ bs env. rw f (replaced_on s bs _ env at acc has i here_spot.within here_spot.here);
             }
 
-      module _ (is : p.found ≡ false) where
-        pub insert_index : p.at ≤ n
-        insert_index = rw short at o.within
+      module _ (is : r ≡ Err i) where
+        new_spot : Belongs s (take n old) (name_in s at) i
+        unfolding SpotOf
+        new_spot = rw is at o
+
+        pub insert_index : i ≤ n
+        insert_index = rw short at new_spot.within
 
         pub insert_room : n < length old
         insert_room = omega (arith, may.room, one_named)
 
-        pub inserted_table : (t : List ℕ) → Inserted old n p.at at t → Declared s (binder_in s at ∷ []) old n t (n + 1)
+        pub inserted_table : (t : List ℕ) → Inserted old n i at t → Declared s (binder_in s at ∷ []) old n t (n + 1)
         inserted_table t e = record {
-          sorted = rw e.entries (insert_sorted s _ at p.at o.within o.before (o.missing is) may.sorted);
+          sorted = rw e.entries (insert_sorted s _ at i new_spot.within new_spot.before new_spot.missing may.sorted);
           count = omega (arith, one_named);
           size = e.size;
-          on = λ bs env. rw e.entries (inserted_on s bs _ env at acc has p.at o.within o.before (o.missing is));
+          on = λ bs env. rw e.entries (inserted_on s bs _ env at acc has i new_spot.within new_spot.before new_spot.missing);
         }
 
 -- the name as the code has it
-pub spot_there : (s l : List ℕ) (at : ℕ) (w : List ℕ) → w ≡ name_in s at → (p : Spot) → SpotOf s l w p → SpotOf s l (name_in s at) p
-spot_there s l at w e p o = rw e at o
+pub spot_there : (s l : List ℕ) (at : ℕ) (w : List ℕ) → w ≡ name_in s at → (r : Result ℕ ℕ) → SpotOf s l w r → SpotOf s l (name_in s at) r
+spot_there s l at w e r o = rw e at o
 
 pub named-is : (s : List ℕ) (at : ℕ) (b : Bool) → b ≡ has_name (binder_in s at).slot → b ≡ true → has_name (binder_in s at).slot ≡ true
 named-is s at b e h = sym e ∙ h
@@ -275,21 +283,25 @@ pub ruleset beginning = (rules, room_for_all, entries_fit, environment-is)
 
 -- ---- the search for a name
 
-module _ (s table name : List ℕ) (h : SomeEnvironment s table) (p : Spot) (o : SpotOf s table name p) where
-  module _ (is : p.found ≡ true) where
-    pub found_index : p.at < length table
-    found_index = (o.found is).0
+module _ (s table name : List ℕ) (h : SomeEnvironment s table) (a : Result ℕ ℕ) (o : SpotOf s table name a) (i : ℕ) where
+  module _ (is : a ≡ Ok i) where
+    here_found : Stands s table name i
+    unfolding SpotOf
+    here_found = rw is at o
 
-    module _ (q : ℕ) (e : q ≡ get_or table p.at 0) where
+    pub found_index : i < length table
+    found_index = here_found.within
+
+    module _ (q : ℕ) (e : q ≡ get_or table i 0) where
       found : (bs : List Binder) → Environment s bs table → Entry s bs q
-      found bs env = rw e (env.entries p.at found_index)
+      found bs env = rw e (env.entries i found_index)
 
       stands : is_binder s q ≡ true
       stands = (found h.declared h.is).stands
 
       found_name : name_in s q ≡ name
       unfolding name_at
-      found_name = ap (λ m. name_in s m) e ∙ (o.found is).1
+      found_name = ap (λ m. name_in s m) e ∙ here_found.here
 
       pub found_slot : is_slot s q ≡ true
       found_slot = binder_slot s q stands
@@ -305,12 +317,13 @@ module _ (s table name : List ℕ) (h : SomeEnvironment s table) (p : Spot) (o :
               rw f y;
         }
 
-  pub none_says : p.found ≡ false → SaysOf s table name Nothing
-  none_says is = record { of = λ bs env. rw (env.complete name (λ i l. differ i l (ltb i p.at) refl)) (says_nothing s) }
+  pub none_says : a ≡ Err i → SaysOf s table name Nothing
+  unfolding SpotOf
+  none_says is = record { of = λ bs env. rw (env.complete name (λ k l. differ (rw is at o) k l (ltb k i) refl)) (says_nothing s) }
     where
-      differ : (i : ℕ) → i < length table → (b : Bool) → ltb i p.at ≡ b → same (name_at s table i) name ≡ false
-      differ i l true e = below_differs _ _ (o.before i (ltb-true i p.at e))
-      differ i l false e = above_differs _ _ (o.missing is i (ltb-false i p.at e) l)
+      differ : Belongs s table name i → (k : ℕ) → k < length table → (b : Bool) → ltb k i ≡ b → same (name_at s table k) name ≡ false
+      differ new k l true e = below_differs _ _ (new.before k (ltb-true k i e))
+      differ new k l false e = above_differs _ _ (new.missing k (ltb-false k i e) l)
 
 pub some_sorted : (s table : List ℕ) → SomeEnvironment s table → Sorted s table
 some_sorted s table h = h.is.sorted

@@ -5,10 +5,8 @@ use mathlib.Core.List.{List, [], ◌∷◌, ◌++◌}
 use Prim.Native.Nat.{ℕ, ◌+◌, ◌≤◌}
 use native.Mathlib.Omega.{arith}
 use lib.ListN.{length, get_or, length-append}
-use Rattle.names.specs.declared.Read.{Read}
-use Rattle.names.specs.declared.Read.TheVariants.{Next}
 use Rattle.names.specs.Fields.{Got}
-use Rattle.names.specs.Read.{ending}
+use Rattle.names.specs.Read.{ending, Read}
 use Rattle.walk.specs.declared.Indexed.{Indexed}
 use Rattle.walk.specs.declared.Row.{Row}
 use Rattle.condition.specs.Condition.{Binder, binder}
@@ -26,6 +24,7 @@ use Rattle.nodes.specs.Laws.Inside.{two_inside, one_inside, compared_inside, qua
 use Rattle.walk.proofs.Trees.{one_scoped, two_scoped, exists_scoped, alone_scoped, body_scoped, call_scoped, bare_scoped}
 use Rattle.walk.proofs.Chains.{SameRows, rows_kept, rows_append, scope_on, row_scope_on, put_says, put_below, hold, below_held}
 use Rattle.walk.proofs.Holders.{held_exists, held_aggregate}
+use Rattle.std.specs.Prelude.{Ok}
 
 -- a scope, as the walk hands it down
 abbrev Scoping : Type 1
@@ -92,7 +91,7 @@ module _ (s : List ℕ) where
       stays : SameRows (scopes row) t₀ t₂ n
       stays k l = p.kept k (omega arith) ∙ u.kept k l
 
-  empty : {A : Type 0} {g : Got A} {row : Row} {scope : Scoping} {at next n : ℕ} {t : List ℕ} → ending g ≡ Next next → at ≤ next → n ≤ 3641 → Filled row scope s at g (λ bs. []) t n t (record { next = next; count = n })
+  empty : {A : Type 0} {g : Got A} {row : Row} {scope : Scoping} {at next n : ℕ} {t : List ℕ} → ending g ≡ Ok next → at ≤ next → n ≤ 3641 → Filled row scope s at g (λ bs. []) t n t (record { next = next; count = n })
   unfolding Rows
   empty e h i = record { ends = e; counted = λ bs. omega arith; within = i; further = omega arith; took = omega arith; rows = λ bs j. tt; kept = λ k l. refl; size = refl }
 
@@ -111,7 +110,7 @@ module _ (s : List ℕ) where
   }
 
 -- a part ends where it was said to
-ends_there : {x : Read} {m n : ℕ} → x ≡ Next m → x ≡ Next n → m ≡ n
+ends_there : {x : Read} {m n : ℕ} → x ≡ Ok m → x ≡ Ok n → m ≡ n
 ends_there e f = cc
 
 -- What each kind of condition asks of its parts, and what it puts into the table. For `search`: the premises stand as the code learns them, in an order in

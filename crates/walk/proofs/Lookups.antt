@@ -8,11 +8,9 @@ use native.Mathlib.Omega.{arith}
 use borrow.Author.Rules.{rules}
 use lib.ListN.{length, get_or, take, length-take}
 use lib.Seq.{get_or-take}
-use Rattle.names.specs.declared.Found.{Found}
-use Rattle.names.specs.declared.Found.TheVariants.{At}
 use Rattle.names.specs.Lists.{maybe}
 use Rattle.names.specs.Names.{same}
-use Rattle.names.specs.Read.{word_at, Listed}
+use Rattle.names.specs.Read.{word_at, Listed, Found}
 use Rattle.names.specs.Laws.Rows.{ListedFirst, listed_over, listed_first}
 use Rattle.nodes.specs.declared.SlotAt.{SlotAt}
 use Rattle.nodes.specs.declared.SlotAt.TheVariants.{Named, ParamRef, BinderRef}
@@ -36,6 +34,7 @@ use Rattle.walk.specs.Laws.Named.{last_append}
 use Rattle.walk.proofs.Bindings.{binders_index}
 use Rattle.walk.proofs.Chains.{row_on}
 use Rattle.walk.proofs.Holders.{held_exists, held_aggregate, holder_index, exists_stands, exists_nine, aggregate_stands, no_call}
+use Rattle.std.specs.Prelude.{Some}
 
 -- ---- one binder
 
@@ -105,31 +104,36 @@ pub record Among (s : List ℕ) (start : ℕ) (name : List ℕ) (n at : ℕ) (fo
   pub so : BoundBy s (last_named name done) found
 
 module _ (s : List ℕ) (start : ℕ) (name : List ℕ) where
-  pub among_begin : is_binders s start ≡ true → (n : ℕ) → n ≡ get_or s start 0 → Among s start name n (start + 1) Nothing
+  pub among_begin : is_binders s start ≡ true → (n : ℕ) → n ≡ get_or s start 0 → Among s start name (n - 0) (start + 1) Nothing
   unfolding binders_in last_named
-  among_begin acc n e = record { done = []; left = binders_in s start; whole = refl; there = rw e (counted_here binder s start acc); so = says_nothing s }
+  among_begin acc n e =
+      let all : n - 0 ≡ n = omega arith in
+      record { done = []; left = binders_in s start; whole = refl; there = rw (all, e) (counted_here binder s start acc); so = says_nothing s }
 
-  module _ (n at : ℕ) (found : Bound) (inv : Among s start name n at found) where
-    pub among_done : n ≤ 0 → BoundBy s (last_named name (binders_in s start)) found
+  module _ (end i at : ℕ) (found : Bound) (inv : Among s start name (end - i) at found) where
+    pub among_done : end ≤ i → BoundBy s (last_named name (binders_in s start)) found
     among_done h =
-        let e : inv.left ≡ [] = listed_over binder s inv.left n at h inv.there in
+        let e : inv.left ≡ [] = listed_over binder s inv.left (end - i) at (omega arith) inv.there in
         let f : inv.done ≡ binders_in s start = sym (append-nil inv.done) ∙ ap (λ l. inv.done ++ l) (sym e) ∙ inv.whole in
         rw (← f) inv.so
 
-    module _ (h : 0 < n) where
-      first : ListedFirst binder s (record { slot = param_ref; annotation = timepoint }) inv.left n at
-      first = listed_first binder s (record { slot = param_ref; annotation = timepoint }) inv.left n at h inv.there
+    module _ (h : i < end) where
+      first : ListedFirst binder s (record { slot = param_ref; annotation = timepoint }) inv.left (end - i) at
+      first = listed_first binder s (record { slot = param_ref; annotation = timepoint }) inv.left (end - i) at (omega arith) inv.there
+
+      less : end - (i + 1) ≡ (end - i) - 1
+      less = omega arith
 
       pub among_stands : is_binder s at ≡ true
       among_stands = first.stands
 
-      pub among_next : (here : Bound) → BoundBy s (last_named name (binder_in s at ∷ [])) here → (r : Bound) → r ≡ later_of found here → (m : ℕ) → Skipped (binder s at) at m → Among s start name (n - 1) m r
+      pub among_next : (here : Bound) → BoundBy s (last_named name (binder_in s at ∷ [])) here → (r : Bound) → r ≡ later_of found here → (m : ℕ) → Skipped (binder s at) at m → Among s start name (end - (i + 1)) m r
       unfolding binder_in
       among_next here y r e m z = record {
         done = inv.done ++ (binder_in s at ∷ []);
         left = first.others;
         whole = append_assoc inv.done (binder_in s at ∷ []) first.others ∙ ap (λ l. inv.done ++ l) (sym first.value) ∙ inv.whole;
-        there = first.on m (sym z.ends);
+        there = rw less (first.on m (sym z.ends));
         so = rw (last_append name inv.done (binder_in s at ∷ []), e) (later_says s _ _ found here inv.so y);
       }
 
@@ -152,11 +156,11 @@ module _ (s : List ℕ) (at : ℕ) (h : IsHolder s at) (name : List ℕ) where
   held_all other p b r y = rw (held_aggregate s at (aggregate_stands s at h other), b.value) y
 
   -- in its list
-  pub held_listed : (table : List ℕ) (r : Found) → EntryOf table at r → (e : ℕ) → r ≡ At e → (x : Bound) → BoundBy s (last_named name (held_in s (get_or table e 0))) x → BoundBy s (last_named name (held_in s at)) x
+  pub held_listed : (table : List ℕ) (r : Found) → EntryOf table at r → (e : ℕ) → r ≡ Some e → (x : Bound) → BoundBy s (last_named name (held_in s (get_or table e 0))) x → BoundBy s (last_named name (held_in s at)) x
   unfolding EntryOf
   held_listed table r y e q x z = let f = rw q at y in rw f.1 at z
 
-pub entry_there : (table : List ℕ) (at : ℕ) (r : Found) → EntryOf table at r → (e : ℕ) → r ≡ At e → IsEntry table e
+pub entry_there : (table : List ℕ) (at : ℕ) (r : Found) → EntryOf table at r → (e : ℕ) → r ≡ Some e → IsEntry table e
 unfolding EntryOf
 entry_there table at r y e q = let f = rw q at y in f.0
 

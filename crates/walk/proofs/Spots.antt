@@ -1,97 +1,108 @@
 -- Tables of places sorted by name: a name found by halving, an entry replaced, an entry put in. Assumes nothing.
 use mathlib.Core.Path.{◌≡◌, refl, sym, ap, ◌∙◌}
-use mathlib.Core.Bool.{Bool, true, false, false≢true}
+use mathlib.Core.Bool.{Bool, true, false, cond}
 use mathlib.Core.List.{List, ◌∷◌, ◌++◌}
 use Prim.Native.Nat.{ℕ, suc, ◌+◌, ◌-◌, ◌≤◌, ◌<◌}
 use native.Mathlib.Omega.{arith}
-use borrow.Author.Count.{below_more}
-use borrow.Author.Rules.{rules}
 use borrow.Author.Tests.{ltb-true, ltb-false}
 use lib.Dec.{eqb, ltb}
 use lib.ListN.{length, get_or, take, drop, set, length-append, length-drop, length-set, get_or-append}
 use lib.Seq.{length-take-le, get_or-take, get_or-drop, get_or_at, get_or-append-add, get_or-set_same, get_or-set_other, ext_get_or}
-use Rattle.names.specs.declared.Order.{Order}
-use Rattle.names.specs.declared.Order.TheVariants.{Less, Same, More}
-use Rattle.names.specs.Names.{below, order}
-use Rattle.names.specs.Laws.Names.{below_order, order_flip, order_same, below_trans}
+use Rattle.std.specs.declared.cmp.Ordering.{Ordering}
+use Rattle.std.specs.declared.cmp.Ordering.TheVariants.{Less, Equal, Greater}
+use Rattle.names.specs.Names.{same, below, order}
+use Rattle.names.specs.Laws.Names.{same_eq, below_order, order_flip, below_trans}
 use Rattle.names.specs.Order.{order_number}
 use Rattle.nodes.specs.Parts.{name_in}
+use Rattle.std.specs.Prelude.{Result, Ok, Err}
+use Rattle.std.specs.Ordering.{ordering_index}
+use Rattle.std.specs.List.{CopiedTo, SameBelow}
+use Rattle.std.specs.List.Sorted.{IsSearchInRange, IsBinarySearchResult, IsNonDecreasingBy}
+use Rattle.std.proofs.lemmas.List.Sorted.{IsNonDecreasingBy-from_default}
 use Rattle.walk.specs.Environment.{name_at, Sorted, SpotOf, insert_at, Inserted}
 
 -- ---- the order of an entry's name and another
 
-module _ (s table name : List ℕ) (i p : ℕ) (e : p ≡ get_or table i 0) (w : List ℕ) (j : w ≡ name_in s p) (o : Order) (k : order_number o ≡ order w name) where
-  entry_order : order_number o ≡ order (name_at s table i) name
+-- how the name at a place stands to another, as the library's comparison says it
+abbrev pub stands_to : List ℕ → List ℕ → ℕ → Ordering
+stands_to s name p = cond (below (name_in s p) name) Less (cond (same (name_in s p) name) Equal Greater)
+
+numbered : (o : Ordering) (p q : Bool) → order_number o ≡ cond p 0 (cond q 1 2) → o ≡ cond p Less (cond q Equal Greater)
+numbered Less true q e = refl
+numbered Less false true e = absurd (omega arith)
+numbered Less false false e = absurd (omega arith)
+numbered Equal true q e = absurd (omega arith)
+numbered Equal false true e = refl
+numbered Equal false false e = absurd (omega arith)
+numbered Greater true q e = absurd (omega arith)
+numbered Greater false true e = absurd (omega arith)
+numbered Greater false false e = refl
+
+pub compared : (s name : List ℕ) (p : ℕ) (o : Ordering) → order_number o ≡ order (name_in s p) name → o ≡ stands_to s name p
+unfolding order
+compared s name p o k = numbered o _ _ k
+
+less_is : (p q : Bool) → cond p Less (cond q Equal Greater) ≡ Less → p ≡ true
+less_is true q e = refl
+less_is false true e = absurd (let z : ◌≡◌ {A = ℕ} 1 0 = ap order_number e in omega arith)
+less_is false false e = absurd (let z : ◌≡◌ {A = ℕ} 2 0 = ap order_number e in omega arith)
+
+equal_is : (p q : Bool) → cond p Less (cond q Equal Greater) ≡ Equal → q ≡ true
+equal_is true q e = absurd (let z : ◌≡◌ {A = ℕ} 0 1 = ap order_number e in omega arith)
+equal_is false true e = refl
+equal_is false false e = absurd (let z : ◌≡◌ {A = ℕ} 2 1 = ap order_number e in omega arith)
+
+greater_is : (p q : Bool) → cond p Less (cond q Equal Greater) ≡ Greater → ◌≡◌ {A = ℕ} (cond p 0 (cond q 1 2)) 2
+greater_is true q e = absurd (let z : ◌≡◌ {A = ℕ} 0 2 = ap order_number e in omega arith)
+greater_is false true e = absurd (let z : ◌≡◌ {A = ℕ} 1 2 = ap order_number e in omega arith)
+greater_is false false e = refl
+
+at_most_two : (o : Ordering) → ordering_index o ≤ 2
+at_most_two Less = omega arith
+at_most_two Equal = omega arith
+at_most_two Greater = omega arith
+
+is_above : (v w : List ℕ) → order v w ≡ 2 → below w v ≡ true
+is_above v w h = let z : 2 - order v w ≡ 0 = omega arith in below_order w v ∙ ap (λ n. eqb n 0) (order_flip v w ∙ z)
+
+-- ---- the search among sorted names
+
+module _ (s table name : List ℕ) (sorted : Sorted s table) where
+  abbrev rank : ℕ → ℕ
+  rank p = ordering_index (stands_to s name p)
+
+  -- the comparisons rise along the table
+  rise : (i j : ℕ) → i < j → j < length table → rank (get_or table i 0) ≤ rank (get_or table j 0)
   unfolding name_at
-  entry_order = k ∙ ap (λ v. order v name) (j ∙ ap (name_in s) e)
+  rise i j h k = go (below (name_at s table j) name) (same (name_at s table j) name) refl refl
+    where
+      low : below (name_at s table i) name ≡ true → rank (get_or table i 0) ≤ rank (get_or table j 0)
+      low e = rw e (omega arith)
 
-  pub entry_below : o ≡ Less → 0 ≡ order (name_at s table i) name
-  entry_below h = sym (ap order_number h) ∙ entry_order
+      go : (p q : Bool) → below (name_at s table j) name ≡ p → same (name_at s table j) name ≡ q → rank (get_or table i 0) ≤ rank (get_or table j 0)
+      go true q e f = low (below_trans _ _ _ (sorted.ascend i j h k) e)
+      go false true e f = low (rw (← same_eq _ _ f) (sorted.ascend i j h k))
+      go false false e f = rw (e, f) (at_most_two (stands_to s name (get_or table i 0)))
 
-  pub entry_same : o ≡ Same → 1 ≡ order (name_at s table i) name
-  entry_same h = sym (ap order_number h) ∙ entry_order
+  rises : IsNonDecreasingBy rank table
+  rises = IsNonDecreasingBy-from_default rank table 0 (λ i j h k. from i j h k (ltb i j) refl)
+    where
+      from : (i j : ℕ) → i ≤ j → j < length table → (t : Bool) → ltb i j ≡ t → rank (get_or table i 0) ≤ rank (get_or table j 0)
+      from i j h k true q = rise i j (ltb-true i j q) k
+      from i j h k false q = let z : i ≡ j = omega (arith, ltb-false i j q) in rw z (omega arith)
 
-  pub entry_above : o ≡ More → 2 ≡ order (name_at s table i) name
-  entry_above h = sym (ap order_number h) ∙ entry_order
-
-pub ruleset comparing = (rules, entry_below, entry_same, entry_above)
-
-module _ (v w : List ℕ) where
-  is_below : order v w ≡ 0 → below v w ≡ true
-  is_below e = below_order v w ∙ ap (λ n. eqb n 0) e
-
-  is_above : (order v w ≡ 1 → ⊥) → (order v w ≡ 0 → ⊥) → below w v ≡ true
-  is_above h k = let z : 2 - order v w ≡ 0 = omega arith in below_order w v ∙ ap (λ n. eqb n 0) (order_flip v w ∙ z)
-
--- ---- the search: those before `low` are below the name, those from `high` on above it
-
-pub record Between (s table name : List ℕ) (low high : ℕ) : Type 0 where
-  pub met : low ≤ high
-  pub within : high ≤ length table
-  pub before : (i : ℕ) → i < low → below (name_at s table i) name ≡ true
-  pub after : (i : ℕ) → high ≤ i → i < length table → below name (name_at s table i) ≡ true
-
-module _ (s table name : List ℕ) where
-  pub all_between : Between s table name 0 (length table)
-  all_between = record { met = omega arith; within = omega arith; before = λ i h. absurd (omega arith); after = λ i h k. absurd (omega arith) }
-
-  module _ (low high : ℕ) (b : Between s table name low high) where
-    pub not_found : high ≤ low → SpotOf s table name (record { at = low; found = false })
-    not_found h = record { within = omega arith; before = b.before; found = λ e. absurd (false≢true e); missing = λ e i k l. b.after i (omega arith) l }
-
-    module _ (sorted : Sorted s table) (m : ℕ) (h : low ≤ m) (k : m < high) where
-      pub middle_index : m < length table
-      middle_index = omega (arith, b.within)
-
-      earlier : below (name_at s table m) name ≡ true → (i : ℕ) → i < m → below (name_at s table i) name ≡ true
-      earlier e i l = below_trans _ _ _ (sorted.ascend i m l middle_index) e
-
-      module _ (n : ℕ) (e : n ≡ order (name_at s table m) name) where
-        pub found_spot : n ≡ 1 → SpotOf s table name (record { at = m; found = true })
-        found_spot is =
-            let here : name_at s table m ≡ name = order_same _ _ (sym e ∙ is) in
-            record {
-              within = omega (arith, middle_index);
-              before = λ i l. rw here at (sorted.ascend i m l middle_index);
-              found = λ _. (middle_index, here);
-              missing = λ f. absurd (false≢true (sym f));
-            }
-
-        pub go_up : n ≡ 0 → Between s table name (m + 1) high
-        go_up is =
-            let here = is_below _ _ (sym e ∙ is) in
-            record { met = omega arith; within = b.within; before = below_more (λ i. below (name_at s table i) name ≡ true) m (earlier here) here; after = b.after }
-
-        pub go_down : (n ≡ 1 → ⊥) → (n ≡ 0 → ⊥) → Between s table name low m
-        go_down is not =
-            let here : below name (name_at s table m) ≡ true = is_above (name_at s table m) name (λ q. is (e ∙ q)) (λ q. not (e ∙ q)) in
-            record { met = h; within = omega (arith, middle_index); before = b.before; after = λ i l o. later here i l o (ltb m i) refl }
-          where
-            later : below name (name_at s table m) ≡ true → (i : ℕ) → m ≤ i → i < length table → (t : Bool) → ltb m i ≡ t → below name (name_at s table i) ≡ true
-            later here i l o true q = below_trans _ _ _ here (sorted.ascend m i (ltb-true m i q) o)
-            later here i l o false q = let z : m ≡ i = omega (arith, ltb-false m i q) in rw (← z) here
-
-pub ruleset halving = (rules, all_between, not_found, middle_index, found_spot, go_up, go_down)
+  pub searched : (r : Result ℕ ℕ) → IsSearchInRange r (length table) → IsBinarySearchResult (stands_to s name) table r → SpotOf s table name r
+  unfolding SpotOf name_at order
+  searched (Ok i) within equal =
+      let here : name_at s table i ≡ name = same_eq _ _ (equal_is _ _ (equal 0)) in
+      record { within = within; here = here; before = λ k l. rw here at (sorted.ascend k i l within) }
+  searched (Err i) within parted =
+      let sides = parted rises in
+      record {
+        within = within;
+        before = λ k l. less_is _ _ (sides.0 k 0 (omega arith) l);
+        missing = λ k l m. is_above _ _ (greater_is _ _ (sides.1 k 0 l m));
+      }
 
 -- ---- one entry more
 
@@ -131,66 +142,29 @@ module _ (at p : ℕ) (l : List ℕ) (h : at ≤ length l) where
       let y : at + (k - at) ≡ k = omega arith in
       ap (λ n. get_or (take at l ++ (p ∷ drop at l)) n 0) z ∙ get_or-append-add (take at l) (p ∷ drop at l) (suc (k - at)) 0 ∙ get_or-drop at l (k - at) 0 ∙ ap (λ n. get_or l n 0) y
 
--- the loop: those from i on have moved one on, up to n
-pub record Shifting (old : List ℕ) (n at i : ℕ) (table : List ℕ) : Type 0 where
-  pub low : at ≤ i
-  pub high : i ≤ n
-  pub size : length table ≡ length old
-  pub kept : (k : ℕ) → k < i → get_or table k 0 ≡ get_or old k 0
-  pub moved : (k : ℕ) → i < k → k ≤ n → get_or table k 0 ≡ get_or old (k - 1) 0
-
-module _ (old : List ℕ) (n at : ℕ) where
-  pub shift_none : at ≤ n → Shifting old n at n old
-  shift_none h = record { low = h; high = omega arith; size = refl; kept = λ k l. refl; moved = λ k l o. absurd (omega arith) }
-
-  module _ (room : n < length old) (i : ℕ) (table : List ℕ) (inv : Shifting old n at i table) where
-    inside : i < length table
-    inside = omega (arith, inv.size, inv.high)
-
-    pub shift_index : at < i → i - 1 < length table
-    shift_index h = omega (arith, inside)
-
-    pub shift_turn : at < i → Shifting old n at (i - 1) (set table i (get_or table (i - 1) 0))
-    shift_turn h = record {
-      low = omega arith;
-      high = omega (arith, inv.high);
-      size = length-set table i _ ∙ inv.size;
-      kept = λ k l. get_or-set_other table i k _ 0 (λ e. omega arith) ∙ inv.kept k (omega arith);
-      moved = λ k l o. there k l o (ltb i k) refl;
-    }
+-- those from `at` on have moved one on, up to n
+module _ (old : List ℕ) (n at p : ℕ) (low : at ≤ n) (room : n < length old) (table : List ℕ) (size : length table ≡ length old) where
+  module _ (moved : CopiedTo old table at (at + 1) (n - at)) (kept : SameBelow old table (at + 1)) where
+    pub shift_done : Inserted old n at p (set table at p)
+    shift_done = record { entries = ext_get_or 0 _ _ (long ∙ sym (insert_length at p (take n old) fits ∙ ap (λ m. m + 1) short)) (λ k l. each k (rw long at l) (beside at k)); size = length-set table at p ∙ size }
       where
-        there : (k : ℕ) → i - 1 < k → k ≤ n → (t : Bool) → ltb i k ≡ t → get_or (set table i (get_or table (i - 1) 0)) k 0 ≡ get_or old (k - 1) 0
-        there k l o true q = get_or-set_other table i k _ 0 (λ e. omega (arith, ltb-true i k q)) ∙ inv.moved k (ltb-true i k q) o
-        there k l o false q =
-            let z : k ≡ i = omega (arith, ltb-false i k q) in
-            ap (λ m. get_or (set table i (get_or table (i - 1) 0)) m 0) z ∙ get_or-set_same table i _ 0 inside ∙ inv.kept (i - 1) (omega arith) ∙ ap (λ m. get_or old (m - 1) 0) (sym z)
+        short : length (take n old) ≡ n
+        short = length-take-le n old (omega arith)
 
-    module _ (p : ℕ) (over : i ≤ at) where
-      stop : i ≡ at
-      stop = omega (arith, inv.low)
+        fits : at ≤ length (take n old)
+        fits = rw short low
 
-      pub shift_done : Inserted old n at p (set table at p)
-      shift_done = record { entries = ext_get_or 0 _ _ (long ∙ sym (insert_length at p (take n old) fits ∙ ap (λ m. m + 1) short)) (λ k l. each k (rw long at l) (beside at k)); size = length-set table at p ∙ inv.size }
-        where
-          short : length (take n old) ≡ n
-          short = length-take-le n old (omega arith)
+        long : length (take (n + 1) (set table at p)) ≡ n + 1
+        long = length-take-le (n + 1) (set table at p) (rw (length-set table at p) (omega (arith, size)))
 
-          fits : at ≤ length (take n old)
-          fits = rw short (omega (arith, stop, inv.high))
-
-          long : length (take (n + 1) (set table at p)) ≡ n + 1
-          long = length-take-le (n + 1) (set table at p) (rw (length-set table at p) (omega (arith, inv.size)))
-
-          each : (k : ℕ) → k < n + 1 → Beside at k → get_or (take (n + 1) (set table at p)) k 0 ≡ get_or (insert_at at p (take n old)) k 0
-          each k l (before h) =
-              get_or-take (n + 1) (set table at p) k 0 l ∙ get_or-set_other table at k p 0 (λ e. omega arith) ∙ inv.kept k (omega (arith, stop))
-              ∙ sym (insert_before at p (take n old) fits k h ∙ get_or-take n old k 0 (omega (arith, stop, inv.high)))
-          each k l (here e) =
-              get_or-take (n + 1) (set table at p) k 0 l ∙ ap (λ m. get_or (set table at p) m 0) e ∙ get_or-set_same table at p 0 (omega (arith, inside, stop))
-              ∙ sym (ap (λ m. get_or (insert_at at p (take n old)) m 0) e ∙ insert_here at p (take n old) fits)
-          each k l (behind j e h) =
-              let z : k - 1 ≡ j = omega arith in
-              get_or-take (n + 1) (set table at p) k 0 l ∙ get_or-set_other table at k p 0 (λ q. omega arith) ∙ inv.moved k (omega (arith, stop)) (omega arith) ∙ ap (λ m. get_or old m 0) z
-              ∙ sym (ap (λ m. get_or (insert_at at p (take n old)) m 0) e ∙ insert_behind at p (take n old) fits j h ∙ get_or-take n old j 0 (omega arith))
-
-pub ruleset shifting = (rules, shift_none, shift_index, shift_turn, shift_done)
+        each : (k : ℕ) → k < n + 1 → Beside at k → get_or (take (n + 1) (set table at p)) k 0 ≡ get_or (insert_at at p (take n old)) k 0
+        each k l (before h) =
+            get_or-take (n + 1) (set table at p) k 0 l ∙ get_or-set_other table at k p 0 (λ e. omega arith) ∙ kept k 0 (omega arith)
+            ∙ sym (insert_before at p (take n old) fits k h ∙ get_or-take n old k 0 (omega arith))
+        each k l (here e) =
+            get_or-take (n + 1) (set table at p) k 0 l ∙ ap (λ m. get_or (set table at p) m 0) e ∙ get_or-set_same table at p 0 (omega (arith, size))
+            ∙ sym (ap (λ m. get_or (insert_at at p (take n old)) m 0) e ∙ insert_here at p (take n old) fits)
+        each k l (behind j e h) =
+            let z : at + (k - (at + 1)) ≡ j = omega arith in
+            get_or-take (n + 1) (set table at p) k 0 l ∙ get_or-set_other table at k p 0 (λ q. omega arith) ∙ moved k 0 (omega arith) (omega arith) ∙ ap (λ m. get_or old m 0) z
+            ∙ sym (ap (λ m. get_or (insert_at at p (take n old)) m 0) e ∙ insert_behind at p (take n old) fits j h ∙ get_or-take n old j 0 (omega arith))

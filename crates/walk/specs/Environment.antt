@@ -1,10 +1,9 @@
 -- The binders of a record in a table: for each name the place of its last binder, sorted by name, so that a name is found by halving.
-use Rattle.std.specs.Prelude.{◌≡◌, true, false, List, ◌∷◌, ◌++◌, ℕ, ◌+◌, ◌≤◌, ◌<◌, length, get_or, take, drop}
+use Rattle.std.specs.Prelude.{◌≡◌, true, false, List, ◌∷◌, ◌++◌, ℕ, ◌+◌, ◌≤◌, ◌<◌, length, get_or, take, drop, Result, Ok, Err}
 use Rattle.std.proofs.Math.Option.{none, some}
 use Rattle.names.specs.Names.{same, below}
 use Rattle.nodes.specs.declared.Bound.{Bound}
 use Rattle.nodes.specs.Parts.{name_in, BoundBy}
-use Rattle.walk.specs.declared.Spot.{Spot}
 use Rattle.condition.specs.Condition.{Binder, named}
 use Rattle.condition.specs.Walk.{named_ones, last_named}
 use Rattle.condition.specs.Places.{is_binder, binder_in}
@@ -37,12 +36,22 @@ pub record SomeEnvironment (s table : List ℕ) : Type 0 where
 pub record SaysOf (s table name : List ℕ) (r : Bound) : Type 0 where
   pub of : (bs : List Binder) → Environment s bs table → BoundBy s (last_named name bs) r
 
--- where a name stands in a sorted table, or where it belongs: those before it are below it
-pub record SpotOf (s table name : List ℕ) (r : Spot) : Type 0 where
-  pub within : r.at ≤ length table
-  pub before : (i : ℕ) → i < r.at → below (name_at s table i) name ≡ true
-  pub found : r.found ≡ true → (r.at < length table) × (name_at s table r.at ≡ name)
-  pub missing : r.found ≡ false → (i : ℕ) → r.at ≤ i → i < length table → below name (name_at s table i) ≡ true
+-- where a name stands in a sorted table: those before it are below it
+pub record Stands (s table name : List ℕ) (at : ℕ) : Type 0 where
+  pub within : at < length table
+  pub here : name_at s table at ≡ name
+  pub before : (i : ℕ) → i < at → below (name_at s table i) name ≡ true
+
+-- where a name that does not stand there belongs: those before it are below it, the others above it
+pub record Belongs (s table name : List ℕ) (at : ℕ) : Type 0 where
+  pub within : at ≤ length table
+  pub before : (i : ℕ) → i < at → below (name_at s table i) name ≡ true
+  pub missing : (i : ℕ) → at ≤ i → i < length table → below name (name_at s table i) ≡ true
+
+-- one or the other
+unfoldable pub SpotOf : List ℕ → List ℕ → List ℕ → Result ℕ ℕ → Type 0
+SpotOf s table name (Ok at) = Stands s table name at
+SpotOf s table name (Err at) = Belongs s table name at
 
 -- an entry put in: those from its place on come behind it
 unfoldable pub insert_at : ℕ → ℕ → List ℕ → List ℕ

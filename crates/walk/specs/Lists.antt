@@ -1,11 +1,10 @@
 -- How lists of binders are put behind the rows of a table, and how the list of an aggregate is found.
-use Rattle.std.specs.Prelude.{◌≡◌, List, ℕ, ◌+◌, ◌≤◌, ◌<◌, length, get_or, take, drop}
-use Rattle.names.specs.declared.Found.{Found}
-use Rattle.names.specs.declared.Found.TheVariants.{At, Absent}
+use Rattle.std.specs.Prelude.{◌≡◌, List, ℕ, ◌+◌, ◌≤◌, ◌<◌, length, get_or, take, drop, Some, None}
 use Rattle.walk.specs.declared.Directory.{Directory}
 use Rattle.condition.specs.Condition.{Binder}
 use Rattle.walk.specs.Environment.{Environment}
 use Rattle.walk.specs.Enclosing.{IsHolder, Enclosing, HasLists, entry_at, list_count}
+use Rattle.names.specs.Read.{Found}
 
 -- the entries before a and those from b on are as they were
 pub record Outside (old : List ℕ) (a b : ℕ) (table : List ℕ) : Type 0 where
@@ -62,5 +61,5 @@ pub record IsEntry (table : List ℕ) (entry : ℕ) : Type 0 where
   pub there : entry ≡ entry_at (length table) number
 
 unfoldable pub EntryOf : List ℕ → ℕ → Found → Type 0
-EntryOf table at (At entry) = IsEntry table entry × (get_or table entry 0 ≡ at)
-EntryOf table at Absent = Unit {0}
+EntryOf table at (Some entry) = IsEntry table entry × (get_or table entry 0 ≡ at)
+EntryOf table at None = Unit {0}

@@ -1,8 +1,7 @@
 -- What one walk puts into a table of rows, one for each reached condition: the place of the condition, or the scope that it stands in.
-use Rattle.std.specs.Prelude.{◌≡◌, Bool, true, false, List, [], ◌∷◌, ℕ, ◌+◌, ◌*◌, ◌≤◌, ◌<◌, length, get_or}
+use Rattle.std.specs.Prelude.{◌≡◌, Bool, true, false, List, [], ◌∷◌, ℕ, ◌+◌, ◌*◌, ◌≤◌, ◌<◌, length, get_or, Ok}
 use Rattle.names.specs.Fields.{Got}
 use Rattle.names.specs.Read.{ending}
-use Rattle.names.specs.declared.Read.TheVariants.{Next}
 use Rattle.walk.specs.declared.Indexed.{Indexed}
 use Rattle.walk.specs.declared.Row.{Row}
 use Rattle.walk.specs.declared.Row.TheVariants.{Place, Around}
@@ -97,7 +96,7 @@ pub record Put (row : Row) (old : List ℕ) (n at : ℕ) (table : List ℕ) : Ty
 -- these conditions are in the table from the n-th row on, under the binders of the scope, and the rows before are as they were; what was walked ends where the
 -- answer says
 pub record Filled {A : Type 0} (row : Row) (scope : Row → List ℕ → List ℕ → ℕ → List Binder → Type 0) (s : List ℕ) (at : ℕ) (g : Got A) (xs : List Binder → List Scoped) (old : List ℕ) (n : ℕ) (table : List ℕ) (r : Indexed) : Type 0 where
-  pub ends : ending g ≡ Next r.next
+  pub ends : ending g ≡ Ok r.next
   pub counted : (bs : List Binder) → r.count ≡ n + length (xs bs)
   pub within : r.count ≤ 3641
   pub further : n ≤ r.count

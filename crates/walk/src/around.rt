@@ -9,18 +9,14 @@ ghost use Rattle.walk.specs.Enclosing.{is_bound, later_of, IsHolder, held_in, ar
 
 use crate::lists::{bound_entered, entry_of};
 use crate::sorted::wide;
-use names::Found;
 use nodes::{Bound, SlotAt, binders_at, bound_at, first_part, past_binder, past_slot, slot_at};
 
 // Whether a name is bound.
+#[tactic(auto, unfolding(crate::specs::Enclosing::is_bound))]
 fn is_bound(found: Bound) -> bool
     ensures { result ≡ is_bound found }
 {
-    match found {
-        Bound::Segments(_) => true,
-        Bound::Timepoint => true,
-        Bound::Nothing => false,
-    }
+    !matches!(found, Bound::Nothing)
 }
 
 // Of two answers, the later if it binds the name.
@@ -38,17 +34,13 @@ fn bound_one(s: &[u8], at: usize, name: &[u8]) -> Bound
     requires { is_binder s.now at ≡ true }
     ensures { BoundBy s.now (last_named name.now (binder_in s.now at ∷ [])) result }
 {
-    let slot = slot_at(s, at);
-    match slot {
-        SlotAt::Named(p) => {
-            if names::same(names::word(s, p), name) {
-                return bound_at(s, past_slot(s, at));
-            }
-            return Bound::Nothing;
-        }
-        SlotAt::ParamRef => Bound::Nothing,
-        SlotAt::BinderRef => Bound::Nothing,
+    let SlotAt::Named(p) = slot_at(s, at) else {
+        return Bound::Nothing;
+    };
+    if names::same(names::word(s, p), name) {
+        return bound_at(s, past_slot(s, at));
     }
+    Bound::Nothing
 }
 
 // The last binder of a name among those whose count stands there.
@@ -58,12 +50,10 @@ pub fn bound_among(s: &[u8], start: usize, name: &[u8]) -> Bound
 {
     let mut found = Bound::Nothing;
     let mut at = start + 1;
-    let mut rest = names::wide(s[start]);
-    while 0 < rest {
+    for _ in 0..names::wide(s[start]) {
         let here = bound_one(s, at, name);
         found = later(found, here);
         at = past_binder(s, at);
-        rest -= 1;
     }
     found
 }
@@ -77,11 +67,10 @@ fn bound_held(s: &[u8], table: &[u16], at: usize, name: &[u8]) -> Bound
     if s[at] == 9 {
         return bound_one(s, first_part(s, at), name);
     }
-    let listed = entry_of(table, at);
-    let Found::At(entry) = listed else {
-        return bound_among(s, binders_at(s, at), name);
-    };
-    bound_entered(s, table, entry, name)
+    match entry_of(table, at) {
+        Some(entry) => bound_entered(s, table, entry, name),
+        None => bound_among(s, binders_at(s, at), name),
+    }
 }
 
 // Among those around a reached condition: from its row on, holder by holder outwards.
@@ -91,6 +80,7 @@ pub fn bound_around(s: &[u8], table: &[u16], node: usize, name: &[u8]) -> Bound
     ensures { BoundBy s.now (last_named name.now (around_at own s.now node)) result }
 {
     let mut row = node;
+    // It ends in two places, at the outermost row and at a binder of the name: it stays a `loop`.
     loop {
         let i = 2 * row;
         let holder = wide(table[i]);

@@ -1,4 +1,5 @@
-// The flat environment of a record: its binders in a table that is sorted by name, for each name the place of its last binder.
+// The flat environment of a record: its binders in a table that is sorted by name, for each name
+// the place of its last binder.
 ghost use Rattle.std.specs.Prelude.{◌≡◌, true, [], ◌∷◌, ◌+◌, ◌≤◌, length, take};
 ghost use Rattle.condition.specs.Walk.{declared_by, declares, binders, has_name, last_named};
 ghost use Rattle.condition.specs.Places.{is_record, record_in, is_condition, condition_in, is_aggregate, aggregate_in, is_binder, binder_in};
@@ -7,16 +8,15 @@ ghost use Rattle.nodes.specs.Parts.{name_in, is_binders, binders_in, BoundBy};
 ghost use Rattle.walk.specs.Index.{Index};
 ghost use Rattle.walk.specs.Environment.{Environment, SomeEnvironment, SaysOf, SpotOf, MayDeclare, Declared};
 
-use crate::Spot;
 use crate::places::reached_at;
 use crate::sorted::{insert, replace, spot, wide};
 use nodes::{
-    Bound, NextAggregate, aggregate_kind_at, binders_at, bound_at, first_part, is_named, kind_at,
-    name_of, next_aggregate, operands_at, past_binder, past_slot,
+    Bound, aggregate_kind_at, binders_at, bound_at, first_part, is_named, kind_at, name_of,
+    next_aggregate, operands_at, past_binder, past_slot,
 };
 
 // Where the name of a binder stands among the entries so far, or where it belongs.
-fn spot_of(s: &[u8], table: &[u16], n: usize, at: usize) -> Spot
+fn spot_of(s: &[u8], table: &[u16], n: usize, at: usize) -> Result<usize, usize>
     requires at_value { is_binder s.now at ≡ true }
     requires may_declare { MayDeclare s.now (binder_in s.now at ∷ []) table.now n }
     ensures { SpotOf s.now (take n table.now) (name_in s.now at) result }
@@ -31,14 +31,16 @@ fn declare_named(s: &[u8], table: &mut [u16], n: usize, at: usize) -> usize
     requires may_declare { MayDeclare s.now (binder_in s.now at ∷ []) table.old n }
     ensures { Declared s.now (binder_in s.now at ∷ []) table.old n table.new result }
 {
-    let p = spot_of(s, table, n, at);
-    let place = p.at;
-    if p.found {
-        replace(table, place, at);
-        return n;
+    match spot_of(s, table, n, at) {
+        Ok(place) => {
+            replace(table, place, at);
+            n
+        }
+        Err(place) => {
+            insert(table, n, place, at);
+            n + 1
+        }
     }
-    insert(table, n, place, at);
-    n + 1
 }
 
 // One binder more.
@@ -61,11 +63,9 @@ pub fn declare_all(s: &[u8], table: &mut [u16], n: usize, start: usize) -> usize
 {
     let mut so_far = n;
     let mut at = start + 1;
-    let mut rest = names::wide(s[start]);
-    while 0 < rest {
+    for _ in 0..names::wide(s[start]) {
         so_far = declare(s, table, so_far, at);
         at = past_binder(s, at);
-        rest -= 1;
     }
     so_far
 }
@@ -91,14 +91,11 @@ fn declare_operands(s: &[u8], table: &mut [u16], n: usize, at: usize) -> usize
 {
     let mut so_far = n;
     let mut left = operands_at(s, at);
-    loop {
-        let next = next_aggregate(s, left.count, left.first);
-        let NextAggregate::At(aggregate, others) = next else {
-            return so_far;
-        };
+    while let Some((aggregate, others)) = next_aggregate(s, left.count, left.first) {
         so_far = declare_aggregate(s, table, so_far, aggregate);
         left = others;
     }
+    so_far
 }
 
 // The binders that one reached condition declares.
@@ -124,11 +121,8 @@ fn declare_places(s: &[u8], places: &[u16], table: &mut [u16], n: usize) -> usiz
     ensures { Declared s.now (binders (record_in s.now)) table.old n table.new result }
 {
     let mut so_far = n;
-    let mut i = 0;
-    while i < places.len() {
-        let at = reached_at(s, places, i);
-        so_far = declare_node(s, table, so_far, at);
-        i += 1;
+    for i in 0..places.len() {
+        so_far = declare_node(s, table, so_far, reached_at(s, places, i));
     }
     so_far
 }
@@ -149,12 +143,10 @@ pub fn bound_listed(s: &[u8], table: &[u16], name: &[u8]) -> Bound
     requires { SomeEnvironment s.now table.now }
     ensures { SaysOf s.now table.now name.now result }
 {
-    let p = spot(s, table, name);
-    let i = p.at;
-    if p.found {
-        return bound_at(s, past_slot(s, wide(table[i])));
+    match spot(s, table, name) {
+        Ok(i) => bound_at(s, past_slot(s, wide(table[i]))),
+        Err(_) => Bound::Nothing,
     }
-    Bound::Nothing
 }
 
 // In the environment of the record.

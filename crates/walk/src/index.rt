@@ -11,6 +11,8 @@ use nodes::{
     past_condition, past_term, term_kind_at, term_part,
 };
 
+// A place of a record, and the number of a reached condition, lie below 65,536 by the contract:
+// `u16::try_from` would bring an error that no caller can meet.
 fn put(table: &mut [u16], n: usize, at: usize, row: Row)
     requires { MayPut row (length table.old) n at }
     ensures { Put row table.old n at table.new }
@@ -30,13 +32,13 @@ fn row_below(row: Row, at: usize, n: usize) -> Row
     requires { (at < 65536) × (n < 65536) }
     ensures { Handed row result (below row at n) }
 {
-    let Row::Around(_) = row else {
-        return row;
-    };
-    Row::Around(Scope {
-        holder: at,
-        node: n,
-    })
+    match row {
+        Row::Place => Row::Place,
+        Row::Around(_) => Row::Around(Scope {
+            holder: at,
+            node: n,
+        }),
+    }
 }
 
 // In an operand: what is handed down to the body of the aggregate at `at`.
@@ -45,13 +47,13 @@ fn row_held(row: Row, at: usize) -> Row
     requires fits { Fits row }
     ensures { Handed row result (held_by row at) }
 {
-    let Row::Around(scope) = row else {
-        return row;
-    };
-    Row::Around(Scope {
-        holder: at,
-        node: scope.node,
-    })
+    match row {
+        Row::Place => Row::Place,
+        Row::Around(scope) => Row::Around(Scope {
+            holder: at,
+            node: scope.node,
+        }),
+    }
 }
 
 // The condition at `at` and those reached below it, from the n-th row on.
@@ -66,9 +68,7 @@ fn index(s: &[u8], at: usize, table: &mut [u16], n: usize, row: Row) -> Indexed
     let first = n + 1;
     if has_two(kind) {
         let a = index(s, first_part(s, at), table, first, row);
-        let next = a.next;
-        let count = a.count;
-        return index(s, next, table, count, row);
+        return index(s, a.next, table, a.count, row);
     }
     if has_one(kind) {
         return index(s, first_part(s, at), table, first, row);
@@ -77,19 +77,14 @@ fn index(s: &[u8], at: usize, table: &mut [u16], n: usize, row: Row) -> Indexed
         let left = first_part(s, at);
         let within = row_below(row, at, n);
         let a = index_operand(s, left, table, first, within);
-        let right = a.next;
-        let count = a.count;
-        return index_operand(s, right, table, count, within);
+        return index_operand(s, a.next, table, a.count, within);
     }
     if kind == 9 {
         let next = past_binder(s, first_part(s, at));
         return index(s, next, table, first, row_below(row, at, n));
     }
     let next = past_condition(s, at);
-    Indexed {
-        next: next,
-        count: first,
-    }
+    Indexed { next, count: first }
 }
 
 // Those in the aggregates of a comparison's operand.
@@ -104,10 +99,7 @@ fn index_operand(s: &[u8], at: usize, table: &mut [u16], n: usize, row: Row) -> 
         let aggregate = term_part(s, at);
         if aggregate_kind_at(s, aggregate) == 3 {
             let next = past_term(s, at);
-            return Indexed {
-                next: next,
-                count: n,
-            };
+            return Indexed { next, count: n };
         }
         let body = body_at(s, aggregate);
         let within = row_held(row, aggregate);
@@ -115,15 +107,10 @@ fn index_operand(s: &[u8], at: usize, table: &mut [u16], n: usize, row: Row) -> 
     }
     if kind == 12 {
         let a = index_operand(s, left_part(s, at), table, n, row);
-        let next = a.next;
-        let count = a.count;
-        return index_operand(s, next, table, count, row);
+        return index_operand(s, a.next, table, a.count, row);
     }
     let next = past_term(s, at);
-    Indexed {
-        next: next,
-        count: n,
-    }
+    Indexed { next, count: n }
 }
 
 // The whole record: how many entries there are. 3,641 are room for any record.

@@ -62,10 +62,3 @@ pub struct Directory {
     pub count: usize,
     pub last: usize,
 }
-
-// Where a name stands in a table of places that is sorted by name, or where it belongs.
-#[derive(Clone, Copy)]
-pub struct Spot {
-    pub at: usize,
-    pub found: bool,
-}

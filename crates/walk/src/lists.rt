@@ -19,8 +19,7 @@ ghost use Rattle.walk.specs.Lists.{MaySort, SortedFrom, Entered, MayList, MoreLi
 use crate::Directory;
 use crate::flat::{bound_listed, declare_all};
 use crate::index::enclosing;
-use crate::sorted::{halfway, wide};
-use names::Found;
+use crate::sorted::wide;
 use nodes::{Bound, binders_at};
 
 // Where the entry of the k-th list stands in a table of so many entries.
@@ -40,7 +39,8 @@ fn sort_binders(s: &[u8], start: usize, table: &mut [u16], from: usize, end: usi
     declare_all(s, &mut table[from..end], 0, start)
 }
 
-// The entry of a list.
+// The entry of a list. The three fit by the contract: `u16::try_from` would bring an error that no
+// caller can meet.
 fn enter(table: &mut [u16], entry: usize, place: usize, from: usize, count: usize)
     requires in_bounds { entry + 3 ≤ length table.old }
     requires place_bound { (place < 65536) × (from < 65536) × (count < 65536) }
@@ -114,14 +114,11 @@ fn list_rows(s: &[u8], table: &mut [u16], rows: usize)
         count: 0,
         last: 0,
     };
-    let mut row = 0;
-    while 2 * row < rows {
+    for row in 0..rows / 2 {
         lists = list_row(s, table, lists, 2 * row);
-        row += 1;
     }
     let last = table.len() - 1;
-    let count = lists.count;
-    table[last] = count as u16;
+    table[last] = lists.count as u16;
 }
 
 // The scopes of the whole record with the lists behind them: how many entries there are. 10,921 are room for any record.
@@ -136,8 +133,9 @@ pub fn bodies(s: &[u8], table: &mut [u16]) -> usize
     10921
 }
 
-// The entry of the list of an aggregate, if it has one: by halving.
-pub fn entry_of(table: &[u16], at: usize) -> Found
+// The entry of the list of an aggregate, if it has one. It is halved by hand: the entries stand
+// three apart and from the end to the front, so that they are no slice with a `binary_search_by`.
+pub fn entry_of(table: &[u16], at: usize) -> Option<usize>
     requires { 3 * list_count table.now < length table.now }
     ensures { EntryOf table.now at result }
 {
@@ -145,11 +143,11 @@ pub fn entry_of(table: &[u16], at: usize) -> Found
     let mut low = 0;
     let mut high = wide(table[size - 1]);
     while low < high {
-        let middle = halfway(low, high);
+        let middle = low.midpoint(high);
         let entry = entry_at(size, middle);
         let place = wide(table[entry]);
         if place == at {
-            return Found::At(entry);
+            return Some(entry);
         }
         if place < at {
             low = middle + 1;
@@ -157,7 +155,7 @@ pub fn entry_of(table: &[u16], at: usize) -> Found
         }
         high = middle;
     }
-    Found::Absent
+    None
 }
 
 // A name in the list of an entry.

@@ -1,7 +1,7 @@
 -- What a condition, a term, an aggregate is at a position, by the level left and the byte there, in whatever version. Assumes nothing.
-use Rattle.std.specs.Prelude.{◌≡◌, Bool, true, false, List, length, get_or}
+use Rattle.std.specs.Prelude.{◌≡◌, Bool, true, false, List, length, get_or, Ok, Err}
 use Rattle.std.proofs.Math.Path.{refl}
-use Rattle.std.proofs.Common.{◌∙◌, arith, rules}
+use Rattle.std.proofs.Common.{◌∙◌, arith, rules, ◌⊎◌, inl, inr}
 use Prim.Native.Nat.{ℕ, zero, suc, ◌+◌, ◌-◌, ◌≤◌, ◌<◌}
 use Rattle.std.proofs.Math.Numerals.{sub-one}
 use borrow.Author.Tests.{le-leb, lt-leb, ne_eqb}
@@ -9,39 +9,38 @@ use Rattle.names.specs.Fields.{bad, Reader, ◌<∘>◌, choose, string_of}
 use Rattle.names.specs.Class.{class_of}
 use Rattle.names.specs.declared.Class.TheVariants.{Plain}
 use Rattle.names.specs.Paths.{path_of}
-use Rattle.names.specs.Read.{ending}
-use Rattle.names.specs.declared.Read.{Read}
-use Rattle.names.specs.declared.Read.TheVariants.{Next, Refused}
+use Rattle.names.specs.Read.{ending, Read}
 use Rattle.names.specs.Laws.Readers.{u8-end, u8_got, via, last, choice, choose_beyond, keys_up_to, Each, each_in}
 use Rattle.condition.specs.Condition.{Condition, Term, Window, One, Two, negation, formerly, previous, refine, and, or, since, window, span, timepoint_of, element_list, unary, binary, predicate_of, comparison_of, exists_of, condition_kinds, sum_of, count_of, aggregate_kinds, aggregate_of, arith_of, term_kinds, too_deep, condition_at, term_at}
+use Rattle.names.specs.declared.refusal.Refusal.TheVariants.{Cut, UndefinedChoice, TooDeep, AggregateBelowArray}
 
 -- with no level left
 module _ {A : Type 0} (s : List ℕ) (at bound : ℕ) where
-  deep-end : length s ≤ at → too_deep {A = A} bound s at ≡ bad 2
+  deep-end : length s ≤ at → too_deep {A = A} bound s at ≡ bad Cut
   unfolding too_deep
   deep-end h = rw (u8-end s at h)
 
   module _ (h : at < length s) where
-    deep_zero : get_or s at 0 ≡ 0 → too_deep {A = A} bound s at ≡ bad 5
+    deep_zero : get_or s at 0 ≡ 0 → too_deep {A = A} bound s at ≡ bad UndefinedChoice
     unfolding too_deep
     deep_zero k = rw (u8_got s at h, k)
 
     module _ (z : get_or s at 0 ≡ 0 → ⊥) where
-      deep_above : bound < get_or s at 0 → too_deep {A = A} bound s at ≡ bad 5
+      deep_above : bound < get_or s at 0 → too_deep {A = A} bound s at ≡ bad UndefinedChoice
       unfolding too_deep
       deep_above k = rw (u8_got s at h, le-leb 1 (get_or s at 0) (omega arith), lt-leb _ _ k)
 
-      deep_defined : get_or s at 0 ≤ bound → too_deep {A = A} bound s at ≡ bad 7
+      deep_defined : get_or s at 0 ≤ bound → too_deep {A = A} bound s at ≡ bad TooDeep
       unfolding too_deep
       deep_defined k = rw (u8_got s at h, le-leb 1 (get_or s at 0) (omega arith), le-leb _ _ k)
 
 -- Each exit of `read_subcondition`.
 module _ (v : ℕ) (s : List ℕ) (at l : ℕ) where
-  pub condition-end : length s ≤ at → Refused 2 ≡ ending (condition_at v l s at)
+  pub condition-end : length s ≤ at → Err Cut ≡ ending (condition_at v l s at)
   unfolding condition_at ending
   condition-end h = go l
     where
-      go : (l : ℕ) → Refused 2 ≡ ending (condition_at v l s at)
+      go : (l : ℕ) → Err Cut ≡ ending (condition_at v l s at)
       go zero = rw (deep-end {A = Condition} s at 13 h)
       go (suc l) = rw (u8-end s at h)
 
@@ -54,24 +53,24 @@ module _ (v : ℕ) (s : List ℕ) (at l : ℕ) where
         go zero z = absurd (z refl)
         go (suc l) z = rw sub-one (choice s at _ h k e)
 
-    pub condition_zero : get_or s at 0 ≡ 0 → Refused 5 ≡ ending (condition_at v l s at)
+    pub condition_zero : get_or s at 0 ≡ 0 → Err UndefinedChoice ≡ ending (condition_at v l s at)
     unfolding condition_at ending choose condition_kinds
     condition_zero k = go l
       where
-        go : (l : ℕ) → Refused 5 ≡ ending (condition_at v l s at)
+        go : (l : ℕ) → Err UndefinedChoice ≡ ending (condition_at v l s at)
         go zero = rw (deep_zero {A = Condition} s at 13 h k)
         go (suc l) = via (choice s at (condition_kinds v (condition_at v l) (term_at v l)) h 0 k) refl
 
     module _ (y : get_or s at 0 ≡ 0 → ⊥) where
-      pub condition_above : 13 < get_or s at 0 → Refused 5 ≡ ending (condition_at v l s at)
+      pub condition_above : 13 < get_or s at 0 → Err UndefinedChoice ≡ ending (condition_at v l s at)
       unfolding condition_at ending keys_up_to condition_kinds
       condition_above k = go l
         where
-          go : (l : ℕ) → Refused 5 ≡ ending (condition_at v l s at)
+          go : (l : ℕ) → Err UndefinedChoice ≡ ending (condition_at v l s at)
           go zero = rw (deep_above {A = Condition} s at 13 h y k)
           go (suc l) = via (choice s at _ h _ refl) (rw (choose_beyond s (at + 1) 13 (get_or s at 0) k (condition_kinds v (condition_at v l) (term_at v l)) refl))
 
-      pub condition_deep : get_or s at 0 ≤ 13 → l ≡ 0 → Refused 7 ≡ ending (condition_at v l s at)
+      pub condition_deep : get_or s at 0 ≤ 13 → l ≡ 0 → Err TooDeep ≡ ending (condition_at v l s at)
       unfolding condition_at ending
       condition_deep k z = rw (z, deep_defined {A = Condition} s at 13 h y k)
 
@@ -91,6 +90,11 @@ module _ (v : ℕ) (s : List ℕ) (at l : ℕ) where
       pub unary_high : 12 < get_or s at 0 → get_or s at 0 ≤ 13 → ((k : Window → One) → x ≡ ending (unary v (condition_at v (l - 1)) (term_at v (l - 1)) (k <∘> window 1) s (at + 1))) → x ≡ ending (condition_at v l s at)
       unfolding choose condition_kinds window
       unary_high a b e = via (condition_kind z 13 (omega arith)) (e (λ _. refine))
+
+      -- a Not or a Refine, as one of them
+      pub bare_unary : (get_or s at 0 ≡ 3) ⊎ (get_or s at 0 ≡ 13) → ((k : Window → One) → x ≡ ending (unary v (condition_at v (l - 1)) (term_at v (l - 1)) (k <∘> window 1) s (at + 1))) → x ≡ ending (condition_at v l s at)
+      bare_unary (inl k) e = not_kind k e
+      bare_unary (inr k) e = unary_high (omega arith) (omega arith) e
 
       pub opaque_read : 10 < get_or s at 0 → get_or s at 0 ≤ 12 → x ≡ ending (span s (at + 1)) → x ≡ ending (condition_at v l s at)
       unfolding choose condition_kinds Each
@@ -118,11 +122,11 @@ module _ (v : ℕ) (s : List ℕ) (at l : ℕ) where
 
 -- Each exit of `read_term`.
 module _ (v : ℕ) (s : List ℕ) (at l : ℕ) (b : Bool) where
-  pub term-end : length s ≤ at → Refused 2 ≡ ending (term_at v l b s at)
+  pub term-end : length s ≤ at → Err Cut ≡ ending (term_at v l b s at)
   unfolding term_at ending
   term-end h = go l
     where
-      go : (l : ℕ) → Refused 2 ≡ ending (term_at v l b s at)
+      go : (l : ℕ) → Err Cut ≡ ending (term_at v l b s at)
       go zero = rw (deep-end {A = Term} s at 14 h)
       go (suc l) = rw (u8-end s at h)
 
@@ -135,44 +139,44 @@ module _ (v : ℕ) (s : List ℕ) (at l : ℕ) (b : Bool) where
         go zero z = absurd (z refl)
         go (suc l) z = rw sub-one (choice s at _ h k e)
 
-    pub term_zero : get_or s at 0 ≡ 0 → Refused 5 ≡ ending (term_at v l b s at)
+    pub term_zero : get_or s at 0 ≡ 0 → Err UndefinedChoice ≡ ending (term_at v l b s at)
     unfolding term_at ending choose term_kinds
     term_zero k = go l
       where
-        go : (l : ℕ) → Refused 5 ≡ ending (term_at v l b s at)
+        go : (l : ℕ) → Err UndefinedChoice ≡ ending (term_at v l b s at)
         go zero = rw (deep_zero {A = Term} s at 14 h k)
         go (suc l) = via (choice s at (term_kinds v (condition_at v l) (term_at v l) b) h 0 k) refl
 
     module _ (y : get_or s at 0 ≡ 0 → ⊥) where
-      pub term_above : 14 < get_or s at 0 → Refused 5 ≡ ending (term_at v l b s at)
+      pub term_above : 14 < get_or s at 0 → Err UndefinedChoice ≡ ending (term_at v l b s at)
       unfolding term_at ending keys_up_to term_kinds
       term_above k = go l
         where
-          go : (l : ℕ) → Refused 5 ≡ ending (term_at v l b s at)
+          go : (l : ℕ) → Err UndefinedChoice ≡ ending (term_at v l b s at)
           go zero = rw (deep_above {A = Term} s at 14 h y k)
           go (suc l) = via (choice s at _ h _ refl) (rw (choose_beyond s (at + 1) 14 (get_or s at 0) k (term_kinds v (condition_at v l) (term_at v l) b) refl))
 
-      pub term_deep : get_or s at 0 ≤ 14 → l ≡ 0 → Refused 7 ≡ ending (term_at v l b s at)
+      pub term_deep : get_or s at 0 ≤ 14 → l ≡ 0 → Err TooDeep ≡ ending (term_at v l b s at)
       unfolding term_at ending
       term_deep k z = rw (z, deep_defined {A = Term} s at 14 h y k)
 
     module _ (z : l ≡ 0 → ⊥) where
-      pub sigil_read : 12 < get_or s at 0 → get_or s at 0 ≤ 14 → Next (at + 1) ≡ ending (term_at v l b s at)
+      pub sigil_read : 12 < get_or s at 0 → get_or s at 0 ≤ 14 → Ok (at + 1) ≡ ending (term_at v l b s at)
       unfolding choose term_kinds ending Each
-      sigil_read i k = via (term_kind z _ refl) (each_in (λ j. Next (at + 1) ≡ ending (choose j (term_kinds v (condition_at v (l - 1)) (term_at v (l - 1)) b) s (at + 1))) 13 2 ((tt, refl), refl) (get_or s at 0) i (omega arith))
+      sigil_read i k = via (term_kind z _ refl) (each_in (λ j. Ok (at + 1) ≡ ending (choose j (term_kinds v (condition_at v (l - 1)) (term_at v (l - 1)) b) s (at + 1))) 13 2 ((tt, refl), refl) (get_or s at 0) i (omega arith))
 
-      pub wildcard_read : get_or s at 0 ≡ 9 → Next (at + 1) ≡ ending (term_at v l b s at)
+      pub wildcard_read : get_or s at 0 ≡ 9 → Ok (at + 1) ≡ ending (term_at v l b s at)
       unfolding choose term_kinds ending
       wildcard_read k = via (term_kind z 9 k) refl
 
-      pub aggregate_refused : get_or s at 0 ≡ 11 → b ≡ true → Refused 9 ≡ ending (term_at v l b s at)
+      pub aggregate_refused : get_or s at 0 ≡ 11 → b ≡ true → Err AggregateBelowArray ≡ ending (term_at v l b s at)
       unfolding choose term_kinds ending
       aggregate_refused k e = via (term_kind z 11 k) (rw e)
 
       module _ (x : Read) where
         -- an entity or a literal, whatever nested conditions and terms are read by
-        pub value_read : get_or s at 0 ≤ 5 → ((c : Reader Condition) (t : Bool → Reader Term) (b : Bool) → x ≡ ending (choose (get_or s at 0) (term_kinds v c t b) s (at + 1))) → x ≡ ending (term_at v l b s at)
-        value_read k e = via (term_kind z _ refl) (e (condition_at v (l - 1)) (term_at v (l - 1)) b)
+        pub value_read : (k : ℕ) → get_or s at 0 ≡ k → ((c : Reader Condition) (t : Bool → Reader Term) (b : Bool) → x ≡ ending (choose k (term_kinds v c t b) s (at + 1))) → x ≡ ending (term_at v l b s at)
+        value_read k i e = via (term_kind z k i) (e (condition_at v (l - 1)) (term_at v (l - 1)) b)
 
         pub path_read : 5 < get_or s at 0 → get_or s at 0 ≤ 7 → x ≡ ending (path_of s (at + 1)) → x ≡ ending (term_at v l b s at)
         unfolding choose term_kinds Each
@@ -196,7 +200,7 @@ module _ (v : ℕ) (s : List ℕ) (at l : ℕ) (b : Bool) where
 
 -- Each exit of `read_aggregate`.
 module _ (v : ℕ) (c : Reader Condition) (t : Bool → Reader Term) (s : List ℕ) (at : ℕ) where
-  pub aggregate-end : length s ≤ at → Refused 2 ≡ ending (aggregate_of v c t s at)
+  pub aggregate-end : length s ≤ at → Err Cut ≡ ending (aggregate_of v c t s at)
   unfolding aggregate_of ending
   aggregate-end h = rw (u8-end s at h)
 
@@ -218,11 +222,11 @@ module _ (v : ℕ) (c : Reader Condition) (t : Bool → Reader Term) (s : List �
       unfolding choose aggregate_kinds
       call_kind k e = via (aggregate_kind 3 k) (e ∙ last _ _)
 
-    pub aggregate_undefined : (get_or s at 0 ≡ 1 → ⊥) → (get_or s at 0 ≡ 2 → ⊥) → (get_or s at 0 ≡ 3 → ⊥) → Refused 5 ≡ ending (aggregate_of v c t s at)
+    pub aggregate_undefined : (get_or s at 0 ≡ 1 → ⊥) → (get_or s at 0 ≡ 2 → ⊥) → (get_or s at 0 ≡ 3 → ⊥) → Err UndefinedChoice ≡ ending (aggregate_of v c t s at)
     unfolding choose aggregate_kinds ending
     aggregate_undefined i j k = via (aggregate_kind _ refl) (rw (ne_eqb (get_or s at 0) 1 i, ne_eqb (get_or s at 0) 2 j, ne_eqb (get_or s at 0) 3 k))
 
-pub ruleset conditions = (rules, condition-end, condition_zero, condition_above, condition_deep, binary_low, not_kind, unary_low, unary_high, opaque_read, binary_since, predicate_kind, comparison_kind, exists_kind, timepoint_kind)
+pub ruleset conditions = (rules, condition-end, condition_zero, condition_above, condition_deep, binary_low, bare_unary, unary_low, opaque_read, binary_since, predicate_kind, comparison_kind, exists_kind, timepoint_kind)
 
 pub ruleset terms = (rules, term-end, term_zero, term_above, term_deep, sigil_read, value_read, path_read, var_read, wildcard_read, array_read, aggregate_refused, aggregate_read, arith_kind)
 

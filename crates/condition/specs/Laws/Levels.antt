@@ -9,6 +9,7 @@ use Rattle.names.specs.Names.{plain, path_name}
 use Rattle.names.specs.Paths.{path_of}
 use Rattle.names.specs.Laws.Readers.{Keeps, Wider, next_wider, split, Each, each_below, choose_beyond, keys_up_to, ◌&◌}
 use Rattle.condition.specs.Condition.{Condition, Term, One, Two, span, slot, binder, operator, arguments, argument_list, elements, element_list, unary, binary, predicate_of, comparison_of, exists_of, given, arith_op, condition_kinds, sum_of, count_of, aggregate_kinds, aggregate_of, arith_of, term_kinds, too_deep, condition_at, term_at}
+use Rattle.names.specs.declared.refusal.Refusal.TheVariants.{UndefinedChoice, TooDeep}
 
 -- read alike
 same : {A : Type 0} (f : Reader A) → Wider f f
@@ -167,7 +168,7 @@ pub none_left : {A : Type 0} (last : ℕ) (s : List ℕ) (at : ℕ) {a : A} {n :
 unfolding too_deep
 none_left {A} last s at {a} {n} e = let x = split (u8 s at) _ e in go (leb 1 x.value && leb x.value last) x.place x.rest
   where
-    go : (b : Bool) (p : ℕ) → cond b (refuse {A = A} 7) (refuse 5) s p ≡ got a n → ⊥
+    go : (b : Bool) (p : ℕ) → cond b (refuse {A = A} TooDeep) (refuse UndefinedChoice) s p ≡ got a n → ⊥
     go true p i = let z : ◌≡◌ {A = ℕ} 0 1 = cc in omega arith
     go false p i = let z : ◌≡◌ {A = ℕ} 0 1 = cc in omega arith
 

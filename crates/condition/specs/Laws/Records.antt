@@ -13,6 +13,7 @@ use Rattle.names.specs.Read.{accepted}
 use Rattle.names.specs.Laws.Readers.{split, held, heading_place, heading_version, whole_read, accept, is_accepted, has_value}
 use Rattle.condition.specs.Condition.{condition_at, condition_record_up_to, condition_record}
 use Rattle.condition.specs.Places.{is_record, record_in, version_in, condition_here, is_condition, condition_in}
+use Rattle.names.specs.declared.refusal.Refusal.TheVariants.{TooLong, BytesAfter}
 
 module _ (s : List ℕ) (acc : is_record s ≡ true) where
   pub record_read : condition_here s 5 ≡ got (record_in s) (length s)
@@ -21,7 +22,7 @@ module _ (s : List ℕ) (acc : is_record s ≡ true) where
       let w = accept (whole condition_record s) acc in
       let a = split (heading (68 ∷ 87 ∷ 67 ∷ []) 3 s 0) _ (whole_read condition_record s w.read) in
       let b = split (condition_at a.value levels s a.place) _ a.rest in
-      let f = held 10 (eqb b.place (length s)) s b.rest in
+      let f = held BytesAfter (eqb b.place (length s)) s b.rest in
       let p : a.place ≡ 5 = heading_place (68 ∷ 87 ∷ 67 ∷ []) 3 s a.first in
       let v : a.value ≡ version_in s = heading_version (68 ∷ 87 ∷ 67 ∷ []) 3 s a.first in
       let x : record_in s ≡ b.value = has_value _ w.read ∙ sym f.value in
@@ -32,7 +33,7 @@ module _ (s : List ℕ) (acc : is_record s ≡ true) where
   unfolding whole accepted
   record_small = go (leb (length s) 32768) refl acc
     where
-      go : (b : Bool) → leb (length s) 32768 ≡ b → accepted (cond b (condition_record s 0) (bad 1)) ≡ true → length s ≤ 32768
+      go : (b : Bool) → leb (length s) 32768 ≡ b → accepted (cond b (condition_record s 0) (bad TooLong)) ≡ true → length s ≤ 32768
       go true e h = leb-true _ _ e
       go false e h = absurd (false≢true h)
 

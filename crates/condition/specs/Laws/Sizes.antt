@@ -12,8 +12,10 @@ use Rattle.names.specs.Laws.Lists.{gather_append}
 use Rattle.names.specs.Fields.{got, Reader, ◌>>=◌, ◌<∘>◌, pure, refuse, holds, u8, u32, u64, i64, twos_complement, bytes, string_of, many, counted, choose, each, levels}
 use Rattle.names.specs.Paths.{path_of}
 use Rattle.decimal.specs.Decimal.{decimal_of, judged, decimal_text}
-use Rattle.decimal.specs.declared.Decimal.{Decimal}
-use Rattle.decimal.specs.declared.Decimal.TheVariants.{Value, Malformed, Beyond}
+use Rattle.decimal.specs.Decimal.{Decimal}
+use Rattle.std.specs.Prelude.{Ok, Err}
+use Rattle.names.specs.declared.refusal.Refusal.{Refusal}
+use Rattle.names.specs.declared.refusal.Refusal.TheVariants.{UndefinedChoice, OutsideClass, AggregateBelowArray, TooDeep, WindowOutOfRange}
 use Rattle.names.specs.Laws.Readers.{split, u8_view, bytes_view, got_value, got_place}
 use Rattle.condition.specs.Condition.{Condition, Term, Aggregate, Binder, Slot, Annotation, named, param_ref, binder_ref, Span, Operator, Window, One, Two, one, two, predicate, comparison, exists, tp, opaque, aggregate, call, span, slot_kinds, slot, annotation, binder, operators, operator, units, fits, seconds, amount_of, seconds_of, window_kinds, window, given, truths, truth, ArithOp, arith_ops, arith_op, entity_fields, timepoint_of, arguments, argument_list, elements, element_list, unary, binary, predicate_of, comparison_of, exists_of, condition_kinds, sum_of, count_of, aggregate_kinds, aggregate_of, arith_of, term_kinds, too_deep, condition_at, term_at}
 use Rattle.condition.specs.Condition as tree
@@ -107,7 +109,7 @@ module _ {A : Type 0} where
   stay : {k : ℕ} {size : A → ℕ} (a : A) → size a ≤ k → Owes k size (pure a)
   stay {k} {size} a h = record { on = λ s at {a = b} e. let z : b ≡ a = sym (got_value e) in rw z (omega (arith, got_place e)) }
 
-  never : {k : ℕ} {size : A → ℕ} (r : ℕ) → Owes {A = A} k size (refuse r)
+  never : {k : ℕ} {size : A → ℕ} (r : Refusal) → Owes {A = A} k size (refuse r)
   never r = record { on = λ s at e. let z : ◌≡◌ {A = ℕ} 0 1 = cc in absurd (omega arith) }
 
   either_way : {k : ℕ} {size : A → ℕ} (b : Bool) {f g : Reader A} → Owes k size f → Owes k size g → Owes k size (cond b f g)
@@ -124,7 +126,7 @@ module _ {A : Type 0} where
 
   chosen : {m : ℕ} {size : A → ℕ} (k : ℕ) (table : List (ℕ × Reader A)) → AllOwe m size table → Owes m size (choose k table)
   unfolding AllOwe choose
-  chosen k [] all = never 5
+  chosen k [] all = never UndefinedChoice
   chosen k ((n, f) ∷ rest) all = either_way (eqb k n) all.0 (chosen k rest all.1)
 
 module _ {A B : Type 0} where
@@ -152,14 +154,14 @@ eight_u64 : Takes 8 u64
 unfolding u64
 eight_u64 = on (whole_bytes 8) λ w. stay _ (omega arith)
 
-test : {A : Type 0} {k : ℕ} {size : A → ℕ} (r : ℕ) (b : Bool) (a : A) → size a ≤ k → Owes k size (holds r b a)
+test : {A : Type 0} {k : ℕ} {size : A → ℕ} (r : Refusal) (b : Bool) (a : A) → size a ≤ k → Owes k size (holds r b a)
 test r true a h = stay a h
 test r false a h = never r
 
 -- a string takes its length byte at least
 one_string : (class : List ℕ → Bool) → Takes 1 (string_of class)
 unfolding string_of
-one_string class = on one_u8 λ n. on (whole_bytes n) λ w. test 6 (class w) w (omega arith)
+one_string class = on one_u8 λ n. on (whole_bytes n) λ w. test OutsideClass (class w) w (omega arith)
 
 pub forward_string : (class : List ℕ → Bool) → Forward (string_of class)
 forward_string class = weaker (one_string class)
@@ -226,7 +228,7 @@ forward_operator = on forward_u8 λ k. chosen k operators (stay _ (omega arith),
 
 forward_amount : (unit : ℕ) → Forward (amount_of unit)
 unfolding amount_of
-forward_amount unit = on eight_u64 λ n. test 13 (fits unit n) (seconds (n * unit)) (omega arith)
+forward_amount unit = on eight_u64 λ n. test WindowOutOfRange (fits unit n) (seconds (n * unit)) (omega arith)
 
 forward_unit : (k : ℕ) → Forward (choose k units)
 unfolding units AllOwe
@@ -261,9 +263,8 @@ unfolding decimal_text judged
 forward_decimal = on (forward_string _) λ w. judges (decimal_of w)
   where
     judges : (d : Decimal) → Forward (judged d)
-    judges (Value z) = stay z (omega arith)
-    judges Malformed = never 15
-    judges Beyond = never 16
+    judges (Ok z) = stay z (omega arith)
+    judges (Err r) = never r
 
 forward_truth : Forward truth
 unfolding truth truths AllOwe
@@ -386,7 +387,7 @@ module _ (v : ℕ) (f : Reader Condition) (t : Bool → Reader Term) (p : Owes 0
       also made _ (forward_string _) (λ _. omega arith)
       also stay _ (omega arith)
       also made _ forward_element_list (λ _. omega arith)
-      also either_way b (never 9) (made aggregate aggregate_owes (λ a. omega (arith, aggregate_weight_lem a)))
+      also either_way b (never AggregateBelowArray) (made aggregate aggregate_owes (λ a. omega (arith, aggregate_weight_lem a)))
       also arith_owes b
       also stay _ (omega arith)
       also stay _ (omega arith)
@@ -394,7 +395,7 @@ module _ (v : ℕ) (f : Reader Condition) (t : Bool → Reader Term) (p : Owes 0
 
 deep_owes : {A : Type 0} {size : A → ℕ} (last : ℕ) → Owes 0 size (too_deep last)
 unfolding too_deep
-deep_owes last = on one_u8 λ k. either_way (leb 1 k && leb k last) (never 7) (never 5)
+deep_owes last = on one_u8 λ k. either_way (leb 1 k && leb k last) (never TooDeep) (never UndefinedChoice)
 
 record AtLevel (v l : ℕ) : Type 0 where
   conditions : Owes 0 weight (condition_at v l)

@@ -65,8 +65,8 @@ module _ (s c : List ℕ) (bytes : Bytes c) where
         arith,
         message_length m.which (quoted s c m) (quoted_count s c m),
         sum_take (words m.which) (map (word_text s c) (words_of m)),
-        word_within m.first h.first,
-        word_within m.second h.second,
-        word_within m.third h.third,
-        word_within m.fourth h.fourth,
+        word_within (word_of m 0) h.first,
+        word_within (word_of m 1) h.second,
+        word_within (word_of m 2) h.third,
+        word_within (word_of m 3) h.fourth,
       )

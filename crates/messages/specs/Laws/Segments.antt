@@ -1,16 +1,14 @@
 -- The segments of an annotation, joined, written and measured. Assumes nothing.
-use Rattle.std.specs.Prelude.{◌≡◌, true, ℕ, zero, suc, ◌+◌, ◌*◌, ◌-◌, ◌≤◌, ◌<◌, get_or, drop}
+use Rattle.std.specs.Prelude.{◌≡◌, true, ℕ, zero, suc, ◌+◌, ◌*◌, ◌-◌, ◌≤◌, ◌<◌, get_or, drop, Ok, Err}
 use Rattle.std.proofs.Math.Path.{refl, sym, ap}
 use Rattle.std.proofs.Common.{◌∙◌, arith, sub-one, rules, length-drop, length-take-le}
 use mathlib.Core.List.{List, [], ◌∷◌, ◌++◌, append_assoc, append-nil}
 use Rattle.std.proofs.Math.ListN.{length, length-append}
-use Rattle.names.specs.declared.Read.{Read}
-use Rattle.names.specs.declared.Read.TheVariants.{Next, Refused}
 use Rattle.names.specs.declared.Class.TheVariants.{Identifier}
 use Rattle.names.specs.Class.{class_of}
 use Rattle.names.specs.Names.{identifier, joined}
 use Rattle.names.specs.Fields.{got, string_of, many, counted, each}
-use Rattle.names.specs.Read.{ending, word_at, row, is_row, row_in, Listed}
+use Rattle.names.specs.Read.{ending, word_at, row, is_row, row_in, Listed, Read}
 use Rattle.names.specs.Writer.{Stored}
 use Rattle.names.specs.Laws.Writers.{stored_none, stored_more, stored_length}
 use Rattle.names.specs.Laws.Readers.{Accepted, accept, arrives, not_refused, string_view, has_value, got_place}
@@ -19,6 +17,7 @@ use Rattle.nodes.specs.Parts.{segments_in, SegmentsHere}
 use Rattle.nodes.specs.Laws.Pieces.{segments_index, segments_some, segments_listed}
 use Rattle.reports.specs.Pairs.{sum_of}
 use Rattle.messages.specs.Joined.{behind, Sized}
+use Rattle.names.specs.declared.refusal.Refusal.{Refusal}
 
 -- `::` and a segment
 pub colons_more : {s s' s'' w : List ℕ} {at r r' : ℕ} → Stored s at (58 ∷ 58 ∷ []) s' r → Stored s' r w s'' r' → Stored s at (58 ∷ 58 ∷ w) s'' r'
@@ -154,10 +153,10 @@ module _ (s : List ℕ) (at : ℕ) (h : SegmentsHere s at) (n : ℕ) (e : n ≡ 
     segments_read : Accepted (counted (each (string_of identifier)) s at)
     segments_read = accept _ h.stands
 
-    pub size_refused : (r : ℕ) → x ≡ Refused r → Sized (joined (segments_in s at)) 0
+    pub size_refused : (r : Refusal) → x ≡ Err r → Sized (joined (segments_in s at)) 0
     size_refused r j = absurd (not_refused segments_read.read i j)
 
-    module _ (end : ℕ) (j : x ≡ Next end) where
+    module _ (end : ℕ) (j : x ≡ Ok end) where
       extent : Extent s n (at + 1) (segments_in s at) end
       unfolding segments_in
       extent =
@@ -187,7 +186,7 @@ module _ (s : List ℕ) (at : ℕ) (h : SegmentsHere s at) (n : ℕ) (e : n ≡ 
   unfolding ending
   joined_most small few =
       let a = accept _ h.stands in
-      let ends : ending (counted (each (string_of identifier)) s at) ≡ Next a.place = ap ending a.read in
+      let ends : ending (counted (each (string_of identifier)) s at) ≡ Ok a.place = ap ending a.read in
       let after : at + 1 + n ≤ a.place = size_behind _ refl a.place ends in
       let some : 0 < n = omega (arith, h.some) in
       let k = size_is _ refl a.place ends small few (a.place + n - (at + 3)) (omega arith) in

@@ -1,15 +1,20 @@
 -- Laws of names. Assumes nothing.
 --     same_refl, same-eq, same-lengths     `same` is equality
+--     same-pointwise                       and what the library's `==` says of two slices
 --     order-refl, order_same               the order is 1 just at equal strings
 --     same-order, below-order              what `same` and `below` say, by the order
+--     cmp-less, cmp-equal, cmp-more        what the library's `cmp` says of two numbers, by `order_number`
 --     order_flip                           the other way round it is the opposite: it is total
 --     below-trans                          `below` is transitive
 use Rattle.std.specs.Prelude.{◌≡◌, refl, Bool, true, false, cond, ◌&&◌, List, [], ◌∷◌, ℕ, suc, ◌-◌, ◌<◌, length, eqb, ltb}
+use Rattle.std.specs.Cmp.Lexicographic.{pointwise}
+use Rattle.std.specs.Ordering.{nat_cmp}
 use Rattle.std.proofs.Common.{sym, ap, ap₂, ◌∙◌, arith, le_of_lt, le_of_eq, le_antisymm}
 use Rattle.std.proofs.Math.Bool.{and-false}
 use Rattle.std.proofs.lemmas.Bool.{false≢true}
 use borrow.Author.Tests.{eq-eqb, ne_eqb, eqb-true, lt-ltb, le-ltb, ltb-true, ltb-false}
 use Rattle.names.specs.Names.{same, below, order}
+use Rattle.names.specs.Order.{order_number}
 
 pub and_left : (a b : Bool) → (a && b) ≡ true → a ≡ true
 and_left true b h = refl
@@ -25,6 +30,13 @@ same_lengths [] [] h = absurd (h refl)
 same_lengths [] (b ∷ t) h = refl
 same_lengths (a ∷ s) [] h = refl
 same_lengths (a ∷ s) (b ∷ t) h = rw (same_lengths s t (λ e. h (ap suc e)), and-false)
+
+pub same_pointwise : (s t : List ℕ) → pointwise eqb s t ≡ same s t
+unfolding same
+same_pointwise [] [] = refl
+same_pointwise [] (b ∷ t) = refl
+same_pointwise (a ∷ s) [] = refl
+same_pointwise (a ∷ s) (b ∷ t) = ap (λ r. eqb a b && r) (same_pointwise s t)
 
 pub same_refl : (s : List ℕ) → same s s ≡ true
 unfolding same
@@ -54,6 +66,16 @@ three x y = go (ltb x y) (ltb y x) refl refl
     go false true e f = more (ltb-true y x f)
     go false false e f = equal (le_antisymm (ltb-false y x f) (ltb-false x y e))
 
+module _ (x y : ℕ) where
+  pub cmp_less : x < y → order_number (nat_cmp x y) ≡ 0
+  cmp_less h = rw (lt-ltb x y h)
+
+  pub cmp_equal : x ≡ y → order_number (nat_cmp x y) ≡ 1
+  cmp_equal e = rw (le-ltb x y (le_of_eq (sym e)), eq-eqb x y e)
+
+  pub cmp_more : y < x → order_number (nat_cmp x y) ≡ 2
+  cmp_more h = rw (le-ltb x y (le_of_lt h), ne_eqb x y (λ e. omega arith))
+
 module _ (x y : ℕ) (xs ys : List ℕ) where
   below_less : x < y → below (x ∷ xs) (y ∷ ys) ≡ true
   unfolding below
@@ -78,6 +100,15 @@ module _ (x y : ℕ) (xs ys : List ℕ) where
   pub order_equal : x ≡ y → order (x ∷ xs) (y ∷ ys) ≡ order xs ys
   unfolding order same
   order_equal e = rw (below_equal e, eq-eqb x y e)
+
+  -- two bytes that differ decide
+  pub order_cmp : (x ≡ y → ⊥) → order_number (nat_cmp x y) ≡ order (x ∷ xs) (y ∷ ys)
+  order_cmp n = go (three x y)
+    where
+      go : Three x y → order_number (nat_cmp x y) ≡ order (x ∷ xs) (y ∷ ys)
+      go (less h) = cmp_less x y h ∙ sym (order_less h)
+      go (equal e) = absurd (n e)
+      go (more h) = cmp_more x y h ∙ sym (order_more h)
 
 -- whether the order is that of the strings' first, by the number
 pub below_order : (xs ys : List ℕ) → below xs ys ≡ eqb (order xs ys) 0

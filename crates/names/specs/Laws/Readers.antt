@@ -1,7 +1,7 @@
 -- The laws of readers: what a field's bytes give, and how an answer passes through a sequence. Assumes nothing.
 use Rattle.std.proofs.Math.Path.{◌≡◌, refl, sym, ap}
 use Rattle.std.proofs.Common.{◌∙◌}
-use Rattle.std.specs.Prelude.{Bool, ◌&&◌, ltb, eqb, get_or, take, drop}
+use Rattle.std.specs.Prelude.{Bool, ◌&&◌, ltb, eqb, get_or, take, drop, Ok, Err, IsErrAnd}
 use Rattle.std.proofs.Math.Bool.{true, false, cond}
 use Rattle.std.proofs.lemmas.Bool.{false≢true}
 use mathlib.Core.List.{List, [], ◌∷◌}
@@ -12,18 +12,18 @@ use Rattle.std.proofs.Math.Numerals.{sub-one}
 use Rattle.std.proofs.Math.Nat.{zero-add}
 use Rattle.std.proofs.Math.Dec.{leb}
 use Rattle.std.proofs.Math.ListN.{length}
-use Rattle.names.specs.declared.Read.{Read}
-use Rattle.names.specs.declared.Read.TheVariants.{Next, Refused}
-use Rattle.names.specs.Fields.{Got, got, bad, Reader, next, holds, choose, u8, u16, number, bytes, string_of, many, heading, finished, whole}
+use Rattle.names.specs.Fields.{Got, got, bad, number_of, Reader, next, holds, choose, u8, u16, number, bytes, string_of, many, heading, finished, whole}
 use Rattle.names.specs.Lists.{first}
 use Rattle.names.specs.Names.{same}
 use Rattle.std.proofs.Math.Option.{Option, none, some}
-use Rattle.names.specs.Read.{ending, read_number, refusal_number, accepted, value_or, word_at}
+use Rattle.names.specs.Read.{ending, read_number, refusal_number, accepted, value_or, word_at, Read}
+use Rattle.names.specs.declared.refusal.Refusal.{Refusal}
+use Rattle.names.specs.declared.refusal.Refusal.TheVariants.{TooLong, Cut, OtherMark, OtherVersion, UndefinedChoice, OutsideClass, BytesAfter}
 
 infixl 10 ◌&◌
 -- Fields.
 module _ (s : List ℕ) (at : ℕ) where
-  pub u8-end : length s ≤ at → u8 s at ≡ bad 2
+  pub u8-end : length s ≤ at → u8 s at ≡ bad Cut
   unfolding u8
   u8-end h = rw (le-ltb _ _ h)
 
@@ -31,7 +31,7 @@ module _ (s : List ℕ) (at : ℕ) where
   unfolding u8
   u8_got h = rw (lt-ltb _ _ h)
 
-  pub bytes-end : (n : ℕ) → length s < at + n → bytes n s at ≡ bad 2
+  pub bytes-end : (n : ℕ) → length s < at + n → bytes n s at ≡ bad Cut
   unfolding bytes
   bytes-end n h = rw (lt-leb _ _ h)
 
@@ -40,17 +40,17 @@ module _ (s : List ℕ) (at : ℕ) where
   bytes_got n h = rw (le-leb _ _ h)
 
 module _ (class : List ℕ → Bool) (s : List ℕ) (at : ℕ) where
-  pub string-end : length s ≤ at → string_of class s at ≡ bad 2
+  pub string-end : length s ≤ at → string_of class s at ≡ bad Cut
   unfolding string_of
   string-end h = rw (u8-end s at h)
 
   module _ (h : at < length s) where
-    pub string_short : length s < at + 1 + get_or s at 0 → string_of class s at ≡ bad 2
+    pub string_short : length s < at + 1 + get_or s at 0 → string_of class s at ≡ bad Cut
     unfolding string_of
     string_short k = rw (u8_got s at h, bytes-end s (at + 1) _ k)
 
     module _ (k : at + 1 + get_or s at 0 ≤ length s) where
-      pub string_outside : class (word_at s at) ≡ false → string_of class s at ≡ bad 6
+      pub string_outside : class (word_at s at) ≡ false → string_of class s at ≡ bad OutsideClass
       unfolding string_of
       string_outside e = rw (u8_got s at h, bytes_got s (at + 1) _ k, e)
 
@@ -60,17 +60,17 @@ module _ (class : List ℕ → Bool) (s : List ℕ) (at : ℕ) where
 
 -- Sequences.
 module _ {A B : Type 0} (g : Got A) (f : A → ℕ → Got B) where
-  -- the first reader's code refused
-  pub stops : {x : Read} {e : ℕ} → x ≡ Refused e → x ≡ ending g → x ≡ ending (next g f)
+  -- the first reader's code refused: what it is refused for is handed on
+  pub stops : {x : Read} {e : Refusal} → x ≡ Err e → x ≡ ending g → Err e ≡ ending (next g f)
   unfolding ending
   stops {x} {e} p q = go g q
     where
-      go : (g : Got A) → x ≡ ending g → x ≡ ending (next g f)
+      go : (g : Got A) → x ≡ ending g → Err e ≡ ending (next g f)
       go (got a n) h = let z : ◌≡◌ {A = ℕ} 0 1 = cc in absurd (omega arith)
-      go (bad e') h = h
+      go (bad e') h = sym p ∙ h
 
   -- the first reader's code went on to `n`, and `y` is what the second answers there, whatever the value
-  pub goes : {x y : Read} {n : ℕ} → x ≡ Next n → x ≡ ending g → ((a : A) → g ≡ got a n → y ≡ ending (f a n)) → y ≡ ending (next g f)
+  pub goes : {x y : Read} {n : ℕ} → x ≡ Ok n → x ≡ ending g → ((a : A) → g ≡ got a n → y ≡ ending (f a n)) → y ≡ ending (next g f)
   unfolding ending
   goes {x} {y} {n} p q k = go g refl
     where
@@ -85,32 +85,40 @@ module _ {A B : Type 0} (h : A → B) where
   last (got a n) = refl
   last (bad e) = refl
 
+-- `?` hands on what the code of a part was refused for
+pub handed_on : {x y : Read} {r : Refusal} → IsErrAnd x (λ e. e ≡ r) → Err r ≡ y → x ≡ y
+handed_on {x} {y} {r} e f = go x e
+  where
+    go : (x : Read) → IsErrAnd x (λ e. e ≡ r) → x ≡ y
+    go (Ok n) e = absurd e
+    go (Err k) e = rw e f
+
 -- an answer at a reader, by what the reader is there
 pub via : {A : Type 0} {g h : Got A} {x : Read} → g ≡ h → x ≡ ending h → x ≡ ending g
 via e p = rw e p
 
--- A row of so many, in which the code keeps the key of the one before: `whole` is the answer to all, as the answer to what is left.
-module _ {A K : Type 0} (key : A → K) (f : Option K → Reader A) (s : List ℕ) (whole : Read) (n at : ℕ) (before : Option K) (inv : whole ≡ ending (many key f n before s at)) where
-  pub row_done : n ≤ 0 → Next at ≡ whole
+-- A row in which the code keeps the key of the one before: it reads the i-th of `end` things next, and `whole` is the answer to all, as the answer to those that are left.
+module _ {A K : Type 0} (key : A → K) (f : Option K → Reader A) (s : List ℕ) (whole : Read) (end i at : ℕ) (before : Option K) (inv : whole ≡ ending (many key f (end - i) before s at)) where
+  pub row_done : end ≤ i → Ok at ≡ whole
   unfolding many ending
-  row_done h = go n h inv
+  row_done h = go (end - i) (omega arith) inv
     where
-      go : (n : ℕ) → n ≤ 0 → whole ≡ ending (many key f n before s at) → Next at ≡ whole
+      go : (n : ℕ) → n ≤ 0 → whole ≡ ending (many key f n before s at) → Ok at ≡ whole
       go zero h i = sym i
       go (suc n) h i = absurd (omega arith)
 
-  module _ (h : 0 < n) (x : Read) (is : x ≡ ending (f before s at)) where
-    pub row_stops : (r : ℕ) → x ≡ Refused r → x ≡ whole
+  module _ (h : i < end) (x : Read) (is : x ≡ ending (f before s at)) where
+    pub row_stops : (r : Refusal) → x ≡ Err r → Err r ≡ whole
     unfolding many
-    row_stops r e = go n h inv
+    row_stops r e = go (end - i) (omega arith) inv
       where
-        go : (n : ℕ) → 0 < n → whole ≡ ending (many key f n before s at) → x ≡ whole
+        go : (n : ℕ) → 0 < n → whole ≡ ending (many key f n before s at) → Err r ≡ whole
         go zero h i = absurd (omega arith)
         go (suc n) h i = stops _ _ e is ∙ sym i
 
-    pub row_turn : (m : ℕ) → x ≡ Next m → (k : K) → ((a : A) → f before s at ≡ got a m → key a ≡ k) → whole ≡ ending (many key f (n - 1) (some k) s m)
+    pub row_turn : (m : ℕ) → x ≡ Ok m → (k : K) → ((a : A) → f before s at ≡ got a m → key a ≡ k) → whole ≡ ending (many key f (end - (i + 1)) (some k) s m)
     unfolding many
-    row_turn m e k is_key = go n h inv
+    row_turn m e k is_key = let left : end - (i + 1) ≡ (end - i) - 1 = omega arith in rw left (go (end - i) (omega arith) inv)
       where
         go : (n : ℕ) → 0 < n → whole ≡ ending (many key f n before s at) → whole ≡ ending (many key f (n - 1) (some k) s m)
         go zero h i = absurd (omega arith)
@@ -137,27 +145,27 @@ module _ {A : Type 0} where
   has_value other e = rw e
 
   -- the code's answer at what is accepted
-  pub arrives : {g : Got A} {a : A} {n m : ℕ} {x : Read} → g ≡ got a n → x ≡ ending g → x ≡ Next m → m ≡ n
+  pub arrives : {g : Got A} {a : A} {n m : ℕ} {x : Read} → g ≡ got a n → x ≡ ending g → x ≡ Ok m → m ≡ n
   unfolding ending
-  arrives {g} {a} {n} {m} {x} e f h = let i : x ≡ Next n = rw e at f in cc
+  arrives {g} {a} {n} {m} {x} e f h = let i : x ≡ Ok n = rw e at f in cc
 
-  pub not_refused : {g : Got A} {a : A} {n r : ℕ} {x : Read} → g ≡ got a n → x ≡ ending g → x ≡ Refused r → ⊥
+  pub not_refused : {g : Got A} {a : A} {n : ℕ} {r : Refusal} {x : Read} → g ≡ got a n → x ≡ ending g → x ≡ Err r → ⊥
   unfolding ending
-  not_refused {g} {a} {n} {r} {x} e f h = let i : x ≡ Next n = rw e at f in let z : ◌≡◌ {A = ℕ} 0 1 = cc in omega arith
+  not_refused {g} {a} {n} {r} {x} e f h = let i : x ≡ Ok n = rw e at f in let z : ◌≡◌ {A = ℕ} 0 1 = cc in omega arith
 
 -- what the code went past is accepted: from a reader's answer to what a lookup requires
-pub passes : {A : Type 0} (g : Got A) {x : Read} {n : ℕ} → x ≡ ending g → x ≡ Next n → accepted g ≡ true
+pub passes : {A : Type 0} (g : Got A) {x : Read} {n : ℕ} → x ≡ ending g → x ≡ Ok n → accepted g ≡ true
 unfolding ending accepted
 passes (got a m) e f = refl
 passes (bad r) {x} {n} e f = let z : ◌≡◌ {A = ℕ} 0 1 = cc in absurd (omega arith)
 
 -- what the code was refused by is what the reader gives, and its number
-pub refused_by : {A : Type 0} (g : Got A) (x : Read) (r : ℕ) → x ≡ ending g → x ≡ Refused r → g ≡ bad r
+pub refused_by : {A : Type 0} (g : Got A) (x : Read) (r : Refusal) → x ≡ ending g → x ≡ Err r → g ≡ bad r
 unfolding ending
 refused_by (got a n) x r e f = let z : ◌≡◌ {A = ℕ} 0 1 = cc in absurd (omega arith)
 refused_by (bad k) x r e f = let h : k ≡ r = cc in rw h
 
-pub refuses : {r k : ℕ} {x : Read} → x ≡ Refused r → k ≡ read_number x → k ≡ r
+pub refuses : {r : Refusal} {k : ℕ} {x : Read} → x ≡ Err r → k ≡ read_number x → k ≡ number_of r
 refuses e f = f ∙ rw e
 
 -- the number of a reader's answer
@@ -183,7 +191,7 @@ pub record Held {A : Type 0} (test : Bool) (a b : A) (n m : ℕ) : Type 0 where
   pub value : a ≡ b
   pub place : n ≡ m
 
-pub held : {A : Type 0} (r : ℕ) (test : Bool) (s : List ℕ) {a b : A} {n m : ℕ} → holds r test a s n ≡ got b m → Held test a b n m
+pub held : {A : Type 0} (r : Refusal) (test : Bool) (s : List ℕ) {a b : A} {n m : ℕ} → holds r test a s n ≡ got b m → Held test a b n m
 held r true s e = record { passed = refl; value = cc; place = cc }
 held r false s {a} {b} {n} {m} e = let z : ◌≡◌ {A = ℕ} 0 1 = cc in absurd (omega arith)
 
@@ -196,11 +204,11 @@ pub record StringView (class : List ℕ → Bool) (s : List ℕ) (at : ℕ) (w :
 module _ (s : List ℕ) (at : ℕ) where
   pub u8_view : {k n : ℕ} → u8 s at ≡ got k n → (at < length s) × (k ≡ get_or s at 0) × (n ≡ at + 1)
   unfolding u8
-  u8_view e = let h = held 2 (ltb at (length s)) s e in (ltb-true _ _ h.passed, sym h.value, sym h.place)
+  u8_view e = let h = held Cut (ltb at (length s)) s e in (ltb-true _ _ h.passed, sym h.value, sym h.place)
 
   pub bytes_view : (k : ℕ) {w : List ℕ} {n : ℕ} → bytes k s at ≡ got w n → (at + k ≤ length s) × (w ≡ take k (drop at s)) × (n ≡ at + k)
   unfolding bytes
-  bytes_view k e = let h = held 2 (leb (at + k) (length s)) s e in (leb-true _ _ h.passed, sym h.value, sym h.place)
+  bytes_view k e = let h = held Cut (leb (at + k) (length s)) s e in (leb-true _ _ h.passed, sym h.value, sym h.place)
 
 pub string_view : (class : List ℕ → Bool) (s : List ℕ) (at : ℕ) {w : List ℕ} {n : ℕ} → string_of class s at ≡ got w n → StringView class s at w n
 unfolding string_of
@@ -209,7 +217,7 @@ string_view class s at {w} {n} e =
     let u = u8_view s at a.first in
     let b = split (bytes a.value s a.place) _ a.rest in
     let v = bytes_view s a.place a.value b.first in
-    let h = held 6 (class b.value) s b.rest in
+    let h = held OutsideClass (class b.value) s b.rest in
     record { word = sym h.value ∙ v.1 ∙ rw (u.1, u.2); place = sym h.place ∙ v.2 ∙ rw (u.1, u.2); inside = rw (← h.place, v.2) v.0 }
 
 -- A rule of each number below n, by the rule at each: for the bytes of a table.
@@ -244,11 +252,11 @@ u16_value s at e =
     sym (got_value a.rest) ∙ ap (number 0) (bytes_view s at 2 a.first).1
 
 module _ {A : Type 0} (a : A) (s : List ℕ) (at : ℕ) where
-  pub finished_here : at ≡ length s → Next at ≡ ending (finished a s at)
+  pub finished_here : at ≡ length s → Ok at ≡ ending (finished a s at)
   unfolding finished ending
   finished_here e = rw (eq-eqb _ _ e)
 
-  pub finished_not : (at ≡ length s → ⊥) → Refused 10 ≡ ending (finished a s at)
+  pub finished_not : (at ≡ length s → ⊥) → Err BytesAfter ≡ ending (finished a s at)
   unfolding finished ending
   finished_not e = rw (ne_eqb _ _ e)
 
@@ -277,11 +285,11 @@ module _ (mark : List ℕ) (newest : ℕ) (s : List ℕ) {v n : ℕ} (e : headin
   unfolding heading
   heading_view =
       let a = split (bytes (length mark) s 0) _ e in
-      let b = split (holds 3 (same a.value mark) a.value s a.place) _ a.rest in
+      let b = split (holds OtherMark (same a.value mark) a.value s a.place) _ a.rest in
       let d = split (u16 s b.place) _ b.rest in
       let i = (bytes_view s 0 (length mark) a.first).2 in
-      let j = (held 3 (same a.value mark) s b.first).place in
-      let l = held 4 (leb 1 d.value && leb d.value newest) s d.rest in
+      let j = (held OtherMark (same a.value mark) s b.first).place in
+      let l = held OtherVersion (leb 1 d.value && leb d.value newest) s d.rest in
       let p : b.place ≡ length mark = sym j ∙ i ∙ zero-add (length mark) in (
         sym l.place ∙ u16_place s b.place d.first ∙ ap (λ (m : ℕ). m + 2) p,
         sym l.value ∙ u16_value s b.place d.first ∙ ap (λ (m : ℕ). number 0 (take 2 (drop m s))) p,
@@ -295,13 +303,13 @@ module _ (mark : List ℕ) (newest : ℕ) (s : List ℕ) {v n : ℕ} (e : headin
 
 pub finished_value : {A : Type 0} (a : A) (s : List ℕ) (at : ℕ) {b : A} {n : ℕ} → finished a s at ≡ got b n → a ≡ b
 unfolding finished
-finished_value a s at e = (held 10 (eqb at (length s)) s e).value
+finished_value a s at e = (held BytesAfter (eqb at (length s)) s e).value
 
 pub whole_read : {A : Type 0} (f : Reader A) (s : List ℕ) {a : A} {n : ℕ} → whole f s ≡ got a n → f s 0 ≡ got a n
 unfolding whole
 whole_read f s {a} {n} e = go (leb (length s) 32768) e
   where
-    go : (b : Bool) → cond b (f s 0) (bad 1) ≡ got a n → f s 0 ≡ got a n
+    go : (b : Bool) → cond b (f s 0) (bad TooLong) ≡ got a n → f s 0 ≡ got a n
     go true i = i
     go false i = let z : ◌≡◌ {A = ℕ} 0 1 = cc in absurd (omega arith)
 
@@ -359,12 +367,12 @@ keys_up_to bound [] = true
 keys_up_to bound ((n, f) ∷ rest) = cond (leb n bound) (keys_up_to bound rest) false
 
 module _ {A : Type 0} (s : List ℕ) (at : ℕ) where
-  pub choose_beyond : (bound k : ℕ) → bound < k → (table : List (ℕ × Reader A)) → keys_up_to bound table ≡ true → choose k table s at ≡ bad 5
+  pub choose_beyond : (bound k : ℕ) → bound < k → (table : List (ℕ × Reader A)) → keys_up_to bound table ≡ true → choose k table s at ≡ bad UndefinedChoice
   unfolding choose keys_up_to
   choose_beyond bound k h [] e = refl
   choose_beyond bound k h ((n, f) ∷ rest) e = go (λ i. choose_beyond bound k h rest i) (leb n bound) refl e
     where
-      go : (keys_up_to bound rest ≡ true → choose k rest s at ≡ bad 5) → (b : Bool) → leb n bound ≡ b → cond b (keys_up_to bound rest) false ≡ true → cond (eqb k n) f (choose k rest) s at ≡ bad 5
+      go : (keys_up_to bound rest ≡ true → choose k rest s at ≡ bad UndefinedChoice) → (b : Bool) → leb n bound ≡ b → cond b (keys_up_to bound rest) false ≡ true → cond (eqb k n) f (choose k rest) s at ≡ bad UndefinedChoice
       go beyond true l i = let m = leb-true n bound l in rw (ne_eqb k n (λ e. omega arith)) (beyond i)
       go beyond false l i = absurd (false≢true i)
 

@@ -1,5 +1,5 @@
 -- Rows of things that are read alike: the exits and turns of their readers, and a walk over an accepted row. Assumes nothing.
-use Rattle.std.specs.Prelude.{◌≡◌, Bool, true, get_or}
+use Rattle.std.specs.Prelude.{◌≡◌, Bool, true, get_or, Ok, Err}
 use Rattle.std.proofs.Math.Path.{refl, sym, ap}
 use Rattle.std.proofs.Common.{◌∙◌, zero-add, suc-add, arith}
 use mathlib.Core.List.{List, [], ◌∷◌, ◌++◌}
@@ -7,11 +7,11 @@ use Rattle.std.proofs.Math.Option.{Option, some}
 use Prim.Native.Nat.{ℕ, zero, suc, ◌+◌, ◌-◌, ◌≤◌, ◌<◌}
 use Rattle.std.proofs.Math.Numerals.{sub-one}
 use Rattle.std.proofs.Math.ListN.{length, take}
-use Rattle.names.specs.declared.Read.{Read}
-use Rattle.names.specs.declared.Read.TheVariants.{Next, Refused}
 use Rattle.names.specs.Fields.{got, Reader, u8, bytes, string_of, many, each, counted}
-use Rattle.names.specs.Read.{ending, accepted, value_or, word_at, row, is_row, row_in, Listed}
+use Rattle.names.specs.Read.{ending, accepted, value_or, word_at, row, is_row, row_in, Listed, Read}
 use Rattle.names.specs.Laws.Readers.{u8-end, u8_got, u8_view, string_view, split, held, stops, goes, last, accept, is_accepted, has_value, got_value, got_place, arrives}
+use Rattle.names.specs.declared.refusal.Refusal.{Refusal}
+use Rattle.names.specs.declared.refusal.Refusal.TheVariants.{Cut, OutsideClass}
 
 module _ {A : Type 0} (f : Reader A) (s : List ℕ) where
   -- what stands before says nothing
@@ -20,7 +20,7 @@ module _ {A : Type 0} (f : Reader A) (s : List ℕ) where
   row_any zero before at = refl
   row_any (suc n) before at = refl
 
-  pub counted-end : (at : ℕ) → length s ≤ at → Refused 2 ≡ ending (counted (each f) s at)
+  pub counted-end : (at : ℕ) → length s ≤ at → Err Cut ≡ ending (counted (each f) s at)
   unfolding counted ending
   counted-end at h = rw (u8-end s at h)
 
@@ -28,27 +28,28 @@ module _ {A : Type 0} (f : Reader A) (s : List ℕ) where
   unfolding counted
   counted_start at n h e = rw (u8_got s at h, ← e)
 
-  module _ (whole : Read) (n at : ℕ) (inv : whole ≡ ending (row f n s at)) where
-    pub each_done : n ≤ 0 → Next at ≡ whole
+  -- The code reads the i-th of `end` things next: `whole` is the answer to all, as the answer to those that are left.
+  module _ (whole : Read) (end i at : ℕ) (inv : whole ≡ ending (row f (end - i) s at)) where
+    pub each_done : end ≤ i → Ok at ≡ whole
     unfolding many ending
-    each_done h = go n h inv
+    each_done h = go (end - i) (omega arith) inv
       where
-        go : (n : ℕ) → n ≤ 0 → whole ≡ ending (row f n s at) → Next at ≡ whole
+        go : (n : ℕ) → n ≤ 0 → whole ≡ ending (row f n s at) → Ok at ≡ whole
         go zero h i = sym i
         go (suc n) h i = absurd (omega arith)
 
-    module _ (h : 0 < n) (x : Read) (is : x ≡ ending (f s at)) where
-      pub each_stops : (r : ℕ) → x ≡ Refused r → x ≡ whole
+    module _ (h : i < end) (x : Read) (is : x ≡ ending (f s at)) where
+      pub each_stops : (r : Refusal) → x ≡ Err r → Err r ≡ whole
       unfolding many
-      each_stops r e = go n h inv
+      each_stops r e = go (end - i) (omega arith) inv
         where
-          go : (n : ℕ) → 0 < n → whole ≡ ending (row f n s at) → x ≡ whole
+          go : (n : ℕ) → 0 < n → whole ≡ ending (row f n s at) → Err r ≡ whole
           go zero h i = absurd (omega arith)
           go (suc n) h i = stops _ _ e is ∙ sym i
 
-      pub each_turn : (m : ℕ) → x ≡ Next m → whole ≡ ending (row f (n - 1) s m)
+      pub each_turn : (m : ℕ) → x ≡ Ok m → whole ≡ ending (row f (end - (i + 1)) s m)
       unfolding many
-      each_turn m e = go n h inv
+      each_turn m e = let left : end - (i + 1) ≡ (end - i) - 1 = omega arith in rw left (go (end - i) (omega arith) inv)
         where
           go : (n : ℕ) → 0 < n → whole ≡ ending (row f n s at) → whole ≡ ending (row f (n - 1) s m)
           go zero h i = absurd (omega arith)
@@ -164,7 +165,7 @@ module _ {A : Type 0} (f : Reader A) (s : List ℕ) where
     pub others : List A
     pub stands : accepted (f s at) ≡ true
     pub value : list ≡ value_or other (f s at) ∷ others
-    pub on : (m : ℕ) → Next m ≡ ending (f s at) → Listed f s others (n - 1) m
+    pub on : (m : ℕ) → Ok m ≡ ending (f s at) → Listed f s others (n - 1) m
 
   pub listed_first : (other : A) (list : List A) (n at : ℕ) → 0 < n → Listed f s list n at → ListedFirst other list n at
   listed_first other list n at h l =
@@ -193,7 +194,7 @@ module _ {A B : Type 0} (f : Reader A) (s : List ℕ) (answer : List A → B) (o
   pub record RemainingFirst (other : A) (n at : ℕ) : Type 0 where
     pub others : List A
     pub same : answer (value_or other (f s at) ∷ others) ≡ o
-    pub on : (m : ℕ) → Next m ≡ ending (f s at) → Listed f s others (n - 1) m
+    pub on : (m : ℕ) → Ok m ≡ ending (f s at) → Listed f s others (n - 1) m
 
   pub remaining_first : (other : A) (n at : ℕ) → 0 < n → Remaining n at → RemainingFirst other n at
   remaining_first other n at h r =
@@ -210,7 +211,7 @@ unfolding string_of
 string_class class s at e =
     let a = split (u8 s at) _ e in
     let b = split (bytes a.value s a.place) _ a.rest in
-    let h = held 6 (class b.value) s b.rest in
+    let h = held OutsideClass (class b.value) s b.rest in
     ap class (sym h.value) ∙ h.passed
 
 -- The same loop over strings, which goes on to the byte after each.

@@ -1,16 +1,20 @@
 -- Eight bytes as one word. Assumes nothing.
 --     word_of          the shifts and `|` of eight bytes are their big-endian number
+--     word_of_library  and so is what the library's `from_be_bytes` makes of them
 --     word-order       two words are equal, or one below the other, exactly as their bytes are in order
---     words-less, words_more, words-equal   what a turn of a comparison learns from two words
+--     words-less, words_more, words_cmp, words-equal   what a turn of a comparison learns from two words
 --     words_same, words-differ              and what one of a test of equality
-use Rattle.std.specs.Prelude.{◌≡◌, refl, false, cond, ◌⊎◌, List, [], ◌∷◌, ◌++◌, ℕ, ◌+◌, ◌*◌, ◌%◌, ◌^◌, ◌<◌, ◌≤◌, length, get_or, take, drop, ltb, eqb}
-use Rattle.std.proofs.Common.{sym, ap, ap₂, ◌∙◌, add-zero, add-mul, mul_assoc, le_of_lt, le_of_eq, arith, length-drop, take-append-drop, get_or-drop, drop-drop, length-take-le, lit≤, shl_lt, pow-add}
+use Rattle.std.specs.Prelude.{◌≡◌, refl, false, cond, List, [], ◌∷◌, ◌++◌, ℕ, ◌+◌, ◌*◌, ◌%◌, ◌^◌, ◌<◌, ◌≤◌, length, get_or, take, drop, ltb, eqb}
+use Rattle.std.proofs.Common.{sym, ap, ap₂, ◌∙◌, add-zero, add-mul, mul_assoc, lit≤, shl_lt, pow-add, le_of_lt, le_of_eq, arith, length-drop, take-append-drop, get_or-drop, drop-drop, length-take-le}
+use Rattle.std.specs.Int.{w64, from_be_bytes}
 use Rattle.std.specs.Int.Bits.{bit_or, or_shifted}
 use Rattle.std.proofs.Math.Pow.{shl_exact}
+use Rattle.std.specs.Ordering.{nat_cmp}
 use borrow.Author.Tests.{lt-ltb, le-ltb}
 use Rattle.names.specs.Fields.{number}
 use Rattle.names.specs.Names.{same, order}
-use Rattle.names.specs.Laws.Names.{order_less, order_more, order_equal, same_order, Three, three, less, equal, more}
+use Rattle.names.specs.Laws.Names.{order_less, order_more, order_equal, same_order, cmp_less, cmp_more, Three, three, less, equal, more}
+use Rattle.names.specs.Order.{order_number}
 
 -- each is a byte
 unfoldable pub Bytes : List ℕ → Type 0
@@ -21,12 +25,6 @@ Bytes (b ∷ bs) = (b < 256) × Bytes bs
 pub record WordAt (s : List ℕ) (at r : ℕ) : Type 0 where
   pub is : r ≡ number 0 (take 8 (drop at s))
   pub bytes : Bytes (take 8 (drop at s))
-
--- the lesser of two numbers
-pub record Lesser (m n r : ℕ) : Type 0 where
-  pub first : r ≤ m
-  pub second : r ≤ n
-  pub one : (m ≤ r) ⊎ (n ≤ r)
 
 -- the order of two strings by the words in front of them, and where these are equal by what follows
 unfoldable pub by_word : ℕ → ℕ → ℕ → ℕ
@@ -121,6 +119,19 @@ word_of s at a b c d e f g h l p q r t u v w x =
       bytes = rw eight (p.1, (q.1, (r.1, (t.1, (u.1, (v.1, (w.1, (x.1, tt))))))));
     }
 
+-- what the library makes of the eight bytes from a place on
+pub word_of_library : (s : List ℕ) (at r : ℕ) → at + 8 ≤ length s → ((i : ℕ) → get_or s i 0 < 256)
+    → r ≡ from_be_bytes w64 (get_or s at 0 ∷ get_or s (at + 1) 0 ∷ get_or s (at + 2) 0 ∷ get_or s (at + 3) 0 ∷ get_or s (at + 4) 0 ∷ get_or s (at + 5) 0 ∷ get_or s (at + 6) 0 ∷ get_or s (at + 7) 0 ∷ [])
+    → WordAt s at r
+unfolding Bytes number
+word_of_library s at r l small is =
+    let eight : take 8 (drop at s) ≡ get_or s at 0 ∷ get_or s (at + 1) 0 ∷ get_or s (at + 2) 0 ∷ get_or s (at + 3) 0 ∷ get_or s (at + 4) 0 ∷ get_or s (at + 5) 0 ∷ get_or s (at + 6) 0 ∷ get_or s (at + 7) 0 ∷ [] =
+    first_eight (drop at s) (simp length-drop (omega arith)) ∙ simp (get_or-drop, add-zero) (refl) in
+    record {
+      is = rw eight (omega arith);
+      bytes = rw eight (small at, (small (at + 1), (small (at + 2), (small (at + 3), (small (at + 4), (small (at + 5), (small (at + 6), (small (at + 7), tt))))))));
+    }
+
 -- the eight bytes of two strings from a place on, and what follows them
 module _ (a b : List ℕ) (i x y : ℕ) (h : i + 8 ≤ length a) (k : i + 8 ≤ length b) (p : WordAt a i x) (q : WordAt b i y) where
   parted : (s : List ℕ) → drop i s ≡ take 8 (drop i s) ++ drop (i + 8) s
@@ -140,6 +151,14 @@ module _ (a b : List ℕ) (i x y : ℕ) (h : i + 8 ≤ length a) (k : i + 8 ≤ 
 
   pub words_more : y < x → 2 ≡ order (drop i a) (drop i b)
   words_more l = sym (by_words ∙ by_more x y (order (drop (i + 8) a) (drop (i + 8) b)) l)
+
+  pub words_cmp : (x ≡ y → ⊥) → order_number (nat_cmp x y) ≡ order (drop i a) (drop i b)
+  words_cmp n = go (three x y)
+    where
+      go : Three x y → order_number (nat_cmp x y) ≡ order (drop i a) (drop i b)
+      go (less l) = cmp_less x y l ∙ words_less l
+      go (equal e) = absurd (n e)
+      go (more l) = cmp_more x y l ∙ words_more l
 
   pub words_equal : x ≡ y → order (drop (i + 8) a) (drop (i + 8) b) ≡ order (drop i a) (drop i b)
   words_equal e = sym (by_words ∙ by_equal x y (order (drop (i + 8) a) (drop (i + 8) b)) e)

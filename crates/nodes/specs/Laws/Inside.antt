@@ -1,11 +1,10 @@
 -- What stands where the first part of a node does, by the kind of the node. Assumes nothing.
-use Rattle.std.specs.Prelude.{◌≡◌, true, false, List, [], ◌∷◌, ◌++◌, ℕ, ◌+◌, ◌≤◌, ◌<◌, get_or}
+use Rattle.std.specs.Prelude.{◌≡◌, true, false, List, [], ◌∷◌, ◌++◌, ℕ, ◌+◌, ◌≤◌, ◌<◌, get_or, Ok}
 use Rattle.std.proofs.Math.Path.{refl, ap}
 use Rattle.std.proofs.Common.{sym, ap₂, ◌∙◌, arith, rules}
 use Rattle.std.proofs.Math.Bool.{false≢true}
 use borrow.Author.Tests.{ne_eqb, le-leb, lt-leb}
 use Rattle.std.proofs.Math.Dec.{eqb}
-use Rattle.names.specs.declared.Read.TheVariants.{Next}
 use Rattle.names.specs.Fields.{Got, got}
 use Rattle.names.specs.Read.{ending}
 use Rattle.names.specs.Laws.Readers.{is_accepted, has_value}
@@ -24,7 +23,7 @@ pub same_end : {A B : Type 0} {g : Got A} {h : Got B} {a : A} {b : B} {n : ℕ} 
 unfolding ending
 same_end e f = rw (e, f)
 
-pub ended : {A : Type 0} {g : Got A} {a : A} {n : ℕ} → g ≡ got a n → ending g ≡ Next n
+pub ended : {A : Type 0} {g : Got A} {a : A} {n : ℕ} → g ≡ got a n → ending g ≡ Ok n
 unfolding ending
 ended e = rw e
 

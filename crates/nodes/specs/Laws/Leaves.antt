@@ -3,7 +3,7 @@
 --     leaves-gather            what an Arith has of its left, then of its right, its leaves have one after the other
 --     one-term, one-leaves     a term by itself is a row of one, and has its leaves
 --     leaf-next ..             what a walk over the leaves learns of the next one
-use Rattle.std.specs.Prelude.{◌≡◌, refl, true, ℕ, ◌<◌, length}
+use Rattle.std.specs.Prelude.{◌≡◌, refl, true, ℕ, ◌<◌, length, Some}
 use Rattle.std.proofs.Math.Path.{sym, ap, ap₂}
 use Rattle.std.proofs.Common.{◌∙◌, arith}
 use mathlib.Core.List.{List, [], ◌∷◌, ◌++◌, append-nil}
@@ -18,8 +18,7 @@ use Rattle.condition.specs.Condition as tree
 use Rattle.condition.specs.Places.{term_here, is_term, term_in}
 use Rattle.nodes.specs.Kinds.{term_kind_of}
 use Rattle.nodes.specs.declared.Several.{Several}
-use Rattle.nodes.specs.declared.NextLeaf.{NextLeaf}
-use Rattle.nodes.specs.Parts.{is_terms, operand_leaves, leaves_in, LeafNext, NextLeafIs}
+use Rattle.nodes.specs.Parts.{is_terms, operand_leaves, leaves_in, LeafNext, NextLeafIs, NextPart}
 use Rattle.nodes.specs.Laws.Opens.{term_stands}
 
 pub leaf_itself : (x : Term) → (term_kind_of x ≡ 12 → ⊥) → operand_leaves x ≡ x ∷ []
@@ -59,7 +58,7 @@ module _ (s : List ℕ) (at : ℕ) (acc : is_term s at ≡ true) where
   one_leaves = ap (gather operand_leaves) (has_value [] (row_cons term_here s 0 at (term_stands s at acc).read refl)) ∙ append-nil (operand_leaves (term_in s at))
 
 -- the next leaf, as the code learns it
-module _ (s : List ℕ) (left : Several) (x : NextLeaf) (is : NextLeafIs s (leaves_in s left.count left.first) x) (p : ℕ) (rest : Several) (e : x ≡ NextLeaf.At p rest) where
+module _ (s : List ℕ) (left : Several) (x : NextPart) (is : NextLeafIs s (leaves_in s left.count left.first) x) (p : ℕ) (rest : Several) (e : x ≡ Some (p, rest)) where
   pub leaf_next : LeafNext s (leaves_in s left.count left.first) p rest
   leaf_next = rw e at is
 

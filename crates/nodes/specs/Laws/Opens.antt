@@ -1,11 +1,9 @@
 -- What the code learns at a position of accepted bytes: the place behind a field, the kind of what stands there, where its parts stand. Assumes nothing.
-use Rattle.std.specs.Prelude.{◌≡◌, refl, Bool, true, false, cond, List, ℕ, ◌+◌, ◌≤◌, ◌<◌, eqb, length, get_or}
+use Rattle.std.specs.Prelude.{◌≡◌, refl, Bool, true, false, cond, List, ℕ, ◌+◌, ◌≤◌, ◌<◌, eqb, length, get_or, Ok}
 use Rattle.std.proofs.Common.{sym, ap, ◌∙◌, arith, rules, ne_eqb}
 use Rattle.std.proofs.lemmas.Bool.{false≢true}
-use Rattle.names.specs.declared.Read.{Read}
-use Rattle.names.specs.declared.Read.TheVariants.{Next}
 use Rattle.names.specs.Fields.{Got, got, bad, Reader, levels, each, counted}
-use Rattle.names.specs.Read.{ending, accepted, value_or}
+use Rattle.names.specs.Read.{ending, accepted, value_or, Read}
 use Rattle.names.specs.Laws.Readers.{arrives, has_value}
 use Rattle.condition.specs.Condition.{Condition, Term, Aggregate, sum, count, call, slot, binder, condition_at, term_at}
 use Rattle.condition.specs.Places.{version_in, condition_here, term_here, is_condition, condition_in, is_term, term_in, aggregate_at, is_aggregate, aggregate_in, is_slot, is_binder}
@@ -55,7 +53,7 @@ module _ (s : List ℕ) (at : ℕ) (x : Read) (n : ℕ) where
 pub ruleset passing = (rules, skipped_slot, skipped_binder, skipped_binders, skipped_condition, skipped_term)
 
 -- where a field ends, by what was read
-pub ends_at : {A : Type 0} {g : Got A} {a : A} {n m : ℕ} → g ≡ got a n → ending g ≡ Next m → m ≡ n
+pub ends_at : {A : Type 0} {g : Got A} {a : A} {n m : ℕ} → g ≡ got a n → ending g ≡ Ok m → m ≡ n
 ends_at e h = arrives e (sym h) refl
 
 -- what is read at a place of another name
@@ -73,35 +71,6 @@ module _ (s : List ℕ) {p m n : ℕ} (i : p ≡ m) where
   pub term_value : {x : Term} → term_here s m ≡ got x n → term_in s p ≡ x
   unfolding term_in
   term_value e = rw i (has_value _ e)
-
--- The kinds with one condition and with two.
-module _ (k : ℕ) where
-  pub one_of : (k ≡ 3) → true ≡ one_kind k
-  one_of e = rw e
-
-  pub one_of_4 : (k ≡ 4) → true ≡ one_kind k
-  one_of_4 e = rw e
-
-  pub one_of_5 : (k ≡ 5) → true ≡ one_kind k
-  one_of_5 e = rw e
-
-  pub one_of_13 : (k ≡ 13) → true ≡ one_kind k
-  one_of_13 e = rw e
-
-  pub none_of : (k ≡ 3 → ⊥) → (k ≡ 4 → ⊥) → (k ≡ 5 → ⊥) → (k ≡ 13 → ⊥) → false ≡ one_kind k
-  none_of a b c d = rw (ne_eqb k 3 a, ne_eqb k 4 b, ne_eqb k 5 c, ne_eqb k 13 d)
-
-  pub two_of : (k ≡ 1) → true ≡ two_kind k
-  two_of e = rw e
-
-  pub two_of_2 : (k ≡ 2) → true ≡ two_kind k
-  two_of_2 e = rw e
-
-  pub two_of_6 : (k ≡ 6) → true ≡ two_kind k
-  two_of_6 e = rw e
-
-  pub not_two : (k ≡ 1 → ⊥) → (k ≡ 2 → ⊥) → (k ≡ 6 → ⊥) → false ≡ two_kind k
-  not_two a b c = rw (ne_eqb k 1 a, ne_eqb k 2 b, ne_eqb k 6 c)
 
 -- the byte of a kind, where the tree tells the kind apart
 raw : (b k other least : ℕ) → cond (eqb b other) least b ≡ k → (k ≡ least → ⊥) → b ≡ k
@@ -217,4 +186,33 @@ counts (sum span sl bs body) h i = absurd (i refl)
 counts (count span bs body) h i = refl
 counts (call span) h i = absurd (h refl)
 
-pub ruleset opening = (rules, one_of, one_of_4, one_of_5, one_of_13, none_of, two_of, two_of_2, two_of_6, not_two, condition_index, kind_sigil, kind_itself, term_index, term_sigil, term_itself, aggregate_index, aggregate_kind_here)
+-- The kinds with one condition and with two.
+module _ (k : ℕ) where
+  pub one_of : (k ≡ 3) → true ≡ one_kind k
+  one_of e = rw e
+
+  pub one_of_4 : (k ≡ 4) → true ≡ one_kind k
+  one_of_4 e = rw e
+
+  pub one_of_5 : (k ≡ 5) → true ≡ one_kind k
+  one_of_5 e = rw e
+
+  pub one_of_13 : (k ≡ 13) → true ≡ one_kind k
+  one_of_13 e = rw e
+
+  pub none_of : (k ≡ 3 → ⊥) → (k ≡ 4 → ⊥) → (k ≡ 5 → ⊥) → (k ≡ 13 → ⊥) → false ≡ one_kind k
+  none_of a b c d = rw (ne_eqb k 3 a, ne_eqb k 4 b, ne_eqb k 5 c, ne_eqb k 13 d)
+
+  pub two_of : (k ≡ 1) → true ≡ two_kind k
+  two_of e = rw e
+
+  pub two_of_2 : (k ≡ 2) → true ≡ two_kind k
+  two_of_2 e = rw e
+
+  pub two_of_6 : (k ≡ 6) → true ≡ two_kind k
+  two_of_6 e = rw e
+
+  pub not_two : (k ≡ 1 → ⊥) → (k ≡ 2 → ⊥) → (k ≡ 6 → ⊥) → false ≡ two_kind k
+  not_two a b c = rw (ne_eqb k 1 a, ne_eqb k 2 b, ne_eqb k 6 c)
+
+pub ruleset opening = (rules, condition_index, kind_sigil, kind_itself, term_index, term_sigil, term_itself, aggregate_index, aggregate_kind_here)

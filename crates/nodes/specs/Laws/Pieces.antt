@@ -4,11 +4,10 @@ use Rattle.std.proofs.Math.Path.{refl, sym, ap, ap₂}
 use Rattle.std.proofs.Common.{◌∙◌, sub-one, rules}
 use native.Mathlib.Omega.{arith}
 use Rattle.std.proofs.Math.ListN.{get_or}
-use Rattle.names.specs.declared.Read.{Read}
 use Rattle.names.specs.Fields.{got, Reader, u8, string_of, each, counted, choose, levels}
 use Rattle.names.specs.Names.{plain, path_name, identifier, last_of}
 use Rattle.names.specs.Paths.{path_of}
-use Rattle.names.specs.Read.{ending, accepted, value_or, word_at, row, Listed}
+use Rattle.names.specs.Read.{ending, accepted, value_or, word_at, row, Listed, Read}
 use Rattle.names.specs.Laws.Readers.{split, u8_view, accept, is_accepted, has_value, got_value, got_place, string_view, Each, keys_up_to}
 use Rattle.names.specs.Laws.Rows.{counted_view, listed, Opens, opens, Remaining, row_empty}
 use Rattle.nodes.specs.declared.Ends.{Ends}

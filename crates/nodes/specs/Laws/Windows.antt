@@ -8,6 +8,7 @@ use Rattle.condition.specs.Condition.{Window, unsaid, seconds, parameter, units,
 use Rattle.condition.specs.Places.{UnitOf}
 use Rattle.nodes.specs.Offsets.{window_length}
 use Rattle.nodes.specs.Laws.Choices.{by_kind}
+use Rattle.names.specs.declared.refusal.Refusal.TheVariants.{WindowOutOfRange}
 
 -- an amount of a unit
 pub record AmountView (unit : ℕ) (s : List ℕ) (at : ℕ) (w : Window) (n : ℕ) : Type 0 where
@@ -23,7 +24,7 @@ amount_view unit s at {w} {n} e =
     let b = split (bytes 8 s at) _ a.first in
     let v = bytes_view s at 8 b.first in
     let i : a.value ≡ number 0 (take 8 (drop at s)) = sym (got_value b.rest) ∙ ap (number 0) v.1 in
-    let h = held 13 (fits unit a.value) s a.rest in
+    let h = held WindowOutOfRange (fits unit a.value) s a.rest in
     let p = got_place b.rest in
     let q = h.place in
     record { inside = v.0; passed = ap (fits unit) (sym i) ∙ h.passed; value = sym h.value ∙ ap (λ (m : ℕ). seconds (m * unit)) i; place = omega (arith, v.2) }

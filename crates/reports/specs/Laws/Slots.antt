@@ -254,7 +254,7 @@ tabled_repeat key bs slots tabled b h = record {
 }
 
 -- the slot that a search gave takes the report
-module _ (key : ℕ) (bs : List Breach) (slots : List ℕ) (tabled : Tabled key bs slots) (b : Breach) (j : ℕ) (slot : FreeFor key bs slots (record { start = b.start; end = 0; message = b.message }) j) where
+module _ (key : ℕ) (bs : List Breach) (slots : List ℕ) (tabled : Tabled key bs slots) (b : Breach) (j : ℕ) (slot : FreeFor key bs slots b j) where
   abbrev entry : ℕ
   entry = size bs + 1
 
@@ -407,7 +407,7 @@ module _ (s : List ℕ) (st : State) (table : List ℕ) (p : Sound (sink s st)) 
 
   -- a report that the search did not find
   module _ (b : Breach) {after : Sink} (is : after ≡ append before b) where
-    pub filed_more : Tabled (key_of table) (held before) (slots_of table) → (j : ℕ) → FreeFor (key_of table) (held before) (slots_of table) (record { start = b.start; end = 0; message = b.message }) j
+    pub filed_more : Tabled (key_of table) (held before) (slots_of table) → (j : ℕ) → FreeFor (key_of table) (held before) (slots_of table) b j
         → after.state.full ≡ false → (table' : List ℕ) → table' ≡ set table (j + 1) (st.used + 1) → Filed after table'
     filed_more tabled j slot kept' table' e = record {
       tabled = λ few short.

@@ -1,5 +1,5 @@
 -- The pass over the entity types on which a path fails, and what it lists. Assumes nothing.
-use Rattle.std.specs.Prelude.{◌≡◌, Bool, ◌&&◌, ℕ, ◌≤◌, ◌<◌}
+use Rattle.std.specs.Prelude.{◌≡◌, Bool, ◌&&◌, ℕ, ◌≤◌, ◌<◌, Some, None}
 use Rattle.std.proofs.Math.Path.{refl}
 use Rattle.std.proofs.Common.{sym, ap, ◌∙◌, rules}
 use Rattle.std.proofs.Math.Bool.{true, false, cond}
@@ -8,21 +8,19 @@ use Rattle.std.proofs.Math.Option.{Option, none, some}
 use native.Mathlib.Omega.{arith}
 use Rattle.names.specs.Lists.{select}
 use Rattle.names.specs.Names.{same}
-use Rattle.names.specs.Read.{word_at}
+use Rattle.names.specs.Read.{word_at, Found}
 use Rattle.types.specs.declared.Rich.{Rich}
 use Rattle.schema.specs.Schema.{Schema}
 use Rattle.schema.specs.Find.{find_entity}
 use Rattle.schema.specs.Places.{schema_in, is_entity, entity_in, FindsEntity}
-use Rattle.names.specs.declared.Found.{Found}
 use Rattle.names.specs.declared.Row.{Row}
 use Rattle.targets.specs.Targets.{Narrowing}
 use Rattle.resolution.specs.Resolution.{missing_at, on_entity, admitted_by}
 use Rattle.resolution.specs.Places.{are_segments, segments_in, Behind, are_types, types_in, next_in, Follows, NextOf, next_of, NextPlaced, end_of}
 use Rattle.resolution.specs.Passes.{fails_at, failing}
-use Rattle.resolution.specs.declared.Next.{Next}
-use Rattle.resolution.specs.declared.NextNear.{NextNear}
 use Rattle.resolution.specs.declared.PathEnd.{PathEnd}
 use Rattle.resolution.specs.Laws.Segments.{no_segments}
+use Rattle.resolution.specs.Coded.{NextNear, Next}
 
 -- the test on one end
 module _ (c : List ℕ) (p : ℕ) (e : PathEnd) where
@@ -40,16 +38,16 @@ module _ (c : List ℕ) (p : ℕ) (e : PathEnd) where
 
 -- the test on one entity type
 module _ (s c : List ℕ) (p q head : ℕ) (rest : Row) (w : List ℕ) (is_w : w ≡ word_at s p) (x : Found) (finds : FindsEntity s (find_entity (schema_in s) w) x) where
-  pub fails_undeclared : x ≡ Found.Absent → false ≡ fails_at (schema_in s) (word_at c head ∷ segments_in c rest) (word_at c q) (word_at s p)
+  pub fails_undeclared : x ≡ None → false ≡ fails_at (schema_in s) (word_at c head ∷ segments_in c rest) (word_at c q) (word_at s p)
   unfolding fails_at
   fails_undeclared g =
       let i : find_entity (schema_in s) (word_at s p) ≡ none = rw (← is_w) (sym finds.value ∙ rw g) in
       rw i
 
-  pub fails_declared : (at : ℕ) → x ≡ Found.At at → is_entity s at ≡ true
+  pub fails_declared : (at : ℕ) → x ≡ Some at → is_entity s at ≡ true
   fails_declared at g = rw g at finds.stands
 
-  pub fails_by : (at : ℕ) → x ≡ Found.At at → (e : PathEnd) → end_of s c e ≡ on_entity (word_at c head) (segments_in c rest) (entity_in s at) → (r : Bool) → ((d : List ℕ) → r ≡ missing_at (word_at c q) (end_of d c e)) → r ≡ fails_at (schema_in s) (word_at c head ∷ segments_in c rest) (word_at c q) (word_at s p)
+  pub fails_by : (at : ℕ) → x ≡ Some at → (e : PathEnd) → end_of s c e ≡ on_entity (word_at c head) (segments_in c rest) (entity_in s at) → (r : Bool) → ((d : List ℕ) → r ≡ missing_at (word_at c q) (end_of d c e)) → r ≡ fails_at (schema_in s) (word_at c head ∷ segments_in c rest) (word_at c q) (word_at s p)
   unfolding fails_at
   fails_by at g e is r m =
       let i : find_entity (schema_in s) (word_at s p) ≡ some (entity_in s at) = rw (← is_w) (sym finds.value ∙ rw g) in
@@ -86,11 +84,11 @@ module _ (S : Schema) (N : Option Narrowing) (path : List (List ℕ)) (w : List 
       here : select (fails_at S path w) (next_in s (admitted_by S N) (next_of x)) ≡ select (failing S N path w) (types_in s row)
       here = ap (select (fails_at S path w)) next.next.value ∙ sym (both (types_in s left)) ∙ l.same
 
-      pub fail_over : x ≡ NextNear.Over → NextOf s (failing S N path w) row Next.Over
+      pub fail_over : x ≡ None → NextOf s (failing S N path w) row None
       unfolding select
       fail_over e = record { value = rw e at here; follows = omega arith }
 
-      module _ (p : ℕ) (others near : Row) (e : x ≡ NextNear.Name p others near) where
+      module _ (p : ℕ) (others near : Row) (e : x ≡ Some (p, others, near)) where
         follows : Follows s left p others
         follows = rw e at next.next.follows
 
@@ -102,7 +100,7 @@ module _ (S : Schema) (N : Option Narrowing) (path : List (List ℕ)) (w : List 
         at_name = rw (both (types_in s others)) (rw e at here)
 
         module _ (b : Bool) (is_b : b ≡ fails_at S path w (word_at s p)) where
-          pub fail_found : b ≡ true → NextOf s (failing S N path w) row (Next.Name p others)
+          pub fail_found : b ≡ true → NextOf s (failing S N path w) row (Some (p, others))
           fail_found g =
               let i : fails_at S path w (word_at s p) ≡ true = sym is_b ∙ g in
               let f = l.fewer in
@@ -129,7 +127,7 @@ module _ (s c : List ℕ) (S : Schema) (N : Option Narrowing) (w : List ℕ) (ro
       go true rest = rest
       go false rest = rest
 
-  pub failing_empty : path.count ≡ 0 → NextOf s (failing S N (segments_in c path) w) row Next.Over
+  pub failing_empty : path.count ≡ 0 → NextOf s (failing S N (segments_in c path) w) row None
   failing_empty e = record { value = rw (← no_segments c path are (omega arith)) (none_fails (types_in s row)); follows = omega arith }
 
   pub failing_whole : (rest : Row) → Behind c path rest → (x : Next) → NextOf s (failing S N (word_at c path.at ∷ segments_in c rest) w) row x → NextOf s (failing S N (segments_in c path) w) row x

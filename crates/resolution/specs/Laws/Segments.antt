@@ -1,12 +1,12 @@
 -- The walk along the segments of a path into a record. Assumes nothing.
-use Rattle.std.specs.Prelude.{◌≡◌, refl, true, List, [], ◌∷◌, ℕ, ◌+◌, ◌-◌, ◌≤◌, ◌<◌, length, get_or}
+use Rattle.std.specs.Prelude.{◌≡◌, refl, true, List, [], ◌∷◌, ℕ, ◌+◌, ◌-◌, ◌≤◌, ◌<◌, length, get_or, Some, None}
 use Rattle.std.proofs.Math.Path.{sym, ap}
 use Rattle.std.proofs.Common.{◌∙◌, arith, rules}
 use Rattle.std.proofs.Math.Option.{Option, none, some}
 use Rattle.names.specs.Lists.{maybe}
 use Rattle.names.specs.Fields.{string_of}
 use Rattle.names.specs.Names.{plain}
-use Rattle.names.specs.Read.{word_at}
+use Rattle.names.specs.Read.{word_at, Found}
 use Rattle.names.specs.Laws.Rows.{Remaining, remaining_all, remaining_over, StringsLeft, strings_left}
 use Rattle.types.specs.Meaning.{rich_of}
 use Rattle.types.specs.Laws.Texts.{Small}
@@ -14,14 +14,13 @@ use Rattle.types.specs.declared.Rich.{Rich}
 use Rattle.schema.specs.Schema.{Declared}
 use Rattle.schema.specs.Find.{find_attribute, fields_of, rich_type}
 use Rattle.schema.specs.Places.{type_in, is_type, fields_in, are_fields, action_in, Finds, FindsFields, Standing}
-use Rattle.names.specs.declared.Found.{Found}
 use Rattle.names.specs.declared.Row.{Row}
 use Rattle.resolution.specs.Resolution as Resolution
 use Rattle.resolution.specs.Resolution.{nested, descend_by, descend, resolve_in_by, resolve_in, context_path_by, context_path, context_type_by, context_type, type_at_end}
 use Rattle.resolution.specs.Places.{are_segments, segments_in, Behind, resolution_of, typed_of, leaf_of, small_resolution, small_type}
 use Rattle.resolution.specs.Laws.Sizes.{Bytes, type_small}
 use Rattle.resolution.specs.declared.PathResolution.{PathResolution}
-use Rattle.resolution.specs.declared.Typed.{Typed}
+use Rattle.resolution.specs.Coded.{Typed}
 
 -- what is left of a path, n segments from `at` and on from the type at `t`, ends as the whole does
 pub record Left (s c : List ℕ) (o : Resolution.PathResolution) (n at t : ℕ) : Type 0 where
@@ -29,44 +28,48 @@ pub record Left (s c : List ℕ) (o : Resolution.PathResolution) (n at t : ℕ) 
   pub there : Remaining (string_of plain) c (λ ws. nested (descend (type_in s t) ws)) o n at
 
 module _ (s c : List ℕ) (f : ℕ) (head : ℕ) (rest : Row) (w : List ℕ) (is_w : w ≡ word_at c head) (x : Found) (finds : Finds s (find_attribute (fields_in s f) w) x) where
-  pub head_missing : x ≡ Found.Absent → resolution_of s c PathResolution.HeadMissing ≡ resolve_in (fields_in s f) (word_at c head) (segments_in c rest)
+  pub head_missing : x ≡ None → resolution_of s c PathResolution.HeadMissing ≡ resolve_in (fields_in s f) (word_at c head) (segments_in c rest)
   unfolding resolve_in_by
   head_missing e =
       let i : find_attribute (fields_in s f) (word_at c head) ≡ none = rw (← is_w) (sym finds.value ∙ rw e) in
       rw i
 
-  pub head_found : (t : ℕ) → x ≡ Found.At t → are_segments c rest ≡ true → Left s c (resolve_in (fields_in s f) (word_at c head) (segments_in c rest)) rest.count rest.at t
+  pub head_found : (t : ℕ) → x ≡ Some t → are_segments c rest ≡ true → Left s c (resolve_in (fields_in s f) (word_at c head) (segments_in c rest)) (rest.count - 0) rest.at t
   unfolding resolve_in_by
   head_found t e are =
+      let all : rest.count - 0 ≡ rest.count = omega arith in
       let i : find_attribute (fields_in s f) (word_at c head) ≡ some (type_in s t) = rw (← is_w) (sym finds.value ∙ rw e) in
       record {
         stands = rw e at finds.stands;
-        there = rw i (remaining_all (string_of plain) c (λ ws. nested (descend (type_in s t) ws)) rest.count rest.at are);
+        there = rw (all, i) (remaining_all (string_of plain) c (λ ws. nested (descend (type_in s t) ws)) rest.count rest.at are);
       }
 
-module _ (s c : List ℕ) (o : Resolution.PathResolution) (n at t : ℕ) (l : Left s c o n at t) where
-  pub path_resolved : n ≤ 0 → (r : Rich) → ((d : List ℕ) → rich_of s d r ≡ rich_type (type_in s t)) → resolution_of s c (PathResolution.Resolved r) ≡ o
+module _ (s c : List ℕ) (o : Resolution.PathResolution) (end k at t : ℕ) (l : Left s c o (end - k) at t) where
+  abbrev n : ℕ
+  n = end - k
+
+  pub path_resolved : end ≤ k → (r : Rich) → ((d : List ℕ) → rich_of s d r ≡ rich_type (type_in s t)) → resolution_of s c (PathResolution.Resolved r) ≡ o
   unfolding descend_by
-  path_resolved h r is = ap Resolution.PathResolution.resolved (is c) ∙ remaining_over (string_of plain) c (λ ws. nested (descend (type_in s t) ws)) o n at h l.there
+  path_resolved h r is = ap Resolution.PathResolution.resolved (is c) ∙ remaining_over (string_of plain) c (λ ws. nested (descend (type_in s t) ws)) o n at (omega arith) l.there
 
   pub path_small : Bytes s → (r : Rich) → ((d : List ℕ) → rich_of s d r ≡ rich_type (type_in s t)) → Small (rich_of s c r)
   path_small bytes r is = rw (is c) (type_small s bytes t l.stands)
 
-  module _ (h : 0 < n) where
+  module _ (h : k < end) where
     opened : StringsLeft plain c (λ ws. nested (descend (type_in s t) ws)) o n at
-    opened = strings_left plain c (λ ws. nested (descend (type_in s t) ws)) o n at h l.there
+    opened = strings_left plain c (λ ws. nested (descend (type_in s t) ws)) o n at (omega arith) l.there
 
     pub segment_inside : at + 1 + get_or c at 0 ≤ length c
     segment_inside = opened.inside
 
     module _ (y : Found) (inner : FindsFields s (fields_of (type_in s t)) y) where
-      pub path_non_record : y ≡ Found.Absent → resolution_of s c (PathResolution.NonRecord at) ≡ o
+      pub path_non_record : y ≡ None → resolution_of s c (PathResolution.NonRecord at) ≡ o
       unfolding descend_by
       path_non_record e =
           let i : fields_of (type_in s t) ≡ none = sym inner.value ∙ rw e in
           rw i at opened.same
 
-      module _ (f : ℕ) (e : y ≡ Found.At f) where
+      module _ (f : ℕ) (e : y ≡ Some f) where
         pub path_fields : are_fields s f ≡ true
         path_fields = rw e at inner.stands
 
@@ -78,14 +81,15 @@ module _ (s c : List ℕ) (o : Resolution.PathResolution) (n at t : ℕ) (l : Le
               let j : find_attribute (fields_in s f) (word_at c at) ≡ d = rw (← is_w) g in
               rw (i, j) at opened.same
 
-          pub nested_missing : z ≡ Found.Absent → resolution_of s c (PathResolution.NestedMissing at) ≡ o
+          pub nested_missing : z ≡ None → resolution_of s c (PathResolution.NestedMissing at) ≡ o
           nested_missing g = onward none (sym finds.value ∙ rw g)
 
-          pub path_on : (u : ℕ) → z ≡ Found.At u → (m : ℕ) → m ≡ at + 1 + get_or c at 0 → Left s c o (n - 1) m u
+          pub path_on : (u : ℕ) → z ≡ Some u → (m : ℕ) → m ≡ at + 1 + get_or c at 0 → Left s c o (end - (k + 1)) m u
           path_on u g m place =
+              let less : end - (k + 1) ≡ n - 1 = omega arith in
               record {
                 stands = rw g at finds.stands;
-                there = record { left = opened.others; there = rw place opened.there; same = onward (some (type_in s u)) (sym finds.value ∙ rw g) };
+                there = record { left = opened.others; there = rw (less, place) opened.there; same = onward (some (type_in s u)) (sym finds.value ∙ rw g) };
               }
 
 pub ruleset along = (rules, head_missing, head_found, path_resolved, path_small, segment_inside, path_non_record, path_fields, nested_missing, path_on)
@@ -116,16 +120,16 @@ module _ (s c : List ℕ) (t : ℕ) (path : Row) (are : are_segments c path ≡ 
   context_empty e = rw (← no_segments c path are (omega arith))
 
   module _ (y : Found) (inner : FindsFields s (fields_of (type_in s t)) y) where
-    pub context_plain : (path.count ≡ 0 → ⊥) → y ≡ Found.Absent → resolution_of s c PathResolution.HeadMissing ≡ context_path (type_in s t) (segments_in c path)
+    pub context_plain : (path.count ≡ 0 → ⊥) → y ≡ None → resolution_of s c PathResolution.HeadMissing ≡ context_path (type_in s t) (segments_in c path)
     unfolding context_path_by
     context_plain h e =
         let i : fields_of (type_in s t) ≡ none = sym inner.value ∙ rw e in
         rw (← (first_segment c path are (omega arith)).same, i)
 
-    pub context_fields : (f : ℕ) → y ≡ Found.At f → are_fields s f ≡ true
+    pub context_fields : (f : ℕ) → y ≡ Some f → are_fields s f ≡ true
     context_fields f e = rw e at inner.stands
 
-    pub context_record : (f : ℕ) → y ≡ Found.At f → (rest : Row) → Behind c path rest → (r : PathResolution) → resolution_of s c r ≡ resolve_in (fields_in s f) (word_at c path.at) (segments_in c rest) → resolution_of s c r ≡ context_path (type_in s t) (segments_in c path)
+    pub context_record : (f : ℕ) → y ≡ Some f → (rest : Row) → Behind c path rest → (r : PathResolution) → resolution_of s c r ≡ resolve_in (fields_in s f) (word_at c path.at) (segments_in c rest) → resolution_of s c r ≡ context_path (type_in s t) (segments_in c path)
     unfolding context_path_by
     context_record f e rest b r is =
         let i : fields_of (type_in s t) ≡ some (fields_in s f) = sym inner.value ∙ rw e in
@@ -134,7 +138,7 @@ module _ (s c : List ℕ) (t : ℕ) (path : Row) (are : are_segments c path ≡ 
 pub ruleset contexts = (rules, first_inside, first_behind, context_empty, context_plain, context_fields, context_record)
 
 -- The type at its end.
-pub leaf_resolved : (e : PathResolution) (t : Rich) → e ≡ PathResolution.Resolved t → Typed.As t ≡ leaf_of e
+pub leaf_resolved : (e : PathResolution) (t : Rich) → e ≡ PathResolution.Resolved t → Some t ≡ leaf_of e
 leaf_resolved e t i = rw i
 
 module _ (s c : List ℕ) where

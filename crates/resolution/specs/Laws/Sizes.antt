@@ -18,6 +18,7 @@ use Rattle.schema.specs.Schema.{Declared, long, string, bool, extension, set, an
 use Rattle.schema.specs.Find.{rich_type_by, rich_type}
 use Rattle.schema.specs.Places.{type_in, is_type}
 use Rattle.schema.specs.Laws.ByKind.{choose_above}
+use Rattle.names.specs.declared.refusal.Refusal.TheVariants.{UndefinedChoice, TooDeep}
 
 -- the elements of a list are bytes
 abbrev pub Bytes : List ℕ → Type 0
@@ -68,7 +69,7 @@ module _ (s : List ℕ) (bytes : Bytes s) where
   unfolding type_at
   within zero at t n e = let a = split (u8 s at) _ e in go (leb a.value 10) a.place a.rest
     where
-      go : (b : Bool) (p : ℕ) → cond b (refuse 7) (refuse 5) s p ≡ got t n → Within zero t
+      go : (b : Bool) (p : ℕ) → cond b (refuse TooDeep) (refuse UndefinedChoice) s p ≡ got t n → Within zero t
       go true p i = let z : ◌≡◌ {A = ℕ} 0 1 = cc in absurd (omega arith)
       go false p i = let z : ◌≡◌ {A = ℕ} 0 1 = cc in absurd (omega arith)
   within (suc l) at t n e = let a = split (u8 s at) _ e in go (λ p. within l p) a.value a.place a.rest (leb a.value 10) refl

@@ -1,5 +1,5 @@
 -- What a type is at a position, by the level left and the byte there. Assumes nothing.
-use Rattle.std.specs.Prelude.{◌≡◌, refl, Bool, false, List, eqb, length, get_or}
+use Rattle.std.specs.Prelude.{◌≡◌, refl, Bool, false, List, eqb, length, get_or, Ok, Err, Some}
 use Rattle.std.proofs.Math.Path.{sym, ap₂}
 use Rattle.std.proofs.Common.{◌∙◌, sub-one, arith, rules}
 use Rattle.std.proofs.Math.Option.{Option, none}
@@ -9,13 +9,11 @@ use Rattle.names.specs.Fields.{got, bad, Reader, choose, string_of}
 use Rattle.names.specs.Names.{path_name}
 use Rattle.names.specs.Class.{class_of}
 use Rattle.names.specs.declared.Class.TheVariants.{Plain}
-use Rattle.names.specs.declared.Before.{Before}
-use Rattle.names.specs.declared.Before.TheVariants.{At}
-use Rattle.names.specs.Read.{ending, earlier, word_at}
-use Rattle.names.specs.declared.Read.{Read}
-use Rattle.names.specs.declared.Read.TheVariants.{Next, Refused}
+use Rattle.names.specs.Read.{ending, earlier, word_at, Read, Found}
 use Rattle.names.specs.Laws.Readers.{u8-end, u8_got, via, last, stops, goes, split, held, string_view, Each, each_below, ◌&◌}
 use Rattle.schema.specs.Schema.{Declared, kinds, type_at, attributes, attributes_of, ascending, after}
+use Rattle.names.specs.declared.refusal.Refusal.{Refusal}
+use Rattle.names.specs.declared.refusal.Refusal.TheVariants.{Cut, UndefinedChoice, TooDeep, NotAscending}
 
 -- a name of a row, accepted: the string there
 module _ (class : List ℕ → Bool) (before : Option (List ℕ)) (s : List ℕ) (at : ℕ) where
@@ -23,24 +21,24 @@ module _ (class : List ℕ → Bool) (before : Option (List ℕ)) (s : List ℕ)
   unfolding ascending
   ascending_string e =
       let a = split (string_of class s at) _ e in
-      let h = held 8 (after before a.value) s a.rest in
+      let h = held NotAscending (after before a.value) s a.rest in
       a.first ∙ ap₂ got h.value h.place
 
   pub ascending_word : {w : List ℕ} {n : ℕ} → ascending class before s at ≡ got w n → w ≡ word_at s at
   ascending_word e = (string_view class s at (ascending_string e)).word
 
 -- beyond the table
-pub choose_above : (k : ℕ) (inner : Reader Declared) (s : List ℕ) (at : ℕ) → 10 < k → choose k (kinds inner) s at ≡ bad 5
+pub choose_above : (k : ℕ) (inner : Reader Declared) (s : List ℕ) (at : ℕ) → 10 < k → choose k (kinds inner) s at ≡ bad UndefinedChoice
 unfolding choose kinds
 choose_above k inner s at h =
     let ne : (n : ℕ) → n ≤ 10 → eqb k n ≡ false = λ n l. ne_eqb k n (λ e. omega arith) in
     rw (ne 0 (omega arith), ne 1 (omega arith), ne 2 (omega arith), ne 3 (omega arith), ne 4 (omega arith), ne 5 (omega arith), ne 6 (omega arith), ne 7 (omega arith), ne 8 (omega arith), ne 9 (omega arith), ne 10 (omega arith))
 
 -- a byte of the table that nothing follows
-choose_leaf : (inner : Reader Declared) (s : List ℕ) (at k : ℕ) → k < 11 → (k ≡ 3 → ⊥) → (k ≡ 4 → ⊥) → (k ≡ 6 → ⊥) → (k ≡ 7 → ⊥) → Next at ≡ ending (choose k (kinds inner) s at)
+choose_leaf : (inner : Reader Declared) (s : List ℕ) (at k : ℕ) → k < 11 → (k ≡ 3 → ⊥) → (k ≡ 4 → ⊥) → (k ≡ 6 → ⊥) → (k ≡ 7 → ⊥) → Ok at ≡ ending (choose k (kinds inner) s at)
 unfolding choose kinds ending Each
 choose_leaf inner s at =
-    each_below (λ k. (k ≡ 3 → ⊥) → (k ≡ 4 → ⊥) → (k ≡ 6 → ⊥) → (k ≡ 7 → ⊥) → Next at ≡ ending (choose k (kinds inner) s at)) 11 (
+    each_below (λ k. (k ≡ 3 → ⊥) → (k ≡ 4 → ⊥) → (k ≡ 6 → ⊥) → (k ≡ 7 → ⊥) → Ok at ≡ ending (choose k (kinds inner) s at)) 11 (
     tt
     & (λ a b d e. refl)
     & (λ a b d e. refl)
@@ -62,24 +60,24 @@ type_kind s at (suc l) h z k e = rw (sub-one, ← e, u8_got s at h)
 
 -- Each exit of `read_type`.
 module _ (s : List ℕ) (at l : ℕ) where
-  pub type-end : length s ≤ at → Refused 2 ≡ ending (type_at l s at)
+  pub type-end : length s ≤ at → Err Cut ≡ ending (type_at l s at)
   unfolding type_at ending
   type-end h = go l
     where
-      go : (l : ℕ) → Refused 2 ≡ ending (type_at l s at)
+      go : (l : ℕ) → Err Cut ≡ ending (type_at l s at)
       go zero = rw (u8-end s at h)
       go (suc l) = rw (u8-end s at h)
 
   module _ (h : at < length s) where
-    pub type_undefined : 10 < get_or s at 0 → Refused 5 ≡ ending (type_at l s at)
+    pub type_undefined : 10 < get_or s at 0 → Err UndefinedChoice ≡ ending (type_at l s at)
     unfolding type_at ending
     type_undefined k = go l
       where
-        go : (l : ℕ) → Refused 5 ≡ ending (type_at l s at)
+        go : (l : ℕ) → Err UndefinedChoice ≡ ending (type_at l s at)
         go zero = rw (u8_got s at h, lt-leb _ _ k)
         go (suc l) = rw (u8_got s at h, choose_above (get_or s at 0) (type_at l) s (at + 1) k)
 
-    pub type_deep : get_or s at 0 ≤ 10 → l ≡ 0 → Refused 7 ≡ ending (type_at l s at)
+    pub type_deep : get_or s at 0 ≤ 10 → l ≡ 0 → Err TooDeep ≡ ending (type_at l s at)
     unfolding type_at ending
     type_deep k z = rw (z, u8_got s at h, le-leb _ _ k)
 
@@ -100,12 +98,12 @@ module _ (s : List ℕ) (at l : ℕ) where
       unfolding choose kinds
       type_entity k x e = via (type_kind s at l h z 7 k) (e ∙ last _ _)
 
-      pub type_leaf : get_or s at 0 ≤ 10 → (get_or s at 0 ≡ 3 → ⊥) → (get_or s at 0 ≡ 4 → ⊥) → (get_or s at 0 ≡ 6 → ⊥) → (get_or s at 0 ≡ 7 → ⊥) → Next (at + 1) ≡ ending (type_at l s at)
+      pub type_leaf : get_or s at 0 ≤ 10 → (get_or s at 0 ≡ 3 → ⊥) → (get_or s at 0 ≡ 4 → ⊥) → (get_or s at 0 ≡ 6 → ⊥) → (get_or s at 0 ≡ 7 → ⊥) → Ok (at + 1) ≡ ending (type_at l s at)
       type_leaf k a b d e = via (type_kind s at l h z (get_or s at 0) refl) (choose_leaf (type_at (l - 1)) s (at + 1) (get_or s at 0) (omega arith) a b d e)
 
 -- Each exit and the turn of `read_attributes`: `whole` is the answer to all, as the answer to what is left.
 module _ (type : Reader Declared) (s : List ℕ) where
-  pub attributes-end : (at : ℕ) → length s ≤ at → Refused 2 ≡ ending (attributes type s at)
+  pub attributes-end : (at : ℕ) → length s ≤ at → Err Cut ≡ ending (attributes type s at)
   unfolding attributes ending
   attributes-end at h = rw (u8-end s at h)
 
@@ -113,38 +111,38 @@ module _ (type : Reader Declared) (s : List ℕ) where
   unfolding attributes
   attributes_start at n h e = rw (u8_got s at h, ← e)
 
-  module _ (whole : Read) (n at : ℕ) (b : Before) (inv : whole ≡ ending (attributes_of type n (earlier s b) s at)) where
-    pub attributes_done : n ≤ 0 → Next at ≡ whole
+  module _ (whole : Read) (end i at : ℕ) (b : Found) (inv : whole ≡ ending (attributes_of type (end - i) (earlier s b) s at)) where
+    pub attributes_done : end ≤ i → Ok at ≡ whole
     unfolding attributes_of ending
-    attributes_done h = go n h inv
+    attributes_done h = go (end - i) (omega arith) inv
       where
-        go : (n : ℕ) → n ≤ 0 → whole ≡ ending (attributes_of type n (earlier s b) s at) → Next at ≡ whole
+        go : (n : ℕ) → n ≤ 0 → whole ≡ ending (attributes_of type n (earlier s b) s at) → Ok at ≡ whole
         go zero h e = sym e
         go (suc n) h e = absurd (omega arith)
 
-    module _ (h : 0 < n) (x : Read) (is : x ≡ ending (ascending (class_of Plain) (earlier s b) s at)) where
-      pub name_stops : (r : ℕ) → x ≡ Refused r → x ≡ whole
+    module _ (h : i < end) (x : Read) (is : x ≡ ending (ascending (class_of Plain) (earlier s b) s at)) where
+      pub name_stops : (r : Refusal) → x ≡ Err r → Err r ≡ whole
       unfolding attributes_of
-      name_stops r e = go n h inv
+      name_stops r e = go (end - i) (omega arith) inv
         where
-          go : (n : ℕ) → 0 < n → whole ≡ ending (attributes_of type n (earlier s b) s at) → x ≡ whole
+          go : (n : ℕ) → 0 < n → whole ≡ ending (attributes_of type n (earlier s b) s at) → Err r ≡ whole
           go zero h i = absurd (omega arith)
           go (suc n) h i = stops _ _ e is ∙ sym i
 
-      module _ (p : ℕ) (e : x ≡ Next p) (y : Read) (is' : y ≡ ending (type s p)) where
-        pub type_stops : (r : ℕ) → y ≡ Refused r → y ≡ whole
+      module _ (p : ℕ) (e : x ≡ Ok p) (y : Read) (is' : y ≡ ending (type s p)) where
+        pub type_stops : (r : Refusal) → y ≡ Err r → Err r ≡ whole
         unfolding attributes_of
-        type_stops r f = go n h inv
+        type_stops r f = go (end - i) (omega arith) inv
           where
-            go : (n : ℕ) → 0 < n → whole ≡ ending (attributes_of type n (earlier s b) s at) → y ≡ whole
+            go : (n : ℕ) → 0 < n → whole ≡ ending (attributes_of type n (earlier s b) s at) → Err r ≡ whole
             go zero h i = absurd (omega arith)
             go (suc n) h i = goes _ _ e is (λ w d. stops _ _ f is') ∙ sym i
 
-        pub attributes_turn : (m : ℕ) → y ≡ Next m → whole ≡ ending (attributes_of type (n - 1) (earlier s (At at)) s m)
+        pub attributes_turn : (m : ℕ) → y ≡ Ok m → whole ≡ ending (attributes_of type (end - (i + 1)) (earlier s (Some at)) s m)
         unfolding attributes_of
-        attributes_turn m f = go n h inv
+        attributes_turn m f = let left : end - (i + 1) ≡ (end - i) - 1 = omega arith in rw left (go (end - i) (omega arith) inv)
           where
-            go : (n : ℕ) → 0 < n → whole ≡ ending (attributes_of type n (earlier s b) s at) → whole ≡ ending (attributes_of type (n - 1) (earlier s (At at)) s m)
+            go : (n : ℕ) → 0 < n → whole ≡ ending (attributes_of type n (earlier s b) s at) → whole ≡ ending (attributes_of type (n - 1) (earlier s (Some at)) s m)
             go zero h i = absurd (omega arith)
             go (suc n) h i = i ∙ sym (goes _ _ e is λ w d. goes _ _ f is' λ t g. rw (sub-one, ascending_word _ _ s at d) (last _ _))
 

@@ -1,6 +1,5 @@
 -- The facts of a target in the code are those of the definitions. Assumes nothing.
 use Rattle.std.specs.Prelude.{◌≡◌, List, ℕ}
-use Rattle.names.specs.declared.Found.{Found}
 use Rattle.types.specs.Types.{dated}
 use Rattle.types.specs.Meaning.{profile_in}
 use Rattle.schema.specs.Places.{schema_in, action_in, found_in}
@@ -10,6 +9,7 @@ use Rattle.terms.specs.Terms.{facts_among}
 use Rattle.terms.specs.Facts.{facts_in, FactsOf}
 use Rattle.terms.specs.declared.Common.{Common}
 use Rattle.terms.specs.declared.Facts.{Facts}
+use Rattle.names.specs.Read.{Found}
 
 -- at the first reached condition
 pub facts_mean : (s c n : List ℕ) (found : Found) (common : Common) (f : Facts) → FactsOf n found common f

@@ -3,19 +3,19 @@ use mathlib.Core.Path.{◌≡◌}
 use mathlib.Core.List.{List}
 use mathlib.Core.Bool.{Bool, true, false}
 use Prim.Native.Nat.{ℕ}
-use Rattle.decimal.specs.Decimal.{minus, unsigned, begins_with_digit, well_formed, ten_thousandths, signed, held, value_of, decimal_of}
-use Rattle.decimal.specs.declared.Decimal.{Decimal}
-use Rattle.decimal.specs.declared.Decimal.TheVariants.{Malformed}
+use Rattle.decimal.specs.Decimal.{minus, unsigned, begins_with_digit, well_formed, ten_thousandths, signed, held, value_of, decimal_of, Decimal}
 use borrow.Author.Rules.{rules}
 use Rattle.decimal.proofs.text.value_of.Statement.{statement}
 use Rattle.decimal.proofs.text.value_of.Tie as tie
+use Rattle.std.specs.Prelude.{Err}
+use Rattle.names.specs.declared.refusal.Refusal.TheVariants.{MalformedDecimal}
 
 module _ (w u : List ℕ) (e : u ≡ unsigned w) (b : Bool) (is : b ≡ begins_with_digit u) where
   good : b ≡ true → (neg : Bool) → neg ≡ minus w → (d : Decimal) → d ≡ held (signed neg (ten_thousandths 0 u)) → d ≡ decimal_of w
   unfolding decimal_of well_formed value_of
   good t neg n d q = rw (← n, ← e, ← is, t) q
 
-  bad : b ≡ false → Malformed ≡ decimal_of w
+  bad : b ≡ false → Err MalformedDecimal ≡ decimal_of w
   unfolding decimal_of well_formed
   bad t = rw (← e, ← is, t)
 

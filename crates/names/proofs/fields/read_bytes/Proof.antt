@@ -5,24 +5,25 @@ use Prim.Native.Nat.{ℕ, ◌+◌, ◌-◌, ◌≤◌, ◌<◌}
 use native.Mathlib.Omega.{arith}
 use lib.ListN.{length}
 use borrow.Author.Rules.{rules}
-use Rattle.names.specs.declared.Read.TheVariants.{Next, Refused}
 use Rattle.names.specs.Fields.{bytes}
 use Rattle.names.specs.Read.{ending}
 use Rattle.names.specs.Laws.Readers.{bytes-end, bytes_got}
 use Rattle.names.proofs.fields.read_bytes.Statement.{statement}
 use Rattle.names.proofs.fields.read_bytes.Tie as tie
+use Rattle.std.specs.Prelude.{Ok, Err}
+use Rattle.names.specs.declared.refusal.Refusal.TheVariants.{Cut}
 
 module _ (s : List ℕ) (at n : ℕ) where
-  past_end : length s < at → Refused 2 ≡ ending (bytes n s at)
+  past_end : length s < at → Err Cut ≡ ending (bytes n s at)
   unfolding ending
   past_end h = rw (bytes-end s at n (omega arith))
 
   module _ (k : at ≤ length s) where
-    too_short : length s - at < n → Refused 2 ≡ ending (bytes n s at)
+    too_short : length s - at < n → Err Cut ≡ ending (bytes n s at)
     unfolding ending
     too_short h = rw (bytes-end s at n (omega arith))
 
-    there : n ≤ length s - at → Next (at + n) ≡ ending (bytes n s at)
+    there : n ≤ length s - at → Ok (at + n) ≡ ending (bytes n s at)
     unfolding ending
     there h = rw (bytes_got s at n (omega arith))
 

@@ -3,12 +3,11 @@ use mathlib.Core.Path.{◌≡◌}
 use mathlib.Core.List.{List}
 use Prim.Native.Nat.{ℕ}
 use borrow.Author.Rules.{rules}
-use Rattle.names.specs.declared.Read.{Read}
 use Rattle.names.specs.declared.Class.TheVariants.{Plain}
 use Rattle.names.specs.Class.{class_of}
 use Rattle.names.specs.Fields.{each, counted, string_of}
 use Rattle.names.specs.Paths.{path_of}
-use Rattle.names.specs.Read.{ending}
+use Rattle.names.specs.Read.{ending, Read}
 use Rattle.names.proofs.fields.read_path.Statement.{statement}
 use Rattle.names.proofs.fields.read_path.Tie as tie
 

@@ -8,21 +8,22 @@ use native.Mathlib.Omega.{arith}
 use lib.ListN.{length, get_or, take, drop}
 use borrow.Author.Rules.{rules}
 use Rattle.names.specs.declared.Class.{Class}
-use Rattle.names.specs.declared.Read.TheVariants.{Next, Refused}
 use Rattle.names.specs.Class.{class_of}
 use Rattle.names.specs.Fields.{string_of}
 use Rattle.names.specs.Read.{ending, word_at}
 use Rattle.names.specs.Laws.Readers.{string-end, string_short, string_outside, string_got}
 use Rattle.names.proofs.fields.read_string.Statement.{statement}
 use Rattle.names.proofs.fields.read_string.Tie as tie
+use Rattle.std.specs.Prelude.{Ok, Err}
+use Rattle.names.specs.declared.refusal.Refusal.TheVariants.{Cut, OutsideClass}
 
 module _ (k : Class) (s : List ℕ) (at : ℕ) where
-  no_length : length s ≤ at → Refused 2 ≡ ending (string_of (class_of k) s at)
+  no_length : length s ≤ at → Err Cut ≡ ending (string_of (class_of k) s at)
   unfolding ending
   no_length h = rw (string-end (class_of k) s at h)
 
   module _ (h : at < length s) where
-    too_short : (n : ℕ) → n ≡ get_or s at 0 → length s - (at + 1) < n → Refused 2 ≡ ending (string_of (class_of k) s at)
+    too_short : (n : ℕ) → n ≡ get_or s at 0 → length s - (at + 1) < n → Err Cut ≡ ending (string_of (class_of k) s at)
     unfolding ending
     too_short n e l = rw (string_short (class_of k) s at h (omega arith))
 
@@ -30,11 +31,11 @@ module _ (k : Class) (s : List ℕ) (at : ℕ) where
       tested : b ≡ class_of k (word_at s at)
       tested = rw (← size) (rw add-sub_cancel_left at is)
 
-      arrived : b ≡ true → Next (at + 1 + n) ≡ ending (string_of (class_of k) s at)
+      arrived : b ≡ true → Ok (at + 1 + n) ≡ ending (string_of (class_of k) s at)
       unfolding ending
       arrived e = rw (size, string_got (class_of k) s at h (omega arith) (sym tested ∙ e))
 
-      outside : b ≡ false → Refused 6 ≡ ending (string_of (class_of k) s at)
+      outside : b ≡ false → Err OutsideClass ≡ ending (string_of (class_of k) s at)
       unfolding ending
       outside e = rw (string_outside (class_of k) s at h (omega arith) (sym tested ∙ e))
 

@@ -3,9 +3,8 @@ use mathlib.Core.Path.{◌≡◌, ◌∙◌}
 use mathlib.Core.List.{List}
 use Prim.Native.Nat.{ℕ}
 use borrow.Author.Rules.{rules}
-use Rattle.names.specs.declared.Read.{Read}
 use Rattle.names.specs.Fields.{bytes, u32}
-use Rattle.names.specs.Read.{ending}
+use Rattle.names.specs.Read.{ending, Read}
 use Rattle.names.specs.Laws.Readers.{last}
 use Rattle.names.proofs.fields.read_u32.Statement.{statement}
 use Rattle.names.proofs.fields.read_u32.Tie as tie

@@ -4,19 +4,20 @@ use mathlib.Core.List.{List}
 use Prim.Native.Nat.{ℕ, ◌+◌, ◌≤◌, ◌<◌}
 use lib.ListN.{length}
 use borrow.Author.Rules.{rules}
-use Rattle.names.specs.declared.Read.TheVariants.{Next, Refused}
 use Rattle.names.specs.Fields.{u8}
 use Rattle.names.specs.Read.{ending}
 use Rattle.names.specs.Laws.Readers.{u8-end, u8_got}
 use Rattle.names.proofs.fields.read_u8.Statement.{statement}
 use Rattle.names.proofs.fields.read_u8.Tie as tie
+use Rattle.std.specs.Prelude.{Ok, Err}
+use Rattle.names.specs.declared.refusal.Refusal.TheVariants.{Cut}
 
 module _ (s : List ℕ) (at : ℕ) where
-  at-end : length s ≤ at → Refused 2 ≡ ending (u8 s at)
+  at-end : length s ≤ at → Err Cut ≡ ending (u8 s at)
   unfolding ending
   at-end h = rw (u8-end s at h)
 
-  there : at < length s → Next (at + 1) ≡ ending (u8 s at)
+  there : at < length s → Ok (at + 1) ≡ ending (u8 s at)
   unfolding ending
   there h = rw (u8_got s at h)
 

@@ -3,9 +3,8 @@ use mathlib.Core.Path.{◌≡◌}
 use mathlib.Core.List.{List}
 use Prim.Native.Nat.{ℕ}
 use borrow.Author.Rules.{rules}
-use Rattle.names.specs.declared.Read.{Read}
 use Rattle.names.specs.Fields.{whole}
-use Rattle.names.specs.Read.{ending, read_number}
+use Rattle.names.specs.Read.{ending, read_number, Read}
 use Rattle.names.specs.Laws.Readers.{number_of_lem}
 use Rattle.schema.specs.Schema.{schema_record}
 use Rattle.condition.specs.Condition.{condition_record}

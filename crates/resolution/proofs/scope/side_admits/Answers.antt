@@ -1,0 +1,8 @@
+use Rattle.resolution.proofs.Admitted.{sides}
+use Rattle.resolution.proofs.scope.side_admits.Goals as goal
+
+pub returns-then-is_absent : goal.returns-then-is_absent
+returns-then-is_absent c = search sides
+
+pub returns : goal.returns
+returns c = search sides
