@@ -7,20 +7,18 @@ use std::env::Env;
 use std::io;
 use std::rt::Files;
 
-// What the options say, and how many they are.
+// The rules that options choose: bits and no enum, since `dogwood_check_with` takes them so.
+const STRICT: u8 = 1;
+
+const OWN_BODIES: u8 = 2;
+
+// What the options say, and how many they are. Whether visits are printed is a yes or no that goes
+// with none of the others.
 #[derive(Clone, Copy, Default)]
 struct Options {
-    strict: bool,
-    own: bool,
+    rules: u8,
     visits: bool,
     count: usize,
-}
-
-impl Options {
-    // The rules that the options choose: 1 is strict, 2 gives each binder its own body, 3 is both.
-    fn rules(self) -> u8 {
-        u8::from(self.strict) | u8::from(self.own) << 1
-    }
 }
 
 fn main(rt: HostRuntime) -> io::Result<()> {
@@ -46,8 +44,8 @@ fn chosen(env: &impl Env) -> Options {
     for i in 1..=3 {
         let n = program::argument(env, i, &mut space);
         match &space[..n] {
-            b"--strict" => options.strict = true,
-            b"--own-bodies" => options.own = true,
+            b"--strict" => options.rules |= STRICT,
+            b"--own-bodies" => options.rules |= OWN_BODIES,
             b"--visits" => options.visits = true,
             _ => return options,
         }
@@ -78,7 +76,7 @@ fn run<'a>(
     let mut space = [0; 65536];
     let mut workspace = [0; 2048];
     let answer = dogwood::dogwood_check_with(
-        options.rules(),
+        options.rules,
         schema,
         condition,
         targets,

@@ -2,5 +2,6 @@
 pub mod Tables
 pub mod Levels
 pub mod ByKind
+pub mod Decoded
 pub mod Records
 pub mod Sizes

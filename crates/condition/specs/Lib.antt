@@ -1,4 +1,5 @@
 pub mod Condition
+pub mod Kinds
 pub mod Walk
 pub mod Places
 pub mod Laws

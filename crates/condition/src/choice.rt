@@ -5,7 +5,8 @@ ghost use Rattle.condition.specs.Places.{choice_up_to};
 
 use names::{Read, Refusal};
 
-// The choices are numbered from 0 on, and `last` is the number of the last.
+// The choices are numbered from 0 on, and `last` is the number of the last. The byte is only
+// tested: an enum would be made and thrown away.
 pub fn read_choice(s: &[u8], at: usize, last: u8) -> Read
     ensures { result ≡ ending (choice_up_to last s.now at) }
 {

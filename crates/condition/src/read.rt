@@ -6,6 +6,7 @@ ghost use Rattle.condition.specs.Condition.{Window, One, Two, window, span, slot
 ghost use Rattle.condition.specs.Places.{version_in};
 
 use crate::choice::read_choice;
+use crate::kind::{AggregateKind, Kind, TermKind};
 use crate::values::{read_arith_op, read_i64, read_value};
 use crate::window::read_window;
 use names::{Class, Read, Refusal};
@@ -17,7 +18,8 @@ pub fn read_span(s: &[u8], at: usize) -> Read
     read_i64(s, at)
 }
 
-// A name, or a macro's parameter or binder.
+// A name, or a macro's parameter or binder. The byte is matched and not decoded first: an enum of
+// the bare kinds would be matched a second time, to read what stands behind the byte.
 pub fn read_slot(s: &[u8], at: usize) -> Read
     ensures { result ≡ ending (slot s.now at) }
 {
@@ -87,34 +89,34 @@ pub fn version(s: &[u8]) -> usize
 pub fn read_subcondition(s: &[u8], at: usize, version: usize, left: usize) -> Read
     ensures { result ≡ ending (condition_at version left s.now at) }
 {
-    let Some(&kind) = s.get(at) else {
+    let Some(&byte) = s.get(at) else {
         return Err(Refusal::Cut);
     };
-    if !matches!(kind, 1..=13) {
-        return Err(Refusal::UndefinedChoice);
-    }
+    let kind = Kind::try_from(byte)?;
     if left == 0 {
         return Err(Refusal::TooDeep);
     }
     let next = at + 1;
     match kind {
-        1 | 2 => read_binary(s, next, 1, version, left - 1),
-        3 | 13 => read_unary(s, next, 1, version, left - 1),
-        4 | 5 => read_unary(s, next, version, version, left - 1),
-        6 => read_binary(s, next, version, version, left - 1),
-        7 => read_predicate(s, next, version, left - 1),
-        8 => read_comparison(s, next, version, left - 1),
-        9 => read_exists(s, next, version, left - 1),
-        10 => read_timepoint(s, next),
-        _ => read_span(s, next),
+        Kind::And | Kind::Or => read_binary(s, next, 1, version, left - 1),
+        Kind::Not | Kind::Refine => read_unary(s, next, 1, version, left - 1),
+        Kind::Formerly | Kind::Previous => read_unary(s, next, version, version, left - 1),
+        Kind::Since => read_binary(s, next, version, version, left - 1),
+        Kind::Predicate => read_predicate(s, next, version, left - 1),
+        Kind::Comparison => read_comparison(s, next, version, left - 1),
+        Kind::Exists => read_exists(s, next, version, left - 1),
+        Kind::Timepoint => read_timepoint(s, next),
+        Kind::Call | Kind::SigilRef => read_span(s, next),
     }
 }
 
-// The readers below read one field after another, each at the place where the one before ended. An
-// exists, a Sum and a Count share two calls and differ in the others, so that one function for them
-// would be no plainer.
+// The readers below read one field after another, each at the place where the one before ended. The
+// version and the levels left are two numbers, and no struct: `read_subcondition` and `read_term`
+// take them as such, the levels are the measure by which the readers end, and each reader between
+// the two hands both on as it got them.
 //
-// A span, a window and a condition: Formerly, Previous. Not and Refine, which have no window, are read with that of version 1, which has no bytes.
+// A span, a window and a condition: Formerly, Previous. Not and Refine, which have no window, are
+// read with that of version 1, which has no bytes.
 #[cycle(conditions_and_terms)]
 fn read_unary(s: &[u8], at: usize, windows: usize, version: usize, left: usize) -> Read
     ensures { (k : Window → One) → result ≡ ending (unary version (condition_at version left) (term_at version left) (k <∘> window windows) s.now at) }
@@ -173,6 +175,8 @@ fn read_comparison(s: &[u8], at: usize, version: usize, left: usize) -> Read
     read_term(s, p, version, left, false)
 }
 
+// A span, a binder and a condition. A Sum and a Count have a slot, or binders, where the binder
+// stands: one reader for them would ask at each field which of them it reads.
 #[cycle(conditions_and_terms)]
 fn read_exists(s: &[u8], at: usize, version: usize, left: usize) -> Read
     ensures { result ≡ ending (exists_of version (condition_at version left) (term_at version left) s.now at) }
@@ -182,30 +186,33 @@ fn read_exists(s: &[u8], at: usize, version: usize, left: usize) -> Read
     read_subcondition(s, m, version, left)
 }
 
-// The term whose kind byte stands at `at`, read in a version, with so many levels left; below an array or not.
+// The term whose kind byte stands at `at`, read in a version, with so many levels left; below an
+// array or not.
 #[cycle(conditions_and_terms)]
 pub fn read_term(s: &[u8], at: usize, version: usize, left: usize, in_array: bool) -> Read
     ensures { result ≡ ending (term_at version left in_array s.now at) }
 {
-    let Some(&kind) = s.get(at) else {
+    let Some(&byte) = s.get(at) else {
         return Err(Refusal::Cut);
     };
-    if !matches!(kind, 1..=14) {
-        return Err(Refusal::UndefinedChoice);
-    }
+    let kind = TermKind::try_from(byte)?;
     if left == 0 {
         return Err(Refusal::TooDeep);
     }
     let next = at + 1;
     match kind {
-        1..=5 => read_value(s, next, kind, version),
-        6 | 7 => names::read_path(s, next),
-        8 => names::read_string(s, next, Class::Plain),
-        10 => read_elements(s, next, version, left - 1),
-        11 if in_array => Err(Refusal::AggregateBelowArray),
-        11 => read_aggregate(s, next, version, left - 1),
-        12 => read_arith(s, next, version, left - 1, in_array),
-        _ => Ok(next),
+        TermKind::Entity
+        | TermKind::Integer
+        | TermKind::Decimal
+        | TermKind::String
+        | TermKind::Bool => read_value(s, next, kind, version),
+        TermKind::ContextField | TermKind::ScopeField => names::read_path(s, next),
+        TermKind::Var => names::read_string(s, next, Class::Plain),
+        TermKind::Array => read_elements(s, next, version, left - 1),
+        TermKind::Aggregate if in_array => Err(Refusal::AggregateBelowArray),
+        TermKind::Aggregate => read_aggregate(s, next, version, left - 1),
+        TermKind::Arith => read_arith(s, next, version, left - 1, in_array),
+        TermKind::Wildcard | TermKind::ParamRef | TermKind::BinderRef => Ok(next),
     }
 }
 
@@ -237,14 +244,13 @@ fn read_elements(s: &[u8], start: usize, version: usize, left: usize) -> Read
 fn read_aggregate(s: &[u8], at: usize, version: usize, left: usize) -> Read
     ensures { result ≡ ending (aggregate_of version (condition_at version left) (term_at version left) s.now at) }
 {
-    let Some(&kind) = s.get(at) else {
+    let Some(&byte) = s.get(at) else {
         return Err(Refusal::Cut);
     };
-    match kind {
-        1 => read_sum(s, at + 1, version, left),
-        2 => read_count(s, at + 1, version, left),
-        3 => read_span(s, at + 1),
-        _ => Err(Refusal::UndefinedChoice),
+    match AggregateKind::try_from(byte)? {
+        AggregateKind::Sum => read_sum(s, at + 1, version, left),
+        AggregateKind::Count => read_count(s, at + 1, version, left),
+        AggregateKind::Call => read_span(s, at + 1),
     }
 }
 
@@ -258,6 +264,7 @@ fn read_sum(s: &[u8], at: usize, version: usize, left: usize) -> Read
     read_subcondition(s, p, version, left)
 }
 
+// A span, binders and a condition: no one reader with `read_exists`, for the reason given there.
 #[cycle(conditions_and_terms)]
 fn read_count(s: &[u8], at: usize, version: usize, left: usize) -> Read
     ensures { result ≡ ending (count_of version (condition_at version left) (term_at version left) s.now at) }

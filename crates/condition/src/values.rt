@@ -1,10 +1,13 @@
-// What version 3 brought: an entity's id, the values of literals, the operator of an Arith. Which bytes are one.
+// What version 3 brought: an entity's id, the values of literals, the operator of an Arith. Which
+// bytes are one.
 ghost use Rattle.std.specs.Prelude.{◌≡◌, Bool, ◌≤◌};
 ghost use Rattle.names.specs.Read.{ending};
 ghost use Rattle.names.specs.Fields.{Reader, i64, choose};
 ghost use Rattle.condition.specs.Condition.{Condition, Term, given, arith_op, entity_fields, term_kinds};
+ghost use Rattle.condition.specs.Kinds.{term_kind_number};
 
 use crate::choice::read_choice;
+use crate::kind::TermKind;
 use names::{Class, Read, Refusal};
 
 // A signed number of 64 bits.
@@ -28,18 +31,18 @@ fn read_entity(s: &[u8], at: usize, version: usize) -> Read
     names::read_string(s, n, Class::Plain)
 }
 
-// What stands behind the kind byte of an entity or a literal, by that byte.
-pub fn read_value(s: &[u8], at: usize, kind: u8, version: usize) -> Read
-    requires le_kind { 1 ≤ kind }
-    requires kind_bound { kind ≤ 5 }
-    ensures { (c : Reader Condition) (t : Bool → Reader Term) (b : Bool) → result ≡ ending (choose kind (term_kinds version c t b) s.now at) }
+// What stands behind the kind byte of an entity or a literal, by its kind: one of those up to a
+// Bool, which the last arm reads.
+pub fn read_value(s: &[u8], at: usize, kind: TermKind, version: usize) -> Read
+    requires { term_kind_number kind ≤ 5 }
+    ensures { (c : Reader Condition) (t : Bool → Reader Term) (b : Bool) → result ≡ ending (choose (term_kind_number kind) (term_kinds version c t b) s.now at) }
 {
     match kind {
-        1 => read_entity(s, at, version),
+        TermKind::Entity => read_entity(s, at, version),
         _ if version <= 2 => Ok(at),
-        2 => read_i64(s, at),
-        3 => decimal::read_decimal(s, at),
-        4 => names::read_string(s, at, Class::Plain),
+        TermKind::Integer => read_i64(s, at),
+        TermKind::Decimal => decimal::read_decimal(s, at),
+        TermKind::String => names::read_string(s, at, Class::Plain),
         _ => read_choice(s, at, 1),
     }
 }

@@ -7,7 +7,8 @@ ghost use Rattle.condition.specs.Places.{UnitOf};
 use crate::values::read_i64;
 use names::{Read, Refusal};
 
-// The seconds of a unit, by its choice byte.
+// The seconds of a unit, by its choice byte. The byte goes straight to the seconds: an enum of the
+// units would need a match from the byte to it, and one more from it to the seconds.
 pub fn unit_seconds(unit: u8) -> u64
     requires { unit ≤ 3 }
     ensures { UnitOf unit result }
@@ -20,8 +21,8 @@ pub fn unit_seconds(unit: u8) -> u64
     }
 }
 
-// Whether an amount of a unit is not below 0, nor above 2^63 - 1 seconds. Below 0 it is at least 2^63 as a word without sign, so one test does for both;
-// it multiplies nothing, so nothing wraps.
+// Whether an amount of a unit is not below 0, nor above 2^63 - 1 seconds. Below 0 it is at least
+// 2^63 as a word without sign, so one test does for both; it multiplies nothing, so nothing wraps.
 fn fits(unit: u64, amount: u64) -> bool
     requires { 0 < unit }
     ensures { result ≡ fits unit amount }
@@ -55,7 +56,9 @@ fn read_seconds(s: &[u8], at: usize) -> Read
     read_amount(s, at + 1, unit_seconds(unit))
 }
 
-// The window of a version: nothing is read of it in version 1.
+// The window of a version: nothing is read of it in version 1. The byte is matched and not decoded
+// first: an enum of the bare kinds would be matched a second time, to read what stands behind the
+// byte.
 pub fn read_window(s: &[u8], at: usize, version: usize) -> Read
     ensures { result ≡ ending (window version s.now at) }
 {

@@ -10,5 +10,6 @@ use names::Refusal;
 pub use text::value_of;
 pub use write::write_decimal;
 
-// What a text is: a number of ten-thousandths; or what it is refused for, as malformed or as beyond 64 bits.
+// What a text is: a number of ten-thousandths; or what it is refused for, as malformed or as beyond
+// 64 bits.
 pub type Decimal = Result<i64, Refusal>;

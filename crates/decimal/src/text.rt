@@ -90,17 +90,13 @@ fn with_fraction(n: u64, w: &[u8]) -> u64
         + (digit_at(w, 0) * 1000 + digit_at(w, 1) * 100 + digit_at(w, 2) * 10 + digit_at(w, 3))
 }
 
-// So many ten-thousandths below zero. One comes off before the cast, since 2^63 is no `i64`.
+// So many ten-thousandths below zero.
 fn negated(n: u64) -> Decimal
     ensures { result ≡ held (neg_ℤ (pos n)) }
 {
-    if n == 0 {
-        return Ok(0);
-    }
-    if 9223372036854775808 < n {
-        return Err(Refusal::DecimalOutOfRange);
-    }
-    Ok(-1 - ((n - 1) as i64))
+    0_i64
+        .checked_sub_unsigned(n)
+        .ok_or(Refusal::DecimalOutOfRange)
 }
 
 fn with_sign(negative: bool, n: u64) -> Decimal
@@ -112,7 +108,8 @@ fn with_sign(negative: bool, n: u64) -> Decimal
     i64::try_from(n).or(Err(Refusal::DecimalOutOfRange))
 }
 
-// The value of a text that is well formed, its minus taken off. From 10^15 on a whole part is beyond 64 bits, whatever follows it.
+// The value of a text that is well formed, its minus taken off. From 10^15 on a whole part is
+// beyond 64 bits, whatever follows it.
 fn value_behind_sign(negative: bool, w: &[u8]) -> Decimal
     ensures { result ≡ held (signed negative (ten_thousandths 0 w.now)) }
 {

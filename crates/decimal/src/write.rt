@@ -1,6 +1,8 @@
 // A number of ten-thousandths, written: measured before the first byte is stored.
-ghost use Rattle.std.specs.Prelude.{◌≡◌, ◌+◌, ◌≤◌, length, pos};
-ghost use Rattle.std.specs.Int.Signed.{lt_z};
+//
+// There is no `Display`: the text goes to a place of lent bytes, and the contract says which bytes
+// stand there.
+ghost use Rattle.std.specs.Prelude.{◌≡◌, ◌+◌, ◌≤◌, length};
 ghost use Rattle.names.specs.Writer.{Stored};
 ghost use Rattle.reports.specs.Answers.{outcome_of};
 ghost use Rattle.reports.specs.Placed.{placed};
@@ -9,24 +11,14 @@ ghost use Rattle.decimal.specs.Decimal.{places, last_digits, shown, written};
 use names::Refusal;
 use reports::{Answer, refuse, written};
 
-fn is_negative(value: i64) -> bool
-    ensures { result ≡ lt_z value (pos 0) }
-{
-    value < 0
-}
-
-// How many digits a number has without leading zeros. The loop takes digits off the number and
-// counts no index; `ilog10` asks for a number above 0, so that 0 would be a case beside it.
+// How many digits a number has without leading zeros.
 fn places(n: u64) -> usize
     ensures { (result ≡ places n) × (result ≤ n + 1) }
 {
-    let mut count = 1;
-    let mut rest = n;
-    while 10 <= rest {
-        rest = rest / 10;
-        count += 1;
+    match n.checked_ilog10() {
+        None => 1,
+        Some(power) => power as usize + 1,
     }
-    count
 }
 
 // How long the text of a number is.
@@ -34,7 +26,7 @@ fn text_size(value: i64) -> usize
     ensures { result ≡ length (written value) }
 {
     let whole = places(value.unsigned_abs() / 10000);
-    if is_negative(value) {
+    if value.is_negative() {
         return whole + 6;
     }
     whole + 5
@@ -70,7 +62,7 @@ fn put_written(out: &mut [u8], value: i64) -> usize
     ensures { Stored out.old 0 (written value) out.new result }
 {
     let n = value.unsigned_abs();
-    if is_negative(value) {
+    if value.is_negative() {
         out[0] = b'-';
         return put_shown(out, 1, n);
     }

@@ -1,4 +1,6 @@
 // The functions of the library. The crate dogwood_c exports each of them to C, under the same name and with the same contract.
+// So a refusal is its number here, 0 for none, and rules are bits.
+// Functions that differ in a reader or in a table alone are one for each exported name.
 #![tactic(auto)]
 
 ghost use Rattle.std.specs.Prelude.{◌≡◌, []};
@@ -24,6 +26,7 @@ pub use steps::{Stepped, Steps};
 pub use typecheck::CheckAnswer;
 
 // The number with which a schema record is refused, 0 for none.
+#[tactic(auto, using(names::specs::Laws::Readers::number_of_lem))]
 pub fn dogwood_read_schema(bytes: &[u8]) -> u8
     ensures { result ≡ refusal_number (whole schema_record bytes.now) }
 {
@@ -31,6 +34,7 @@ pub fn dogwood_read_schema(bytes: &[u8]) -> u8
 }
 
 // The same of a condition record.
+#[tactic(auto, using(names::specs::Laws::Readers::number_of_lem))]
 pub fn dogwood_read_condition(bytes: &[u8]) -> u8
     ensures { result ≡ refusal_number (whole condition_record bytes.now) }
 {
@@ -38,6 +42,7 @@ pub fn dogwood_read_condition(bytes: &[u8]) -> u8
 }
 
 // The same of a target record.
+#[tactic(auto, using(names::specs::Laws::Readers::number_of_lem))]
 pub fn dogwood_read_targets(bytes: &[u8]) -> u8
     ensures { result ≡ refusal_number (whole target_record bytes.now) }
 {
@@ -45,6 +50,7 @@ pub fn dogwood_read_targets(bytes: &[u8]) -> u8
 }
 
 // The same of a path record.
+#[tactic(auto, using(names::specs::Laws::Readers::number_of_lem))]
 pub fn dogwood_read_path(bytes: &[u8]) -> u8
     ensures { result ≡ refusal_number (whole path_record bytes.now) }
 {
@@ -64,6 +70,8 @@ pub fn dogwood_lookup<'a>(
 }
 
 // The check of a condition under the targets of a rule: the answer, with how many visits were begun, and the reports in the lent buffer.
+// The records and the buffer come one by one, here and in the stepping check, and in no struct:
+// these are the parameters of the C interface.
 pub fn dogwood_check<'a>(
     schema: &'a [u8],
     condition: &'a [u8],
@@ -132,7 +140,8 @@ pub fn dogwood_steps_step_with<'a>(
 }
 
 // A target appended between steps: the target record is the first `length` bytes of the lent buffer, and the count of the answer is its new length. A target is
-// given by its namespace and id as in the record.
+// given by its namespace and id as in the record. The length stands beside the buffer, and is no
+// part of a slice, since the C interface has it so: behind it is the room for the target.
 pub fn dogwood_steps_append(list: &mut [u8], length: usize, target: &[u8]) -> Answer
     ensures { outcome_of result list.new ≡ append list.old length target.now }
 {
@@ -175,6 +184,7 @@ pub fn dogwood_windows(condition: &[u8], period: u64, output: &mut [u8]) -> Answ
 }
 
 // A number of ten-thousandths as the text of a decimal: the answer, and the text in the lent buffer.
+#[tactic(auto, using(crate::proofs::Passed::passed))]
 pub fn dogwood_write_decimal(value: i64, output: &mut [u8]) -> Answer
     ensures { outcome_of result output.new ≡ placed (written value) output.old }
 {

@@ -1,5 +1,7 @@
 // The exported functions of the static library. Each calls the function of its name in the crate dogwood, and states the
 // clauses of that function word for word.
+// They are the C interface: a refusal is its number, 0 for none, rules are bits, and what differs
+// in a reader or a table alone has a name for each.
 #![tactic(auto)]
 
 ghost use Rattle.std.specs.Prelude.{◌≡◌, []};
@@ -68,6 +70,8 @@ pub extern "C" fn dogwood_lookup<'a>(
 }
 
 // The check of a condition under the targets of a rule: the answer, with how many visits were begun, and the reports in the lent buffer.
+// The records and the buffer come one by one, here and in the stepping check, and in no struct:
+// these are the parameters of the C interface.
 #[unsafe(no_mangle)]
 pub extern "C" fn dogwood_check<'a>(
     schema: &'a [u8],
@@ -145,7 +149,8 @@ pub extern "C" fn dogwood_steps_step_with<'a>(
 }
 
 // A target appended between steps: the target record is the first `length` bytes of the lent buffer, and the count of the answer is its new length. A target is
-// given by its namespace and id as in the record.
+// given by its namespace and id as in the record. The length stands beside the buffer, and is no
+// part of a slice, since the C interface has it so: behind it is the room for the target.
 #[unsafe(no_mangle)]
 pub extern "C" fn dogwood_steps_append(list: &mut [u8], length: usize, target: &[u8]) -> Answer
     ensures { outcome_of result list.new ≡ append list.old length target.now }

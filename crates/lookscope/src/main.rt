@@ -45,7 +45,10 @@ fn look<'a>(
     print_output(console, &output)
 }
 
-// The line of an output, by its status byte.
+// The line of an output, by its status byte, whose numbers are those of `dogwood_status` in the C
+// header: an enum of them would be made from the byte here and matched here, and nowhere else. Nor
+// is an output a value with a `Display`, as its strings are bytes: a `Display` writes text that was
+// shown to be UTF-8.
 fn print_output(console: &impl Print, output: &[u8]) -> io::Result<()> {
     let count = names::u16_at(output, 1);
     let strings = output.get(3..).unwrap_or(&[]);
@@ -60,7 +63,7 @@ fn print_output(console: &impl Print, output: &[u8]) -> io::Result<()> {
     console.write_all(b"\n")
 }
 
-// The segment, and the entity types behind it.
+// The segment, and the entity types behind it. Printed and no `Display`, as in `print_output`.
 fn print_missing(console: &impl Print, strings: &[u8], count: usize) -> io::Result<()> {
     let (segment, types) = program::split_field(strings);
     console.write_all(b"missing ")?;
@@ -71,7 +74,8 @@ fn print_missing(console: &impl Print, strings: &[u8], count: usize) -> io::Resu
     Ok(())
 }
 
-// Some words, and so many strings from the front of some bytes.
+// Some words, and so many strings from the front of some bytes. Printed and no `Display`, as in
+// `print_output`. What follows a string is known once it is read, so each turn hands it on.
 fn print_strings(
     console: &impl Print,
     words: &[u8],

@@ -17,15 +17,16 @@ use Rattle.names.specs.Writer.{Stored}
 use Rattle.names.specs.Laws.Writers.{stored_none, stored_more, stored_length}
 use Rattle.names.specs.Laws.Readers.{accept, string_view}
 use Rattle.names.specs.Laws.Rows.{opens, listed_length}
-use Rattle.schema.specs.Places.{is_schema, schema_in}
+use Rattle.schema.specs.Places.{is_schema}
 use Rattle.schema.specs.Schema.{schema_record}
 use Rattle.names.specs.declared.Row.{Row}
-use Rattle.targets.specs.Places.{narrowed}
-use Rattle.resolution.specs.Places.{are_types, types_in, segments_in, Follows, NextOf}
+use Rattle.resolution.specs.Paths.{path_of}
+use Rattle.resolution.specs.Scopes.{schema_of, narrowing_of, types_of}
+use Rattle.resolution.specs.Places.{are_types, types_in, Follows, NextOf}
 use Rattle.resolution.specs.Passes.{failing}
 use Rattle.lookup.specs.Lookup.{sized}
-use Rattle.lookup.specs.Places.{Asks, entities_of, Long, Room, Measures}
-use Rattle.lookup.specs.declared.Question.{Question}
+use Rattle.lookup.specs.Places.{entities_of, Long, Room, Measures}
+use Rattle.lookup.specs.declared.question.Question.{Question}
 use Rattle.lookup.specs.declared.Measured.{Measured}
 use Rattle.lookup.proofs.Parts.{length_sized}
 use Rattle.names.specs.declared.refusal.Refusal.TheVariants.{TooLong}
@@ -158,12 +159,19 @@ module _ (s : List ℕ) (at : ℕ) (ws : List (List ℕ)) where
 
 -- ---- the strings of `Missing`
 
-module _ (s n c : List ℕ) (q : Question) (segment : ℕ) where
+module _ (q : Question) (segment : ℕ) where
+  -- the bytes of its schema and of its path
+  abbrev pub s : List ℕ
+  s = q.candidates.scope.schema.bytes.now
+
+  abbrev pub c : List ℕ
+  c = q.path.bytes.now
+
   abbrev pub missing_words : List (List ℕ)
-  missing_words = word_at c segment ∷ entities_of s n c q segment
+  missing_words = word_at c segment ∷ entities_of q segment
 
   abbrev pub fails : List ℕ → Bool
-  fails = failing (schema_in s) (narrowed n q.narrowing) (segments_in c q.path) (word_at c segment)
+  fails = failing (schema_of q.candidates.scope) (narrowing_of q.candidates.scope) (path_of q.path) (word_at c segment)
 
   -- what is left of the row
   abbrev pub failed : Row → List (List ℕ)
@@ -175,7 +183,7 @@ module _ (s n c : List ℕ) (q : Question) (segment : ℕ) where
 
   pub record PuttingMissing (t : List ℕ) (at : ℕ) (left : Row) (u : List ℕ) (place : ℕ) : Type 0 where
     pub stands : are_types s left ≡ true
-    pub on : Putting t at (failed q.types) (failed left) u place
+    pub on : Putting t at (failed q.candidates.types) (failed left) u place
     pub same : length u ≡ length t
 
   module _ (left : Row) (x : Next) (next : NextOf s fails left x) where
@@ -192,47 +200,46 @@ module _ (s n c : List ℕ) (q : Question) (segment : ℕ) where
       pub missing_fewer : others.count < left.count
       missing_fewer = left_follows.fewer
 
-  module _ (asks : Asks s c q) where
-    missing_few : length missing_words < 65536
-    missing_few = omega (arith, length_select fails (types_in s q.types), types_few s q.types asks.schema asks.types)
+  missing_few : length missing_words < 65536
+  missing_few = omega (arith, length_select fails (types_of q.candidates), types_few s q.candidates.types q.candidates.scope.schema.accepted q.candidates.stand)
 
-    -- the first string is the segment
-    pub first_counted : (long : ℕ) → Long (word_at c segment) long → (m : Measured) → m ≡ record { count = 1; size = 2 + long } → CountingMissing q.types m
-    first_counted long l m e = record { stands = asks.types; on = count_one missing_words (word_at c segment) (entities_of s n c q segment) refl long l m e }
+  -- the first string is the segment
+  pub first_counted : (long : ℕ) → Long (word_at c segment) long → (m : Measured) → m ≡ record { count = 1; size = 2 + long } → CountingMissing q.candidates.types m
+  first_counted long l m e = record { stands = q.candidates.stand; on = count_one missing_words (word_at c segment) (entities_of q segment) refl long l m e }
 
-    module _ (left : Row) (m : Measured) (inv : CountingMissing left m) (x : Next) (next : NextOf s fails left x) where
-      pub missing_over : x ≡ None → Measures missing_words m
-      missing_over e = count_over missing_words missing_few (failed left) m inv.on (none_left left x next e)
+  module _ (left : Row) (m : Measured) (inv : CountingMissing left m) (x : Next) (next : NextOf s fails left x) where
+    pub missing_over : x ≡ None → Measures missing_words m
+    missing_over e = count_over missing_words missing_few (failed left) m inv.on (none_left left x next e)
 
-      module _ (p : ℕ) (others : Row) (e : x ≡ Some (p, others)) (long : ℕ) (l : Long (word_at s p) long) where
-        pub missing_room : Room m long
-        missing_room = count_room missing_words missing_few (failed left) m inv.on (word_at s p) (failed others) (one_left left x next p others e) long l
+    module _ (p : ℕ) (others : Row) (e : x ≡ Some (p, others)) (long : ℕ) (l : Long (word_at s p) long) where
+      pub missing_room : Room m long
+      missing_room = count_room missing_words missing_few (failed left) m inv.on (word_at s p) (failed others) (one_left left x next p others e) long l
 
-        pub missing_more : (r : Measured) → r ≡ record { count = m.count + 1; size = m.size + (2 + long) } → CountingMissing others r
-        missing_more r i = record {
+      pub missing_more : (r : Measured) → r ≡ record { count = m.count + 1; size = m.size + (2 + long) } → CountingMissing others r
+      missing_more r i = record {
+        stands = (left_follows left x next p others e).stands;
+        on = count_more missing_words missing_few (failed left) m inv.on (word_at s p) (failed others) (one_left left x next p others e) long l r i;
+      }
+
+  -- the entity types, written
+  module _ (t : List ℕ) (at : ℕ) (room : at + length (gather sized (entities_of q segment)) ≤ length t) where
+    pub entities_start : PuttingMissing t at q.candidates.types t at
+    entities_start = record { stands = q.candidates.stand; on = put_none t at (failed q.candidates.types) (omega arith); same = refl }
+
+    module _ (left : Row) (u : List ℕ) (place : ℕ) (inv : PuttingMissing t at left u place) (x : Next) (next : NextOf s fails left x) where
+      pub entities_over : x ≡ None → Stored t at (gather sized (entities_of q segment)) u place
+      entities_over e = put_over t at (failed q.candidates.types) (failed left) u place inv.on (none_left left x next e)
+
+      module _ (p : ℕ) (others : Row) (e : x ≡ Some (p, others)) where
+        pub entity_room : place + length (sized (word_at s p)) ≤ length u
+        entity_room = put_room t at (failed q.candidates.types) (failed left) u place inv.on (word_at s p) (failed others) (one_left left x next p others e) room
+
+        pub entity_put : (v : List ℕ) (r : ℕ) → Stored u place (sized (word_at s p)) v r → PuttingMissing t at others v r
+        entity_put v r i = record {
           stands = (left_follows left x next p others e).stands;
-          on = count_more missing_words missing_few (failed left) m inv.on (word_at s p) (failed others) (one_left left x next p others e) long l r i;
+          on = put_more t at (failed q.candidates.types) (failed left) u place inv.on (word_at s p) (failed others) (one_left left x next p others e) v r i;
+          same = stored_length i ∙ inv.same;
         }
-
-    -- the entity types, written
-    module _ (t : List ℕ) (at : ℕ) (room : at + length (gather sized (entities_of s n c q segment)) ≤ length t) where
-      pub entities_start : PuttingMissing t at q.types t at
-      entities_start = record { stands = asks.types; on = put_none t at (failed q.types) (omega arith); same = refl }
-
-      module _ (left : Row) (u : List ℕ) (place : ℕ) (inv : PuttingMissing t at left u place) (x : Next) (next : NextOf s fails left x) where
-        pub entities_over : x ≡ None → Stored t at (gather sized (entities_of s n c q segment)) u place
-        entities_over e = put_over t at (failed q.types) (failed left) u place inv.on (none_left left x next e)
-
-        module _ (p : ℕ) (others : Row) (e : x ≡ Some (p, others)) where
-          pub entity_room : place + length (sized (word_at s p)) ≤ length u
-          entity_room = put_room t at (failed q.types) (failed left) u place inv.on (word_at s p) (failed others) (one_left left x next p others e) room
-
-          pub entity_put : (v : List ℕ) (r : ℕ) → Stored u place (sized (word_at s p)) v r → PuttingMissing t at others v r
-          entity_put v r i = record {
-            stands = (left_follows left x next p others e).stands;
-            on = put_more t at (failed q.types) (failed left) u place inv.on (word_at s p) (failed others) (one_left left x next p others e) v r i;
-            same = stored_length i ∙ inv.same;
-          }
 
 -- a first string, and then the others
 module _ (t : List ℕ) (at : ℕ) (w : List ℕ) (others : List (List ℕ)) (room : at + length (gather sized (w ∷ others)) ≤ length t) where

@@ -17,18 +17,18 @@ use Rattle.types.specs.Meaning.{rich_of}
 use Rattle.types.specs.declared.Rich.{Rich}
 use Rattle.reports.specs.Answers.{outcome_of, Refuses}
 use Rattle.reports.specs.declared.Answer.{Answer}
-use Rattle.schema.specs.Places.{schema_in}
-use Rattle.targets.specs.Places.{narrowed}
+use Rattle.resolution.specs.Paths.{path_of}
+use Rattle.resolution.specs.Scopes.{schema_of, narrowing_of, types_of}
 use Rattle.resolution.specs.Resolution as Resolution
 use Rattle.resolution.specs.Resolution.{unknown}
-use Rattle.resolution.specs.Places.{types_in, segments_in, small_path}
+use Rattle.resolution.specs.Places.{small_path}
 use Rattle.resolution.specs.Passes.{scope_number, scope_of, briefly, listed, with_list}
 use Rattle.resolution.specs.declared.ScopePath.{ScopePath}
 use Rattle.resolution.specs.Laws.Listed.{with_its_list, missing_listed, ambiguous_listed}
 use Rattle.reports.specs.Placed.{placed, Writes, placed-fits, placed_not}
 use Rattle.lookup.specs.Lookup.{sized, block, output}
 use Rattle.lookup.specs.Places.{answer_to, entities_of, rendered_of, strings_of, Long, Measures}
-use Rattle.lookup.specs.declared.Question.{Question}
+use Rattle.lookup.specs.declared.question.Question.{Question}
 use Rattle.lookup.specs.declared.Measured.{Measured}
 use Rattle.lookup.proofs.Parts.{length_sized}
 
@@ -50,60 +50,67 @@ measures_one w long l m e =
 
 -- ---- the strings of an answer, by its case
 
-module _ (s n c : List ℕ) (q : Question) (answer : ScopePath) where
+module _ (q : Question) (answer : ScopePath) where
+  -- the bytes of its schema and of its path
+  abbrev pub s : List ℕ
+  s = q.candidates.scope.schema.bytes.now
+
+  abbrev pub c : List ℕ
+  c = q.path.bytes.now
+
   module _ (t : Rich) (e : answer ≡ ScopePath.Resolved t) where
     pub resolved_small : small_path (scope_of s c answer) → Small (rich_of s c t)
     resolved_small h = rw e at h
 
-    pub resolved_measured : (long : ℕ) → Long (render (rich_of s c t)) long → (m : Measured) → m ≡ record { count = 1; size = 2 + long } → Measures (strings_of s n c q answer) m
+    pub resolved_measured : (long : ℕ) → Long (render (rich_of s c t)) long → (m : Measured) → m ≡ record { count = 1; size = 2 + long } → Measures (strings_of q answer) m
     resolved_measured long l m i = rw e (measures_one (render (rich_of s c t)) long l m i)
 
     module _ (b : List ℕ) (at : ℕ) where
-      pub resolved_room : at + length (gather sized (strings_of s n c q answer)) ≤ length b → at + length (sized (render (rich_of s c t))) ≤ length b
+      pub resolved_room : at + length (gather sized (strings_of q answer)) ≤ length b → at + length (sized (render (rich_of s c t))) ≤ length b
       resolved_room h = rw (e, one (render (rich_of s c t))) at h
 
-      pub resolved_put : (d : List ℕ) (r : ℕ) → Stored b at (sized (render (rich_of s c t))) d r → Stored b at (gather sized (strings_of s n c q answer)) d r
+      pub resolved_put : (d : List ℕ) (r : ℕ) → Stored b at (sized (render (rich_of s c t))) d r → Stored b at (gather sized (strings_of q answer)) d r
       resolved_put d r i = rw (e, one (render (rich_of s c t))) i
 
   module _ (p : ℕ) (e : answer ≡ ScopePath.Missing p) where
-    pub missing_measured : (m : Measured) → Measures (word_at c p ∷ entities_of s n c q p) m → Measures (strings_of s n c q answer) m
+    pub missing_measured : (m : Measured) → Measures (word_at c p ∷ entities_of q p) m → Measures (strings_of q answer) m
     missing_measured m i = rw e i
 
     module _ (b : List ℕ) (at : ℕ) where
-      pub missing_room : at + length (gather sized (strings_of s n c q answer)) ≤ length b → at + length (gather sized (word_at c p ∷ entities_of s n c q p)) ≤ length b
+      pub missing_room : at + length (gather sized (strings_of q answer)) ≤ length b → at + length (gather sized (word_at c p ∷ entities_of q p)) ≤ length b
       missing_room h = rw e at h
 
-      pub missing_put : (d : List ℕ) (r : ℕ) → Stored b at (gather sized (word_at c p ∷ entities_of s n c q p)) d r → Stored b at (gather sized (strings_of s n c q answer)) d r
+      pub missing_put : (d : List ℕ) (r : ℕ) → Stored b at (gather sized (word_at c p ∷ entities_of q p)) d r → Stored b at (gather sized (strings_of q answer)) d r
       missing_put d r i = rw e i
 
   module _ (p : ℕ) (e : answer ≡ ScopePath.NonRecord p) where
-    pub segment_measured : (long : ℕ) → Long (word_at c p) long → (m : Measured) → m ≡ record { count = 1; size = 2 + long } → Measures (strings_of s n c q answer) m
+    pub segment_measured : (long : ℕ) → Long (word_at c p) long → (m : Measured) → m ≡ record { count = 1; size = 2 + long } → Measures (strings_of q answer) m
     segment_measured long l m i = rw e (measures_one (word_at c p) long l m i)
 
     module _ (b : List ℕ) (at : ℕ) where
-      pub segment_room : at + length (gather sized (strings_of s n c q answer)) ≤ length b → at + length (sized (word_at c p)) ≤ length b
+      pub segment_room : at + length (gather sized (strings_of q answer)) ≤ length b → at + length (sized (word_at c p)) ≤ length b
       segment_room h = rw (e, one (word_at c p)) at h
 
-      pub segment_put : (d : List ℕ) (r : ℕ) → Stored b at (sized (word_at c p)) d r → Stored b at (gather sized (strings_of s n c q answer)) d r
+      pub segment_put : (d : List ℕ) (r : ℕ) → Stored b at (sized (word_at c p)) d r → Stored b at (gather sized (strings_of q answer)) d r
       segment_put d r i = rw (e, one (word_at c p)) i
 
   module _ (e : answer ≡ ScopePath.Ambiguous) where
-    pub types_measured : (m : Measured) → Measures (rendered_of s n c q) m → Measures (strings_of s n c q answer) m
+    pub types_measured : (m : Measured) → Measures (rendered_of q) m → Measures (strings_of q answer) m
     types_measured m i = rw e i
 
     module _ (b : List ℕ) (at : ℕ) where
-      pub types_room : at + length (gather sized (strings_of s n c q answer)) ≤ length b → at + length (gather sized (rendered_of s n c q)) ≤ length b
+      pub types_room : at + length (gather sized (strings_of q answer)) ≤ length b → at + length (gather sized (rendered_of q)) ≤ length b
       types_room h = rw e at h
 
-      pub types_put : (d : List ℕ) (r : ℕ) → Stored b at (gather sized (rendered_of s n c q)) d r → Stored b at (gather sized (strings_of s n c q answer)) d r
+      pub types_put : (d : List ℕ) (r : ℕ) → Stored b at (gather sized (rendered_of q)) d r → Stored b at (gather sized (strings_of q answer)) d r
       types_put d r i = rw e i
 
   module _ (e : answer ≡ ScopePath.Unknown) where
-    pub nothing_measured : Measures (strings_of s n c q answer) (record { count = 0; size = 0 })
+    pub nothing_measured : Measures (strings_of q answer) (record { count = 0; size = 0 })
     unfolding gather
     nothing_measured = rw e (record { count = refl; size = refl; few = omega arith; short = omega arith })
 
-    pub nothing_put : (b : List ℕ) (at : ℕ) → at + length (gather sized (strings_of s n c q answer)) ≤ length b → Stored b at (gather sized (strings_of s n c q answer)) b at
+    pub nothing_put : (b : List ℕ) (at : ℕ) → at + length (gather sized (strings_of q answer)) ≤ length b → Stored b at (gather sized (strings_of q answer)) b at
     unfolding gather
     nothing_put b at h = rw e (stored_none b at (omega arith))
 
@@ -145,22 +152,22 @@ pub ruleset unknowns = (rules, unknown_not, unknown_placed)
 
 -- ---- the answer to a question
 
-module _ (s n c : List ℕ) (q : Question) where
-  output_of : (answer : ScopePath) → scope_of s c answer ≡ briefly (answer_to s n c q) → output (answer_to s n c q) ≡ block (scope_number answer) (strings_of s n c q answer)
+module _ (q : Question) where
+  output_of : (answer : ScopePath) → scope_of q.candidates.scope.schema.bytes.now q.path.bytes.now answer ≡ briefly (answer_to q) → output (answer_to q) ≡ block (scope_number answer) (strings_of q answer)
   unfolding output with_list
   output_of answer e =
-      let o : Resolution.ScopePath = answer_to s n c q in
-      let i : output o ≡ output (with_list (scope_of s c answer) (listed o)) = rw (e, with_its_list o) in
+      let o : Resolution.ScopePath = answer_to q in
+      let i : output o ≡ output (with_list (scope_of q.candidates.scope.schema.bytes.now q.path.bytes.now answer) (listed o)) = rw (e, with_its_list o) in
       i ∙ go answer (listed o) e
     where
-      go : (a : ScopePath) (ws : List (List ℕ)) → scope_of s c a ≡ briefly (answer_to s n c q) → output (with_list (scope_of s c a) (listed (answer_to s n c q))) ≡ block (scope_number a) (strings_of s n c q a)
+      go : (a : ScopePath) (ws : List (List ℕ)) → scope_of q.candidates.scope.schema.bytes.now q.path.bytes.now a ≡ briefly (answer_to q) → output (with_list (scope_of q.candidates.scope.schema.bytes.now q.path.bytes.now a) (listed (answer_to q))) ≡ block (scope_number a) (strings_of q a)
       go (ScopePath.Resolved t) ws h = refl
-      go (ScopePath.Missing p) ws h = rw (missing_listed (schema_in s) (narrowed n q.narrowing) (types_in s q.types) (segments_in c q.path) (word_at c p) [] (sym h))
+      go (ScopePath.Missing p) ws h = rw (missing_listed (schema_of q.candidates.scope) (narrowing_of q.candidates.scope) (types_of q.candidates) (path_of q.path) (word_at q.path.bytes.now p) [] (sym h))
       go (ScopePath.NonRecord p) ws h = refl
-      go ScopePath.Ambiguous ws h = rw (ambiguous_listed (schema_in s) (narrowed n q.narrowing) (types_in s q.types) (segments_in c q.path) [] (sym h))
+      go ScopePath.Ambiguous ws h = rw (ambiguous_listed (schema_of q.candidates.scope) (narrowing_of q.candidates.scope) (types_of q.candidates) (path_of q.path) [] (sym h))
       go ScopePath.Unknown ws h = refl
 
-  pub path_placed : (answer : ScopePath) → scope_of s c answer ≡ briefly (answer_to s n c q) → (b t : List ℕ) (a : Answer) → outcome_of a t ≡ placed (block (scope_number answer) (strings_of s n c q answer)) b → outcome_of a t ≡ placed (output (answer_to s n c q)) b
+  pub path_placed : (answer : ScopePath) → scope_of q.candidates.scope.schema.bytes.now q.path.bytes.now answer ≡ briefly (answer_to q) → (b t : List ℕ) (a : Answer) → outcome_of a t ≡ placed (block (scope_number answer) (strings_of q answer)) b → outcome_of a t ≡ placed (output (answer_to q)) b
   path_placed answer e b t a i = i ∙ ap (λ (o : List ℕ). placed o b) (sym (output_of answer e))
 
 pub ruleset paths = (rules, path_placed)

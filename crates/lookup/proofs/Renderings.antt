@@ -16,15 +16,15 @@ use Rattle.types.specs.Laws.Texts.{Small}
 use Rattle.types.specs.Meaning.{rich_of}
 use Rattle.types.specs.declared.Rich.{Rich}
 use Rattle.schema.specs.Schema.{Schema}
-use Rattle.schema.specs.Places.{schema_in}
-use Rattle.targets.specs.Places.{narrowed}
+use Rattle.resolution.specs.Paths.{path_of}
+use Rattle.resolution.specs.Scopes.{schema_of, narrowing_of, types_of}
 use Rattle.resolution.specs.Resolution.{insert, renderings, admitted_by}
-use Rattle.resolution.specs.Places.{types_in, segments_in, typed_of, small_type}
+use Rattle.resolution.specs.Places.{typed_of, small_type}
 use Rattle.resolution.specs.Passes.{rendered, above, type_on, types_on, next_rendered}
 use Rattle.resolution.specs.Laws.Listed.{all_behind}
 use Rattle.lookup.specs.Lookup.{sized}
-use Rattle.lookup.specs.Places.{Asks, rendered_of, Long, Room, Measures}
-use Rattle.lookup.specs.declared.Question.{Question}
+use Rattle.lookup.specs.Places.{rendered_of, Long, Room, Measures}
+use Rattle.lookup.specs.declared.question.Question.{Question}
 use Rattle.lookup.specs.declared.Measured.{Measured}
 use Rattle.lookup.proofs.Listing.{length_select, types_few, Counting, count_none, count_over, count_room, count_more, Putting, put_none, put_over, put_room, put_more}
 use Rattle.resolution.specs.Coded.{Typed}
@@ -56,31 +56,39 @@ length_types S path (n ∷ names) = go (type_on S path n) (length_types S path n
     go none h = omega arith
     go (some t) h = omega arith
 
-rendered_few : (s n c : List ℕ) (q : Question) → Asks s c q → length (rendered_of s n c q) < 65536
-rendered_few s n c q asks =
-    let S = schema_in s in
-    let names : List (List ℕ) = types_in s q.types in
-    let path : List (List ℕ) = segments_in c q.path in
-    let chosen : List (List ℕ) = select (admitted_by S (narrowed n q.narrowing)) names in
-    omega (arith, length_renderings (types_on S path chosen), length_types S path chosen, length_select (admitted_by S (narrowed n q.narrowing)) names, types_few s q.types asks.schema asks.types)
+rendered_few : (q : Question) → length (rendered_of q) < 65536
+rendered_few q =
+    let s : List ℕ = q.candidates.scope.schema.bytes.now in
+    let S = schema_of q.candidates.scope in
+    let names : List (List ℕ) = types_of q.candidates in
+    let path : List (List ℕ) = path_of q.path in
+    let chosen : List (List ℕ) = select (admitted_by S (narrowing_of q.candidates.scope)) names in
+    omega (arith, length_renderings (types_on S path chosen), length_types S path chosen, length_select (admitted_by S (narrowing_of q.candidates.scope)) names, types_few s q.candidates.types q.candidates.scope.schema.accepted q.candidates.stand)
 
 -- ---- the loops
 
-module _ (s n c : List ℕ) (q : Question) where
+module _ (q : Question) where
+  -- the bytes of its schema and of its path
+  abbrev pub s : List ℕ
+  s = q.candidates.scope.schema.bytes.now
+
+  abbrev pub c : List ℕ
+  c = q.path.bytes.now
+
   -- the texts behind the last one
   abbrev pub behind : Typed → List (List ℕ)
-  behind last = select (above (rendered (typed_of s c last))) (rendered_of s n c q)
+  behind last = select (above (rendered (typed_of s c last))) (rendered_of q)
 
   pub record CountingTypes (last : Typed) (m : Measured) : Type 0 where
     pub small : small_type (typed_of s c last)
-    pub on : Counting (rendered_of s n c q) (behind last) m
+    pub on : Counting (rendered_of q) (behind last) m
 
   pub record PuttingTypes (t : List ℕ) (at : ℕ) (last : Typed) (u : List ℕ) (place : ℕ) : Type 0 where
     pub small : small_type (typed_of s c last)
-    pub on : Putting t at (rendered_of s n c q) (behind last) u place
+    pub on : Putting t at (rendered_of q) (behind last) u place
     pub same : length u ≡ length t
 
-  module _ (last x : Typed) (next : next_rendered (rendered_of s n c q) (typed_of s c x) ≡ behind last) where
+  module _ (last x : Typed) (next : next_rendered (rendered_of q) (typed_of s c x) ≡ behind last) where
     no_text : x ≡ None → behind last ≡ []
     no_text e = let h : [] ≡ behind last = rw e at next in sym h
 
@@ -94,41 +102,40 @@ module _ (s n c : List ℕ) (q : Question) where
       pub text_small : small_type (typed_of s c x) → Small (rich_of s c t)
       text_small h = rw e at h
 
-  module _ (asks : Asks s c q) where
-    pub types_none : CountingTypes None (record { count = 0; size = 0 })
-    types_none = record { small = omega arith; on = rw (all_behind (rendered_of s n c q)) (count_none (rendered_of s n c q) (record { count = 0; size = 0 }) refl) }
+  pub types_none : CountingTypes None (record { count = 0; size = 0 })
+  types_none = record { small = omega arith; on = rw (all_behind (rendered_of q)) (count_none (rendered_of q) (record { count = 0; size = 0 }) refl) }
 
-    module _ (last : Typed) (m : Measured) (inv : CountingTypes last m) (x : Typed) (next : next_rendered (rendered_of s n c q) (typed_of s c x) ≡ behind last) where
-      pub types_over : x ≡ None → Measures (rendered_of s n c q) m
-      types_over e = count_over (rendered_of s n c q) (rendered_few s n c q asks) (behind last) m inv.on (no_text last x next e)
+  module _ (last : Typed) (m : Measured) (inv : CountingTypes last m) (x : Typed) (next : next_rendered (rendered_of q) (typed_of s c x) ≡ behind last) where
+    pub types_over : x ≡ None → Measures (rendered_of q) m
+    types_over e = count_over (rendered_of q) (rendered_few q) (behind last) m inv.on (no_text last x next e)
 
-      module _ (t : Rich) (e : x ≡ Some t) (long : ℕ) (l : Long (render (rich_of s c t)) long) where
-        pub types_room : Room m long
-        types_room = count_room (rendered_of s n c q) (rendered_few s n c q asks) (behind last) m inv.on (render (rich_of s c t)) (behind (Some t)) (one_text last x next t e) long l
+    module _ (t : Rich) (e : x ≡ Some t) (long : ℕ) (l : Long (render (rich_of s c t)) long) where
+      pub types_room : Room m long
+      types_room = count_room (rendered_of q) (rendered_few q) (behind last) m inv.on (render (rich_of s c t)) (behind (Some t)) (one_text last x next t e) long l
 
-        pub types_more : small_type (typed_of s c x) → (r : Measured) → r ≡ record { count = m.count + 1; size = m.size + (2 + long) } → CountingTypes (Some t) r
-        types_more h r i = record {
-          small = rw e at h;
-          on = count_more (rendered_of s n c q) (rendered_few s n c q asks) (behind last) m inv.on (render (rich_of s c t)) (behind (Some t)) (one_text last x next t e) long l r i;
-        }
+      pub types_more : small_type (typed_of s c x) → (r : Measured) → r ≡ record { count = m.count + 1; size = m.size + (2 + long) } → CountingTypes (Some t) r
+      types_more h r i = record {
+        small = rw e at h;
+        on = count_more (rendered_of q) (rendered_few q) (behind last) m inv.on (render (rich_of s c t)) (behind (Some t)) (one_text last x next t e) long l r i;
+      }
 
   -- the same texts, written
-  module _ (t : List ℕ) (at : ℕ) (room : at + length (gather sized (rendered_of s n c q)) ≤ length t) where
+  module _ (t : List ℕ) (at : ℕ) (room : at + length (gather sized (rendered_of q)) ≤ length t) where
     pub texts_start : PuttingTypes t at None t at
-    texts_start = record { small = omega arith; on = rw (all_behind (rendered_of s n c q)) (put_none t at (rendered_of s n c q) (omega arith)); same = refl }
+    texts_start = record { small = omega arith; on = rw (all_behind (rendered_of q)) (put_none t at (rendered_of q) (omega arith)); same = refl }
 
-    module _ (last : Typed) (u : List ℕ) (place : ℕ) (inv : PuttingTypes t at last u place) (x : Typed) (next : next_rendered (rendered_of s n c q) (typed_of s c x) ≡ behind last) where
-      pub texts_over : x ≡ None → Stored t at (gather sized (rendered_of s n c q)) u place
-      texts_over e = put_over t at (rendered_of s n c q) (behind last) u place inv.on (no_text last x next e)
+    module _ (last : Typed) (u : List ℕ) (place : ℕ) (inv : PuttingTypes t at last u place) (x : Typed) (next : next_rendered (rendered_of q) (typed_of s c x) ≡ behind last) where
+      pub texts_over : x ≡ None → Stored t at (gather sized (rendered_of q)) u place
+      texts_over e = put_over t at (rendered_of q) (behind last) u place inv.on (no_text last x next e)
 
       module _ (k : Rich) (e : x ≡ Some k) where
         pub texts_room : place + length (sized (render (rich_of s c k))) ≤ length u
-        texts_room = put_room t at (rendered_of s n c q) (behind last) u place inv.on (render (rich_of s c k)) (behind (Some k)) (one_text last x next k e) room
+        texts_room = put_room t at (rendered_of q) (behind last) u place inv.on (render (rich_of s c k)) (behind (Some k)) (one_text last x next k e) room
 
         pub texts_put : small_type (typed_of s c x) → (v : List ℕ) (r : ℕ) → Stored u place (sized (render (rich_of s c k))) v r → PuttingTypes t at (Some k) v r
         texts_put h v r i = record {
           small = rw e at h;
-          on = put_more t at (rendered_of s n c q) (behind last) u place inv.on (render (rich_of s c k)) (behind (Some k)) (one_text last x next k e) v r i;
+          on = put_more t at (rendered_of q) (behind last) u place inv.on (render (rich_of s c k)) (behind (Some k)) (one_text last x next k e) v r i;
           same = stored_length i ∙ inv.same;
         }
 

@@ -1,61 +1,63 @@
 -- The records of a lookup, its target and its question. Assumes nothing.
-use mathlib.Core.Path.{◌≡◌, ◌∙◌}
+use mathlib.Core.Path.{◌≡◌, ap, ◌∙◌}
 use mathlib.Core.Bool.{true}
 use mathlib.Core.List.{List}
-use mathlib.Core.Option.{Option, none, some}
+use mathlib.Core.Option.{none, some}
 use Prim.Native.Nat.{ℕ}
 use borrow.Author.Rules.{rules}
 use lib.ListN.{length}
 use Rattle.names.specs.Fields.{whole, string_of, number_of}
-use Rattle.names.specs.Names.{plain}
+use Rattle.names.specs.Names.{path_name, plain}
 use Rattle.names.specs.Read.{ending, value_or, Listed, Read, Found}
 use Rattle.names.specs.Laws.Readers.{accept, passes, refused_by}
 use Rattle.names.specs.Laws.Rows.{row_stands, row_value}
 use Rattle.reports.specs.Answers.{outcome_of, Refuses}
 use Rattle.reports.specs.declared.Answer.{Answer}
-use Rattle.schema.specs.Schema.{schema_record}
+use Rattle.schema.specs.Schema.{Schema, Action, schema_record}
 use Rattle.schema.specs.Find.{find_action}
-use Rattle.schema.specs.Places.{schema_in, is_action, action_in, FindsAction}
+use Rattle.schema.specs.Places.{is_schema, schema_in, is_action, action_in, FindsAction}
 use Rattle.names.specs.declared.Row.{Row}
-use Rattle.targets.specs.Targets.{Narrowing, target_record}
-use Rattle.targets.specs.PathRecord as PathRecord
-use Rattle.targets.specs.PathRecord.{path_record, target_at}
-use Rattle.targets.specs.Places.{targets_in, is_target, target_in, query_in, side_of, FindsTarget}
+use Rattle.targets.specs.Targets.{Targets, target_record}
+use Rattle.targets.specs.PathRecord.{Query, path_record, target_at}
+use Rattle.targets.specs.Places.{narrowed, are_targets, targets_in, is_target, target_in, is_query, query_in, side_of, Asks, FindsTarget}
+use Rattle.targets.specs.declared.Narrowed.{Narrowed}
 use Rattle.targets.specs.declared.Side.{Side}
-use Rattle.resolution.specs.Resolution.{scope_path, unknown}
+use Rattle.resolution.specs.Resolution.{ScopePath, scope_path, unknown}
+use Rattle.resolution.specs.Places.{are_segments, segments_in, are_types, types_in}
+use Rattle.resolution.specs.declared.candidates.Candidates.{Candidates}
 use Rattle.reports.specs.Placed.{placed}
-use Rattle.lookup.specs.Lookup.{on_side_by, found_by, found, output, answered_by, answered, lookup_by, lookup}
-use Rattle.lookup.specs.Places.{Records, PathOf, SideOf, Asks, answer_to, QuestionOf}
-use Rattle.lookup.specs.declared.Question.{Question}
+use Rattle.lookup.specs.Lookup.{on_side_by, on_side, found_by, found, output, answered_by, answered, lookup_by, lookup}
+use Rattle.lookup.specs.Places.{answer_on}
 use Rattle.std.specs.Prelude.{Ok, Err, Some, None}
 use Rattle.names.specs.declared.refusal.Refusal.{Refusal}
 
 -- ---- the question
 
 module _ (c : List ℕ) (count at : ℕ) (is : count ≡ length (query_in c).path) (there : Listed (string_of plain) c (query_in c).path (length (query_in c).path) at) where
-  pub path_stands : PathOf c (record { count = count; at = at })
-  path_stands = record { stands = row_stands (string_of plain) c (query_in c).path count at there is; value = row_value (string_of plain) c (query_in c).path count at there is }
+  pub path_stands : are_segments c (record { count = count; at = at }) ≡ true
+  path_stands = row_stands (string_of plain) c (query_in c).path count at there is
 
-module _ (s n c : List ℕ) (action : ℕ) (read : Records s n c) (path : Row) (is : PathOf c path) (x : Side) (side : side_of x ≡ (query_in c).side) where
-  asked : (o : Option Narrowing) (names : List (List ℕ)) (q : Question) → SideOf s n o names path q → Asks s c q
-  asked o names q d = record { schema = read.schema; types = d.types.stands; path = rw d.path is.stands }
+  pub path_value : segments_in c (record { count = count; at = at }) ≡ (query_in c).path
+  path_value = row_value (string_of plain) c (query_in c).path count at there is
 
-  answer : (o : Option Narrowing) (names : List (List ℕ)) (q : Question) → SideOf s n o names path q → answer_to s n c q ≡ scope_path (schema_in s) o names (query_in c).path
-  answer o names q d = rw (d.narrowing, d.types.value, d.path, is.value)
-
-  pub principal_asked : x ≡ Side.Principal → (q : Question) → SideOf s n (targets_in n).scope.principal (action_in s action).principals path q → QuestionOf s n c action q
+-- the side that is asked
+module _ (s n : List ℕ) (action : ℕ) (x : Side) (o : Narrowed) (row : Row) where
+  pub principal_asked : x ≡ Side.Principal → (p : Narrowed × Row) → p ≡ (o, row) → narrowed n o ≡ (targets_in n).scope.principal → Listed (string_of path_name) s (action_in s action).principals row.count row.at → (q : Query) → scope_path (schema_in s) (narrowed n p.0) (types_in s p.1) q.path ≡ on_side (schema_in s) (targets_in n) q (action_in s action) (side_of x)
   unfolding on_side_by
-  principal_asked e q d =
-      let h : PathRecord.principal ≡ (query_in c).side = rw e at side in
-      record { asks = asked (targets_in n).scope.principal (action_in s action).principals q d; value = rw (← h) (answer (targets_in n).scope.principal (action_in s action).principals q d) }
+  principal_asked e p is_p is there q = rw (e, is_p, is, ← there.value)
 
-  pub resource_asked : x ≡ Side.Resource → (q : Question) → SideOf s n (targets_in n).scope.resource (action_in s action).resources path q → QuestionOf s n c action q
+  pub resource_asked : x ≡ Side.Resource → (p : Narrowed × Row) → p ≡ (o, row) → narrowed n o ≡ (targets_in n).scope.resource → Listed (string_of path_name) s (action_in s action).resources row.count row.at → (q : Query) → scope_path (schema_in s) (narrowed n p.0) (types_in s p.1) q.path ≡ on_side (schema_in s) (targets_in n) q (action_in s action) (side_of x)
   unfolding on_side_by
-  resource_asked e q d =
-      let h : PathRecord.resource ≡ (query_in c).side = rw e at side in
-      record { asks = asked (targets_in n).scope.resource (action_in s action).resources q d; value = rw (← h) (answer (targets_in n).scope.resource (action_in s action).resources q d) }
+  resource_asked e p is_p is there q = rw (e, is_p, is, ← there.value)
 
-pub ruleset asking = (rules, path_stands, principal_asked, resource_asked)
+pub side_stands : (s : List ℕ) (names : List (List ℕ)) (row : Row) → Listed (string_of path_name) s names row.count row.at → are_types s row ≡ true
+side_stands s names row there = there.stands
+
+-- the path that is asked about
+pub asked : (candidates : Candidates) (S : Schema) (T : Targets) (q : Query) (a : Action) (x : Side) → ((q : Query) → answer_on candidates q.path ≡ on_side S T q a (side_of x)) → Asks q.side x → (path : List (List ℕ)) → path ≡ q.path → answer_on candidates path ≡ on_side S T q a q.side
+asked candidates S T q a x on side path is = rw is (on q) ∙ ap (on_side S T q a) side.value
+
+pub ruleset asking = (rules, path_stands, path_value, principal_asked, resource_asked, side_stands, asked)
 
 -- ---- the target's action
 
@@ -70,11 +72,11 @@ module _ (s n c : List ℕ) (at : ℕ) (w : List ℕ) (is_w : w ≡ (target_in n
         let h : none ≡ find_action (schema_in s) (target_in n at).namespace (target_in n at).id = rw (← is_w, ← is_v) (rw e at finds.value) in
         rw (← h) i
 
-    pub target_found : (action : ℕ) → x ≡ Some action → (q : Question) → QuestionOf s n c action q → outcome_of a t ≡ placed (output (answer_to s n c q)) b → outcome_of a t ≡ placed (output (found (schema_in s) (targets_in n) (query_in c) (target_in n at))) b
+    pub target_found : (action : ℕ) → x ≡ Some action → (o : ScopePath) → o ≡ on_side (schema_in s) (targets_in n) (query_in c) (action_in s action) (query_in c).side → outcome_of a t ≡ placed (output o) b → outcome_of a t ≡ placed (output (found (schema_in s) (targets_in n) (query_in c) (target_in n at))) b
     unfolding found_by
-    target_found action e q d i =
+    target_found action e o d i =
         let h : some (action_in s action) ≡ find_action (schema_in s) (target_in n at).namespace (target_in n at).id = rw (← is_w, ← is_v) (rw e at finds.value) in
-        rw (← h, ← d.value) i
+        rw (← h, ← d) i
 
 pub ruleset targeting = (rules, action_stands, target_unknown, target_found)
 
@@ -121,20 +123,22 @@ module _ (s n c b : List ℕ) (x : Read) (is_x : x ≡ ending (whole schema_reco
           let h = accept (whole target_record n) (passes (whole target_record n) is_y e') in
           rw (g.read, h.read, refused_by (whole path_record c) z r is_z d) (i.is b)
 
-      module _ (p'' : ℕ) (e'' : z ≡ Ok p'') where
-        pub all_read : Records s n c
-        all_read = record {
-          schema = passes (whole schema_record s) is_x e;
-          targets = passes (whole target_record n) is_y e';
-          query = passes (whole path_record c) is_z e'';
-        }
+-- what is read in full is a record
+pub schema_read : (s : List ℕ) (x : Read) → x ≡ ending (whole schema_record s) → (p : ℕ) → x ≡ Ok p → is_schema s ≡ true
+schema_read s x is p e = passes (whole schema_record s) is e
 
-pub all_answered : (s n c b : List ℕ) → Records s n c → (a : Answer) (t : List ℕ) → outcome_of a t ≡ answered (schema_in s) (targets_in n) (query_in c) b → outcome_of a t ≡ lookup s n c b
+pub targets_read : (n : List ℕ) (x : Read) → x ≡ ending (whole target_record n) → (p : ℕ) → x ≡ Ok p → are_targets n ≡ true
+targets_read n x is p e = passes (whole target_record n) is e
+
+pub query_read : (c : List ℕ) (x : Read) → x ≡ ending (whole path_record c) → (p : ℕ) → x ≡ Ok p → is_query c ≡ true
+query_read c x is p e = passes (whole path_record c) is e
+
+pub all_answered : (s n c b : List ℕ) → is_schema s ≡ true → are_targets n ≡ true → is_query c ≡ true → (a : Answer) (t : List ℕ) → outcome_of a t ≡ answered (schema_in s) (targets_in n) (query_in c) b → outcome_of a t ≡ lookup s n c b
 unfolding lookup_by value_or
-all_answered s n c b r a t i =
-    let x = accept (whole schema_record s) r.schema in
-    let y = accept (whole target_record n) r.targets in
-    let z = accept (whole path_record c) r.query in
+all_answered s n c b is are is' a t i =
+    let x = accept (whole schema_record s) is in
+    let y = accept (whole target_record n) are in
+    let z = accept (whole path_record c) is' in
     i ∙ rw (x.read, y.read, z.read)
 
-pub ruleset reading = (rules, schema_refused, targets_refused, path_refused, all_read, all_answered)
+pub ruleset reading = (rules, schema_refused, targets_refused, path_refused, schema_read, targets_read, query_read, all_answered)

@@ -1,2 +1,3 @@
 pub mod Lookup
+pub mod Small
 pub mod Places

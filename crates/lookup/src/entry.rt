@@ -3,105 +3,114 @@ ghost use Rattle.std.specs.Prelude.{◌≡◌, true};
 ghost use Rattle.reports.specs.Answers.{outcome_of};
 ghost use Rattle.reports.specs.Placed.{placed};
 ghost use Rattle.schema.specs.Places.{is_action, action_in, schema_in};
-ghost use Rattle.targets.specs.Places.{are_targets, targets_in, is_target, target_in, is_query, query_in};
-ghost use Rattle.lookup.specs.Lookup.{output, found, answered, lookup};
-ghost use Rattle.lookup.specs.Places.{Records, PathOf, SideOf, QuestionOf};
+ghost use Rattle.targets.specs.PathRecord.{Query};
+ghost use Rattle.targets.specs.Places.{targets_in, is_target, target_in, query_in, side_of};
+ghost use Rattle.resolution.specs.Paths.{path_of};
+ghost use Rattle.lookup.specs.Lookup.{on_side, output, found, answered, lookup};
+ghost use Rattle.lookup.specs.Places.{answer_on, answer_to};
 
-use crate::Question;
 use crate::place::{place_path, place_unknown};
+use crate::question::{Question, Records};
 use names::{Refusal, Row};
 use reports::{Answer, refuse};
-use schema::Namespace;
-use targets::Side;
+use resolution::{Candidates, Path, Scope};
+use schema::{Namespace, SchemaRecord};
+use targets::{PathRecord, Side, TargetsRecord};
 
 // The segments of the path record.
-fn path_row(c: &[u8]) -> Row
-    requires { is_query c.now ≡ true }
-    ensures { PathOf c.now result }
+fn path_in<'a>(query: PathRecord<'a>) -> Path<'a>
+    ensures { path_of result ≡ (query_in query.entry.bytes.now).path }
 {
-    let count = targets::path_len(c);
-    let at = targets::path_at(c);
-    Row { count, at }
-}
-
-// The path under the principal of the action at `action`.
-fn of_principal(s: &[u8], n: &[u8], action: usize, path: Row) -> Question
-    requires action_value { is_action s.now action ≡ true }
-    requires n_value { are_targets n.now ≡ true }
-    ensures { SideOf s.now n.now (targets_in n.now).scope.principal (action_in s.now action).principals path result }
-{
-    let types = schema::principals(s, action);
-    let narrowing = targets::principal(n);
-    Question {
-        narrowing,
-        types,
-        path,
+    Path {
+        bytes: query.bytes,
+        segments: Row {
+            count: targets::path_len(query),
+            at: targets::path_at(query),
+        },
     }
 }
 
-// The same of its resource.
-fn of_resource(s: &[u8], n: &[u8], action: usize, path: Row) -> Question
-    requires action_value { is_action s.now action ≡ true }
-    requires n_value { are_targets n.now ≡ true }
-    ensures { SideOf s.now n.now (targets_in n.now).scope.resource (action_in s.now action).resources path result }
+// The entity types that the action at `action` names on a side, under what the scope says of it.
+fn candidates<'a>(records: Records<'a>, action: usize, side: Side) -> Candidates<'a>
+    requires { is_action records.schema.bytes.now action ≡ true }
+    ensures by_index { (q : Query) → answer_on result q.path
+        ≡ on_side (schema_in records.entry.schema.bytes.now)
+        (targets_in records.entry.targets.bytes.now)
+        q (action_in records.entry.schema.bytes.now action) (side_of side) }
 {
-    let types = schema::resources(s, action);
-    let narrowing = targets::resource(n);
-    Question {
-        narrowing,
+    let schema = records.schema;
+    let targets = records.targets.bytes;
+    let (narrowing, types) = match side {
+        Side::Principal => (
+            targets::principal(records.targets),
+            schema::principals(schema.bytes, action),
+        ),
+        Side::Resource => (
+            targets::resource(records.targets),
+            schema::resources(schema.bytes, action),
+        ),
+    };
+    Candidates {
+        scope: Scope {
+            schema,
+            targets,
+            narrowing,
+        },
         types,
-        path,
     }
 }
 
 // The question that the path record asks of the action at `action`.
-fn question(s: &[u8], n: &[u8], c: &[u8], action: usize) -> Question
-    requires records { Records s.now n.now c.now }
-    requires action_value { is_action s.now action ≡ true }
-    ensures { QuestionOf s.now n.now c.now action result }
+fn question<'a>(records: Records<'a>, action: usize) -> Question<'a>
+    requires { is_action records.schema.bytes.now action ≡ true }
+    ensures { answer_to result
+        ≡ on_side (schema_in records.entry.schema.bytes.now)
+        (targets_in records.entry.targets.bytes.now)
+        (query_in records.entry.query.bytes.now) (action_in records.entry.schema.bytes.now action)
+        (query_in records.entry.query.bytes.now).side }
 {
-    let path = path_row(c);
-    let side = targets::path_side(c);
-    match side {
-        Side::Principal => of_principal(s, n, action, path),
-        Side::Resource => of_resource(s, n, action, path),
+    Question {
+        candidates: candidates(records, action, targets::path_side(records.query)),
+        path: path_in(records.query),
     }
 }
 
 // The lookup for the target at `at`.
-fn for_target<'a>(s: &'a [u8], n: &[u8], c: &'a [u8], at: usize, out: &mut [u8]) -> Answer
-    requires records { Records s.now n.now c.now }
-    requires at_value { is_target n.now at ≡ true }
-    ensures { outcome_of result out.new ≡ placed (output (found (schema_in s.now) (targets_in n.now) (query_in c.now) (target_in n.now at))) out.old }
+fn for_target(records: Records<'_>, at: usize, out: &mut [u8]) -> Answer
+    requires { is_target records.targets.bytes.now at ≡ true }
+    ensures { outcome_of result out.new
+        ≡ placed (output
+        (found (schema_in records.entry.schema.bytes.now)
+        (targets_in records.entry.targets.bytes.now)
+        (query_in records.entry.query.bytes.now) (target_in records.entry.targets.bytes.now at)))
+        out.old }
 {
-    let own = schema::action(
-        s,
-        targets::namespace_of(n, at),
-        Namespace::Whole,
-        targets::id_of(n, at),
-    );
+    let n = records.targets.bytes;
+    let namespace = Namespace::Whole(targets::namespace_of(n, at));
+    let own = schema::action(records.schema, namespace, targets::id_of(n, at));
     let Some(action) = own else {
         return place_unknown(out);
     };
-    let q = question(s, n, c, action);
-    place_path(s, n, c, q, out)
+    place_path(question(records, action), out)
 }
 
 // The lookup of three records that were read.
-fn for_records<'a>(s: &'a [u8], n: &[u8], c: &'a [u8], out: &mut [u8]) -> Answer
-    requires { Records s.now n.now c.now }
-    ensures { outcome_of result out.new ≡ answered (schema_in s.now) (targets_in n.now) (query_in c.now) out.old }
+fn for_records(records: Records<'_>, out: &mut [u8]) -> Answer
+    ensures { outcome_of result out.new
+        ≡ answered (schema_in records.entry.schema.bytes.now)
+        (targets_in records.entry.targets.bytes.now)
+        (query_in records.entry.query.bytes.now) out.old }
 {
-    let position = targets::path_position(c);
-    let own = targets::target_at(n, position);
+    let position = targets::path_position(records.query);
+    let own = targets::target_at(records.targets, position);
     let Some(at) = own else {
         return refuse(Refusal::NoSuchTarget, 3);
     };
-    for_target(s, n, c, at, out)
+    for_target(records, at, out)
 }
 
 // The lookup of a schema, a target record and a path record, into a lent buffer.
-pub fn lookup<'a>(s: &'a [u8], n: &[u8], c: &'a [u8], out: &mut [u8]) -> Answer
+pub fn lookup<'a>(s: &'a [u8], n: &'a [u8], c: &'a [u8], out: &mut [u8]) -> Answer
     ensures { outcome_of result out.new ≡ lookup s.now n.now c.now out.old }
 {
     if let Err(refusal) = schema::read_schema(s) {
@@ -113,5 +122,10 @@ pub fn lookup<'a>(s: &'a [u8], n: &[u8], c: &'a [u8], out: &mut [u8]) -> Answer
     if let Err(refusal) = targets::read_path(c) {
         return refuse(refusal, 4);
     }
-    for_records(s, n, c, out)
+    let records = Records {
+        schema: SchemaRecord { bytes: s },
+        targets: TargetsRecord { bytes: n },
+        query: PathRecord { bytes: c },
+    };
+    for_records(records, out)
 }

@@ -1,23 +1,20 @@
 // The lookup of a scope path for one target of a list.
+//
+// A buffer and the place in it stay two parameters, of which each function asks for room: a struct
+// that keeps the `&mut` needs in each function a clause that its reference is the one that it had.
+//
+// Measuring and writing are two walks and no one with a closure: what is written asks for the room
+// that was measured, and the buffer is lent to the second alone.
 #![tactic(auto)]
 
 mod ambiguous;
 mod entry;
 mod missing;
 mod place;
+mod question;
 mod strings;
 
 pub use entry::lookup;
-use names::Row;
-use targets::Narrowed;
-
-// A path under a scope: the narrowing, the entity types that the action names there, in the schema, and the segments, in the path record.
-#[derive(Clone, Copy)]
-pub struct Question {
-    pub narrowing: Narrowed,
-    pub types: Row,
-    pub path: Row,
-}
 
 // How many strings an output has, and how many bytes they take with their lengths.
 #[derive(Clone, Copy)]

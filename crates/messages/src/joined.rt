@@ -45,7 +45,8 @@ pub fn put_joined(out: &mut [u8], at: usize, s: &[u8], segments: usize) -> usize
     put_segments(out, next, s, count - 1, names::past_word(s, first))
 }
 
-// The bytes between two places with so many strings, each behind its length byte, once `::` stands between the strings in place of these bytes.
+// The bytes between two places with so many strings, each behind its length byte, once `::` stands
+// between the strings in place of these bytes.
 fn size_between(first: usize, end: usize, count: usize) -> usize
     requires { (first + count ≤ end) × (0 < count) × (end ≤ 32768) }
     ensures { result + 2 + first ≡ end + count }
@@ -53,8 +54,8 @@ fn size_between(first: usize, end: usize, count: usize) -> usize
     (end - first - 1) + (count - 1)
 }
 
-// How many bytes the joined segments have: they stand one behind the other, each behind its length byte, so the two places tell and
-// no length is added up.
+// How many bytes the joined segments have: they stand one behind the other, each behind its length
+// byte, so the two places tell and no length is added up.
 pub fn joined_size(s: &[u8], segments: usize) -> usize
     requires segments_here { SegmentsHere s.now segments }
     requires s_len_bound { length s.now ≤ 32768 }
@@ -63,6 +64,7 @@ pub fn joined_size(s: &[u8], segments: usize) -> usize
     let first = segments + 1;
     let count = names::wide(s[segments]);
     let read = names::read_strings(s, segments, Class::Identifier);
+    // An annotation of an accepted record is read once more, so that the `else` is never met.
     let Ok(end) = read else {
         return 0;
     };

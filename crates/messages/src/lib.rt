@@ -1,4 +1,5 @@
-// The messages of the reports: one of the table's, with the words that it quotes, by where they stand; measured, and written.
+// The messages of the reports: one of the table's, with the words that it quotes, by where they
+// stand; measured, and written.
 //
 // | module | what it has |
 // |---|---|
@@ -15,8 +16,8 @@ use reports::Message;
 use types::Rich;
 pub use whole::{message_size, put_message, say};
 
-// A word that a message quotes: nothing; the string that stands at a place of the condition; a type, displayed; the segments of the annotation that stands at a place
-// of the condition, joined.
+// A word that a message quotes: nothing; the string that stands at a place of the condition; a
+// type, displayed; the segments of the annotation that stands at a place of the condition, joined.
 #[derive(Clone, Copy)]
 pub enum Word {
     Nothing,
@@ -25,7 +26,8 @@ pub enum Word {
     Joined(usize),
 }
 
-// A message: which one, and its words, of which it quotes as many as there are gaps between its texts.
+// A message: which one, and its words, of which it quotes as many as there are gaps between its
+// texts.
 #[derive(Clone, Copy)]
 pub struct Sentence {
     pub which: Message,

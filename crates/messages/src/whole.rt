@@ -1,4 +1,12 @@
 // A message, measured and written: its texts and its words by turns.
+//
+// The two records and the sentence are three parameters. A struct of them, with `Stands` as its
+// ghost field, would be made by each of the two callers for one call, or for a measure and a call,
+// so that the fact would be shown at the same places; and the words would take it apart again,
+// since a type's text is asked of the two records (`types::display`).
+//
+// There is no `Display`: the text goes to a place of lent bytes, and the contract says which bytes
+// stand there.
 ghost use Rattle.std.specs.Prelude.{◌≡◌, ◌+◌, ◌≤◌, length};
 ghost use Rattle.names.specs.Writer.{Stored};
 ghost use Rattle.messages.specs.Words.{text_of, Stands, say};

@@ -25,8 +25,8 @@ pub fn word_at(s: &[u8], at: usize) -> u64
 }
 
 // Equal lengths first: most names that are not the same differ in it. Then eight bytes at a time,
-// and the rest singly. Not `a == b` throughout: it takes half as long again for names of 8 bytes,
-// and a third more for those of 13 to 20.
+// and the rest singly. It is not `a == b` throughout, which takes half as long again for names of 8
+// bytes, and a third more for those of 13 to 20.
 pub fn same(a: &[u8], b: &[u8]) -> bool
     ensures { result ≡ same a.now b.now }
 {
@@ -42,7 +42,9 @@ pub fn same(a: &[u8], b: &[u8]) -> bool
     a[8 * words..] == b[8 * words..]
 }
 
-// Bytewise, a prefix first, byte by byte: what is left behind the last whole word.
+// Bytewise, a prefix first, byte by byte: what is left behind the last whole word. The shorter of
+// the two has fewer than eight bytes here. What speaks against `a.cmp(&b)` is said at `compare`,
+// whose end this is.
 fn compare_bytes(a: &[u8], b: &[u8]) -> Ordering
     ensures { order_number result ≡ order a.now b.now }
 {
@@ -55,7 +57,7 @@ fn compare_bytes(a: &[u8], b: &[u8]) -> Ordering
 }
 
 // Bytewise, a prefix first: eight bytes at a time while both have as many, then the rest singly.
-// Not `a.cmp(&b)`: it takes about twice as long for names of 8 bytes and of 40.
+// It is not `a.cmp(&b)`, which takes about twice as long for names of 8 bytes and of 40.
 pub fn compare(a: &[u8], b: &[u8]) -> Ordering
     ensures { order_number result ≡ order a.now b.now }
 {

@@ -28,6 +28,8 @@ fn is_identifier(s: &[u8]) -> bool
     is_letter(*first) && rest.iter().all(|b| is_letter_or_digit(*b))
 }
 
+// The arms are ranges of bytes, and no numbers of kinds. `is_ascii_graphic` in their place would
+// leave out the space and let in the three bytes of the first arm, so both would stand beside it.
 #[tactic(auto, unfolding(crate::specs::Names::plain_byte))]
 fn is_plain_byte(b: u8) -> bool
     ensures { result ≡ plain_byte b }
@@ -76,7 +78,9 @@ fn is_path_or_none(s: &[u8]) -> bool
     s.is_empty() || is_path_name(s)
 }
 
-// Whether a string is of a class.
+// Whether a string is of a class. The class is a value, and no closure: the readers of strings hand
+// it on, and their contracts name it by `class_of class`; of a closure each of them would have to
+// ask what it answers.
 pub fn in_class(class: Class, s: &[u8]) -> bool
     ensures { result ≡ class_of class s.now }
 {

@@ -1,4 +1,7 @@
-// The fields that the records share: numbers, strings of a class, paths, the heading; and the strings that stand at positions.
+// The fields that the records share: numbers, strings of a class, paths, the heading; and the
+// strings that stand at positions.
+//
+// Bytes and place stay two parameters, since a record is lent once and a place is a number in it.
 ghost use Rattle.std.specs.Prelude.{◌≡◌, ◌+◌, ◌*◌, ◌<◌, ◌≤◌, length, get_or, take, drop};
 ghost use Rattle.names.specs.Class.{class_of};
 ghost use Rattle.names.specs.Fields.{bytes, u8, u16, u32, number, string_of, each, counted, heading, finished, whole};
@@ -9,6 +12,8 @@ use crate::bytewise::same;
 use crate::classes::in_class;
 use crate::{Class, Read, Refusal};
 
+// `usize::from` with a promise more, that the number is below 256. Without it the proof of
+// `messages::joined_size` would have to show this by hand of the byte at a place of its slice.
 pub fn wide(b: u8) -> usize
     ensures value { result ≡ b }
     ensures upper_bound { result < 256 }
@@ -126,14 +131,12 @@ fn read_bytes(s: &[u8], at: usize, n: usize) -> Read
     Ok(at + n)
 }
 
-// An 8-bit number.
+// An 8-bit number. This one and those of 16 and 32 bits are names for so many bytes: each promises
+// the definition that the records cite.
 pub fn read_u8(s: &[u8], at: usize) -> Read
     ensures { result ≡ ending (u8 s.now at) }
 {
-    if s.len() <= at {
-        return Err(Refusal::Cut);
-    }
-    Ok(at + 1)
+    read_bytes(s, at, 1)
 }
 
 // The 32-bit number at `at`.
@@ -198,7 +201,8 @@ pub fn read_end(s: &[u8], at: usize) -> Read
     Err(Refusal::BytesAfter)
 }
 
-// The number of the refusal, 0 for none.
+// The number of the refusal, 0 for none. It is a number, and no Option, since the C interface
+// answers so.
 pub fn refusal_number(read: Read) -> u8
     ensures { result ≡ read_number read }
 {

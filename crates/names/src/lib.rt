@@ -31,7 +31,8 @@ pub enum Class {
     PathOrNone,
 }
 
-// Where a byte of a path name stands: at the start of an identifier, inside one, between two colons; in no path name.
+// Where a byte of a path name stands: at the start of an identifier, inside one, between two
+// colons; in no path name.
 #[derive(Clone, Copy, PartialEq, Eq)]
 pub enum Place {
     Start,

@@ -4,7 +4,7 @@ ghost use Rattle.names.specs.Names.{simple_name};
 ghost use Rattle.names.specs.Laws.Colons.{Passed};
 
 // Whether none of the eight bytes from a place on is a colon. All eight are looked at, which
-// compiles to one comparison. Not `all` or `contains`, which leave at the first colon.
+// compiles to one comparison. It is no `all` or `contains`, since these leave at the first colon.
 fn has_no_colon(s: &[u8], at: usize) -> bool
     requires { at + 8 ≤ length s.now }
     ensures { Passed s.now at 8 result }
@@ -28,9 +28,9 @@ fn are_passed(s: &[u8], at: usize) -> bool
 }
 
 // Where the part after the last `::` starts. Eight bytes without a colon are passed at once, since
-// most names have few. An index and not an iterator, since a step is of eight bytes or of one. With
-// `s[i..].starts_with(b"::")` in place of the two tests, names of 5 bytes take half as long again,
-// and those of 13 a third more.
+// most names have few. An index is counted and no iterator goes over the bytes, since a step is of
+// eight bytes or of one. With `s[i..].starts_with(b"::")` in place of the two tests, names of 5
+// bytes take half as long again, and those of 13 a third more.
 pub fn simple_start(s: &[u8]) -> usize
     ensures { (result ≤ length s.now) × (drop result s.now ≡ simple_name s.now) }
 {

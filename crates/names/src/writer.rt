@@ -1,4 +1,10 @@
 // Writers: each stores bytes in a lent buffer from a place on, and returns the next place.
+//
+// Buffer and place stay two parameters: a struct of both would hold the `&mut`, and each function
+// that takes it would have to promise that it is the same buffer still.
+//
+// The numbers have three writers, since one with a const parameter would need a trait over the
+// integers for `to_be_bytes`.
 ghost use Rattle.std.specs.Prelude.{◌+◌, ◌<◌, ◌≤◌, length};
 ghost use Rattle.names.specs.Fields.{digits};
 ghost use Rattle.names.specs.Writer.{Stored};
@@ -12,7 +18,8 @@ pub fn put(buf: &mut [u8], at: usize, bytes: &[u8]) -> usize
     end
 }
 
-// The two bytes of a number, the higher first.
+// The two bytes of a number, the higher first. The number is a usize with its bound and no u16,
+// since each caller counts in usize.
 #[tactic(auto, using(crate::specs::Laws::Fields::two_bytes))]
 pub fn put_u16(buf: &mut [u8], at: usize, n: usize) -> usize
     requires { (n < 65536) × (at + 2 ≤ length buf.old) }

@@ -9,33 +9,32 @@ use borrow.Author.Rules.{rules}
 use borrow.Author.Tests.{le-leb, lt-leb}
 use lib.ListN.{length, get_or}
 use Rattle.names.specs.Fields.{Got, got, Reader, many, each, counted, string_of, levels}
-use Rattle.names.specs.Names.{plain, path_name}
+use Rattle.names.specs.Names.{plain, path_name, identifier, last_of}
 use Rattle.names.specs.Paths.{path_of}
-use Rattle.names.specs.Read.{ending, accepted, row, is_row, Read}
+use Rattle.names.specs.Read.{ending, accepted, row, is_row, word_at, Read}
 use Rattle.names.specs.Laws.Readers.{Keeps, u8_got, string_got, string_view, StringView, accept, Accepted, is_accepted, passes}
 use Rattle.names.specs.Laws.Rows.{Opens, opens, row_cons, counted_view, counted_start, each_done, each_turn}
 use Rattle.condition.specs.Places.{version_in, term_here, is_term, term_in, is_path}
 use Rattle.nodes.specs.Offsets.{term_part}
 use Rattle.nodes.specs.Laws.Inside.{term_place, same_end}
 use Rattle.nodes.specs.Looked.{Skipped, TermKindHere}
-use Rattle.nodes.specs.Parts.{strings_at}
+use Rattle.nodes.specs.Parts.{any_string, strings_at, segments_in, SegmentsHere}
 use Rattle.condition.specs.Condition.{entity, entity_fields}
 use Rattle.condition.specs.Laws.ByKind.{var_read, path_read}
 use Rattle.nodes.specs.Laws.Views.{PartView, entity_view}
 use Rattle.nodes.specs.Laws.Given.{not_given, Said, is_given, EntityView, entity_parts}
 use Rattle.nodes.specs.Laws.Opens.{Stands, term_stands, raw_term, skipped_term}
-use Rattle.nodes.specs.Laws.Pieces.{skipped_names, skipped_path, context_path, scope_path}
+use Rattle.nodes.specs.Laws.Pieces.{SegmentsLeft, segments_index, segments_start, segments_some, segments_turn, segments-end, skipped_names, skipped_path, context_path, scope_path}
 use Rattle.std.specs.Prelude.{Ok}
+
+ok_value : {n m : ℕ} → ◌≡◌ {A = Read} (Ok n) (Ok m) → n ≡ m
+ok_value e = cc
 
 ended : {A : Type 0} {g : Got A} {a : A} {n : ℕ} → g ≡ got a n → ending g ≡ Ok n
 unfolding ending
 ended e = rw e
 
--- any string
-abbrev any : Reader (List ℕ)
-any = string_of (λ w. true)
-
-any_class : (class : List ℕ → Bool) (s : List ℕ) (at : ℕ) → Keeps (string_of class s at) (any s at)
+any_class : (class : List ℕ → Bool) (s : List ℕ) (at : ℕ) → Keeps (string_of class s at) (any_string s at)
 any_class class s at w n e =
     let v = string_view class s at e in
     let k : at + 1 + get_or s at 0 ≤ length s = rw (← v.place) v.inside in
@@ -53,33 +52,24 @@ strings_of : (class : List ℕ → Bool) (s : List ℕ) (at : ℕ) → Keeps (co
 unfolding strings_at counted
 strings_of class s at l m e =
     let v = counted_view (string_of class) s at e in
-    rw (u8_got s at v.inside) (row_keeps (string_of class) any s (any_class class s) (get_or s at 0) (at + 1) l m v.read)
+    rw (u8_got s at v.inside) (row_keeps (string_of class) any_string s (any_class class s) (get_or s at 0) (at + 1) l m v.read)
 
 -- ---- the strings, one after another
 
 pub record StringsPast (s : List ℕ) (whole : Read) (n at : ℕ) : Type 0 where
-  pub stands : is_row any s n at ≡ true
-  pub same : whole ≡ ending (row any n s at)
+  pub stands : is_row any_string s n at ≡ true
+  pub same : whole ≡ ending (row any_string n s at)
 
-module _ (s : List ℕ) (start : ℕ) (is : accepted (strings_at s start) ≡ true) where
-  pub strings_index : start < length s
-  unfolding strings_at
-  strings_index = (counted_view any s start (accept _ is).read).inside
-
-  pub strings_begin : (n : ℕ) → n ≡ get_or s start 0 → StringsPast s (ending (strings_at s start)) (n - 0) (start + 1)
-  unfolding strings_at
-  strings_begin n e =
-      let v = counted_view any s start (accept _ is).read in
-      let all : n - 0 ≡ n = omega arith in
-      record { stands = rw (all, e) (is_accepted v.read); same = rw all (counted_start any s start n v.inside e) }
+pub strings_begin : (s : List ℕ) (n at : ℕ) → is_row any_string s n at ≡ true → StringsPast s (ending (row any_string n s at)) (n - 0) at
+strings_begin s n at is = let all : n - 0 ≡ n = omega arith in rw all (record { stands = is; same = refl })
 
 module _ (s : List ℕ) (whole : Read) (end i at : ℕ) (p : StringsPast s whole (end - i) at) where
   pub strings_done : end ≤ i → Ok at ≡ whole
-  strings_done h = each_done any s whole end i at p.same h
+  strings_done h = each_done any_string s whole end i at p.same h
 
   module _ (h : i < end) where
-    head : Opens any s (end - i) at (accept _ p.stands).value (accept _ p.stands).place
-    head = opens any s (end - i) at (omega arith) (accept _ p.stands).read
+    head : Opens any_string s (end - i) at (accept _ p.stands).value (accept _ p.stands).place
+    head = opens any_string s (end - i) at (omega arith) (accept _ p.stands).read
 
     word : StringView (λ w. true) s at head.own head.p
     word = string_view (λ w. true) s at head.here
@@ -91,10 +81,26 @@ module _ (s : List ℕ) (whole : Read) (end i at : ℕ) (p : StringsPast s whole
     strings_turn m e =
         let left : end - (i + 1) ≡ (end - i) - 1 = omega arith in
         let q : m ≡ head.p = e ∙ sym word.place in
-        let read : Ok m ≡ ending (any s at) = ap Ok q ∙ sym (ended head.here) in
-        record { stands = rw (left, q) (is_accepted head.rest); same = each_turn any s whole end i at p.same h (Ok m) read m refl }
+        let read : Ok m ≡ ending (any_string s at) = ap Ok q ∙ sym (ended head.here) in
+        record { stands = rw (left, q) (is_accepted head.rest); same = each_turn any_string s whole end i at p.same h (Ok m) read m refl }
 
-pub ruleset along_strings = (rules, strings_index, strings_begin, strings_done, string_inside, strings_turn)
+pub ruleset along_strings = (rules, strings_begin, strings_done, string_inside, strings_turn)
+
+-- such strings behind their count
+module _ (s : List ℕ) (start : ℕ) (is : accepted (strings_at s start) ≡ true) where
+  pub strings_index : start < length s
+  unfolding strings_at
+  strings_index = (counted_view any_string s start (accept _ is).read).inside
+
+  pub strings_row : (n : ℕ) → n ≡ get_or s start 0 → is_row any_string s n (start + 1) ≡ true
+  unfolding strings_at
+  strings_row n e = rw e (is_accepted (counted_view any_string s start (accept _ is).read).read)
+
+  pub strings_end : (n : ℕ) → n ≡ get_or s start 0 → (m : ℕ) → Ok m ≡ ending (row any_string n s (start + 1)) → Ok m ≡ ending (strings_at s start)
+  unfolding strings_at
+  strings_end n e m i = i ∙ sym (counted_start any_string s start n strings_index e)
+
+pub ruleset counted_strings = (rules, strings_index, strings_row, strings_end)
 
 -- ---- path names, a path
 
@@ -219,3 +225,45 @@ module _ (s : List ℕ) (at : ℕ) (acc : is_term s at ≡ true) (k : ℕ) (o : 
     scope_past = path_over (omega (arith, seven)) (omega (arith, seven))
 
 pub ruleset past_terms = (rules, entity_stands, entity_past, var_inside, var_past, context_path, context_past, scope_path, scope_past, skipped_term)
+
+-- ---- the last segment of an annotation
+
+row_init : {A : Type 0} (f : Reader A) (s : List ℕ) (n at : ℕ) {l : List A} {e : ℕ} → row f (suc n) s at ≡ got l e → is_row f s n at ≡ true
+unfolding many accepted
+row_init f s zero at h = refl
+row_init f s (suc n) at h =
+    let o = opens f s (suc (suc n)) at (omega arith) h in
+    let r = accept _ (row_init f s n o.p (rw sub-one at o.rest)) in
+    is_accepted (row_cons f s n at o.here r.read)
+
+-- behind so many of the segments that are left, as many fewer are left
+left_behind : (s : List ℕ) (start k n at : ℕ) → SegmentsLeft s start n at → k < n → (m : ℕ) → Ok m ≡ ending (row any_string k s at) → SegmentsLeft s start (n - k) m
+unfolding many ending
+left_behind s start zero n at left h m e =
+    let i : m ≡ at = ok_value e in
+    let j : n - 0 ≡ n = omega arith in
+    rw (j, i) left
+left_behind s start (suc k) n at left h m e =
+    let r = accept (row any_string (suc k) s at) (passes _ refl (sym e)) in
+    let o = opens any_string s (suc k) at (omega arith) r.read in
+    let place : o.p ≡ at + 1 + get_or s at 0 = (string_view (λ w. true) s at o.here).place in
+    let fewer = segments_turn s start n at left (omega arith) o.p place in
+    let ends : Ok m ≡ ending (row any_string k s o.p) = e ∙ ended r.read ∙ sym (ended (rw sub-one at o.rest)) in
+    let j : n - suc k ≡ n - 1 - k = omega arith in
+    rw j (left_behind s start k (n - 1) o.p fewer (omega arith) m ends)
+
+module _ (s : List ℕ) (start : ℕ) (here : SegmentsHere s start) (n : ℕ) (e : n ≡ get_or s start 0) where
+  pub segments_init : is_row any_string s (n - 1) (start + 1) ≡ true
+  unfolding strings_at
+  segments_init =
+      let a = accept _ here.stands in
+      let v = counted_view any_string s start (strings_of identifier s start a.value a.place a.read) in
+      let j : get_or s start 0 ≡ suc (n - 1) = omega (arith, here.some) in
+      row_init any_string s (n - 1) (start + 1) (rw j at v.read)
+
+  pub last_here : (m : ℕ) → Ok m ≡ ending (row any_string (n - 1) s (start + 1)) → word_at s m ≡ last_of (segments_in s start)
+  last_here m i =
+      let left = left_behind s start (n - 1) n (start + 1) (segments_start s start here n e) (omega (arith, here.some)) m i in
+      segments-end s start (n - (n - 1)) m left (omega (arith, here.some)) (omega arith)
+
+pub ruleset last_of_strings = (rules, segments_index, segments_some, segments_init, last_here)

@@ -1,12 +1,15 @@
 -- The aggregates and the leaves of terms in a row, one after another, and the aggregates of a comparison's operands. Assumes nothing.
 use mathlib.Core.Path.{◌≡◌, refl, sym, ap, ap₂, ◌∙◌}
-use mathlib.Core.Bool.{true}
+use mathlib.Core.Bool.{Bool, true, false}
 use mathlib.Core.List.{List, [], ◌∷◌, ◌++◌, append_assoc, append-nil}
 use mathlib.Core.Option.{Option}
 use Prim.Native.Nat.{ℕ, zero, suc, ◌+◌, ◌-◌, ◌≤◌, ◌<◌}
 use native.Mathlib.Numerals.{add-one, sub-one}
 use native.Mathlib.Omega.{arith}
 use borrow.Author.Rules.{rules}
+use borrow.Author.Tests.{eqb-true, eqb-false}
+use denote.Enum.Bare.{sameb}
+use denote.Enum.Declared.{tag_of}
 use lib.ListN.{length}
 use Rattle.names.specs.Lists.{gather}
 use Rattle.names.specs.Fields.{Got, got, many}
@@ -17,7 +20,7 @@ use Rattle.condition.specs.Condition.{Span, Operator, Condition, Term, ArithOp, 
 use Rattle.condition.specs.Condition as tree
 use Rattle.condition.specs.Walk.{operand_aggregates}
 use Rattle.condition.specs.Places.{term_here, is_condition, condition_in, is_term, term_in}
-use Rattle.nodes.specs.Kinds.{kind_of, span_of, term_kind_of}
+use Rattle.nodes.specs.Kinds.{kind_of, span_of, term_kind_of, term_kind_number}
 use Rattle.nodes.specs.Offsets.{first_part, term_part, left_part}
 use Rattle.nodes.specs.Laws.Inside.{place_compared, left_place, aggregate_inside}
 use Rattle.nodes.specs.Looked.{Skipped, TermKindHere}
@@ -26,6 +29,9 @@ use Rattle.nodes.specs.Laws.Opens.{term_there, Stands, stood, ends_at, term_stan
 use Rattle.nodes.specs.Laws.Pieces.{term_ahead}
 use Rattle.nodes.specs.Laws.Leaves.{leaf_itself, leaves_gather}
 use Rattle.nodes.specs.declared.Several.{Several}
+use Rattle.nodes.specs.declared.TermKind.{TermKind}
+use Rattle.nodes.specs.declared.TermKind.TheVariants as kinds
+use Rattle.nodes.specs.contracts.TermKind.{the_type}
 use Rattle.names.specs.Laws.Lists.{gather_append}
 use Rattle.std.specs.Prelude.{None}
 
@@ -42,6 +48,35 @@ no_aggregates (array ts) a b = refl
 no_aggregates (aggregate x) a b = absurd (b refl)
 no_aggregates (tree.arith op l r) a b = absurd (a refl)
 no_aggregates sigil a b = refl
+
+-- the code compares kinds by the numbers of their cases
+tagged : (k : TermKind) → term_kind_number k ≡ tag_of the_type k + 1
+tagged kinds.Entity = refl
+tagged kinds.Integer = refl
+tagged kinds.Decimal = refl
+tagged kinds.String = refl
+tagged kinds.Bool = refl
+tagged kinds.ContextField = refl
+tagged kinds.ScopeField = refl
+tagged kinds.Var = refl
+tagged kinds.Wildcard = refl
+tagged kinds.Array = refl
+tagged kinds.Aggregate = refl
+tagged kinds.Arith = refl
+tagged kinds.Sigil = refl
+
+module _ (k : TermKind) (b : Bool) where
+  pub is_arith : b ≡ sameb the_type k kinds.Arith → b ≡ true → term_kind_number k ≡ 12
+  is_arith e h = let i = eqb-true (tag_of the_type k) 11 (sym e ∙ h) in let j = tagged k in omega arith
+
+  pub no_arith : b ≡ sameb the_type k kinds.Arith → b ≡ false → term_kind_number k ≡ 12 → ⊥
+  no_arith e h n = let i = eqb-false (tag_of the_type k) 11 (sym e ∙ h) in let j = tagged k in i (omega arith)
+
+  pub is_aggregated : b ≡ sameb the_type k kinds.Aggregate → b ≡ true → term_kind_number k ≡ 11
+  is_aggregated e h = let i = eqb-true (tag_of the_type k) 10 (sym e ∙ h) in let j = tagged k in omega arith
+
+  pub not_aggregated : b ≡ sameb the_type k kinds.Aggregate → b ≡ false → term_kind_number k ≡ 11 → ⊥
+  not_aggregated e h n = let i = eqb-false (tag_of the_type k) 10 (sym e ∙ h) in let j = tagged k in i (omega arith)
 
 -- terms in a row
 module _ (s : List ℕ) (n at : ℕ) where
@@ -229,6 +264,6 @@ operands_here s at acc is p place =
       value = ap (gather operand_aggregates) (has_value [] r) ∙ ap (λ l. operand_aggregates v.left ++ l) (append-nil (operand_aggregates v.right));
     }
 
-pub ruleset along_aggregates = (rules, aggregates_left, leaves_stand, no_leaf, found_next, bare_turn)
+pub ruleset along_aggregates = (rules, aggregates_left, leaves_stand, no_leaf, found_next, bare_turn, is_aggregated, not_aggregated)
 
-pub ruleset along_leaves = (rules, no_leaves, leaves_left, leaf_first, further_fits, leaf_next, leaf_turn)
+pub ruleset along_leaves = (rules, no_leaves, leaves_left, leaf_first, further_fits, leaf_next, leaf_turn, is_arith, no_arith)

@@ -1,5 +1,10 @@
 -- The kinds of conditions, terms, aggregates and operators by document 01's numbers. Of kinds that the tree does not tell apart, the least.
-use Rattle.std.specs.Prelude.{ℕ, Bool, ◌||◌, ◌&&◌, eqb, leb}
+use Rattle.std.specs.Prelude.{ℕ, Bool, cond, ◌||◌, ◌&&◌, eqb, leb}
+pub use Rattle.condition.specs.Kinds.{kind_number, aggregate_kind_number}
+use Rattle.condition.specs.Kinds as read
+use Rattle.condition.specs.declared.kind.TermKind as read_kinds
+use Rattle.nodes.specs.declared.TermKind.{TermKind}
+use Rattle.nodes.specs.declared.TermKind.TheVariants as terms
 use Rattle.condition.specs.Condition.{Span, Condition, Term, Aggregate, Literal, Operator, Window, unsaid, One, negation, formerly, previous, refine, Two, and, or, since, integer, decimal, string, bool, le, lt, ge, gt, eq, not_eq, one, two, predicate, comparison, exists, tp, opaque, entity, literal, context_field, scope_field, var, wildcard, array, aggregate, arith, sigil, sum, count, call}
 
 abbrev pub one_number : One → ℕ
@@ -111,3 +116,27 @@ two_kind k = eqb k 1 || eqb k 2 || eqb k 6
 -- the kinds with a window: Formerly, Previous, Since
 abbrev pub window_kind : ℕ → Bool
 window_kind k = leb 4 k && leb k 6
+
+-- the numbers of the code's kinds of terms; those of conditions and aggregates are the ones that are read
+abbrev pub term_kind_number : TermKind → ℕ
+term_kind_number terms.Entity = 1
+term_kind_number terms.Integer = 2
+term_kind_number terms.Decimal = 3
+term_kind_number terms.String = 4
+term_kind_number terms.Bool = 5
+term_kind_number terms.ContextField = 6
+term_kind_number terms.ScopeField = 7
+term_kind_number terms.Var = 8
+term_kind_number terms.Wildcard = 9
+term_kind_number terms.Array = 10
+term_kind_number terms.Aggregate = 11
+term_kind_number terms.Arith = 12
+term_kind_number terms.Sigil = 13
+
+-- the number of a kind of terms that is read, which has one kind for each byte
+abbrev pub read_kind_number : read_kinds.TermKind → ℕ
+read_kind_number = read.term_kind_number
+
+-- the number by which the tree tells a kind of terms apart: that of a ParamRef for a BinderRef (14)
+abbrev pub told_apart : ℕ → ℕ
+told_apart k = cond (eqb k 14) 13 k

@@ -8,3 +8,4 @@ pub mod Inside
 pub mod Pieces
 pub mod Binders
 pub mod Leaves
+pub mod Numbers

@@ -170,7 +170,10 @@ pub record BoundBy (s : List ℕ) (o : Option Annotation) (r : Bound) : Type 0 w
   pub stands : BoundStands s r
   pub value : bound_in s r ≡ o
 
--- strings of whatever class, behind their count
+-- a string of whatever class, and such strings behind their count
+abbrev pub any_string : Reader (List ℕ)
+any_string = string_of (λ w. true)
+
 unfoldable pub strings_at : Reader (List (List ℕ))
 strings_at = counted (each (string_of (λ w. true)))
 

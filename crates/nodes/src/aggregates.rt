@@ -7,9 +7,10 @@ ghost use Rattle.nodes.specs.Parts.{is_terms, aggregates_in, NextIs, OperandsHer
 use crate::leaves::next_leaf;
 use crate::offsets::{first_part, term_part};
 use crate::parts::term_kind_at;
-use crate::{NextPart, Several};
+use crate::{NextPart, Several, TermKind};
 
 // The operands of a comparison, as two terms in a row.
+#[tactic(auto, using(crate::proofs::TermsLeft::operands_here))]
 pub fn operands_at(s: &[u8], at: usize) -> Several
     requires at_value { is_condition s.now at ≡ true }
     requires at_value_2 { kind_of (condition_in s.now at) ≡ 8 }
@@ -28,7 +29,7 @@ pub fn next_aggregate(s: &[u8], count: usize, first: usize) -> NextPart
 {
     let mut left = Several { count, first };
     while let Some((at, others)) = next_leaf(s, left.count, left.first) {
-        if term_kind_at(s, at) == 11 {
+        if term_kind_at(s, at) == TermKind::Aggregate {
             return Some((term_part(s, at), others));
         }
         left = others;

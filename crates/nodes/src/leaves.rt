@@ -1,10 +1,11 @@
-// The leaves of terms, one after another. In the bytes of an Arith they simply follow each other, so that no place is read twice.
+// The leaves of terms, one after another. In the bytes of an Arith they simply follow each other,
+// so that no place is read twice.
 ghost use Rattle.std.specs.Prelude.{◌≡◌, true};
 ghost use Rattle.nodes.specs.Parts.{is_terms, leaves_in, NextLeafIs};
 
 use crate::offsets::left_part;
 use crate::parts::{past_term, term_kind_at};
-use crate::{NextPart, Several};
+use crate::{NextPart, Several, TermKind};
 
 // The next leaf of so many terms in a row, in order: the first term, or the leftmost of an
 // arithmetic, whose right then stands before the other terms. How often the loop turns is in the
@@ -18,7 +19,7 @@ pub fn next_leaf(s: &[u8], count: usize, first: usize) -> NextPart
     }
     let mut at = first;
     let mut further = count - 1;
-    while term_kind_at(s, at) == 12 {
+    while term_kind_at(s, at) == TermKind::Arith {
         at = left_part(s, at);
         further += 1;
     }

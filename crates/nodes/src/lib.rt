@@ -1,8 +1,18 @@
 // A node of a condition or a term taken apart: its kind, and where its parts stand.
 //
-// `s` is an accepted record; a position `at` denotes a condition (`condition_in`), a term (`term_in`), .. of `condition`'s `specs/Places`, and `is..` says that one
-// stands there. Kinds are document 01's numbers (`specs/Kinds`). What a function tells of its answer is the record of `specs/Looked` or `specs/Parts` beside it.
-// This crate alone knows at which byte of a node its parts stand: `first_part`, `term_part`, `left_part`, `aggregate_part`, of which the laws of `specs/Laws/Inside` say what is there.
+// `s` is an accepted record; a position `at` denotes a condition (`condition_in`), a term
+// (`term_in`), .. of `condition`'s `specs/Places`, and `is..` says that one stands there.
+// `specs/Kinds` has document 01's numbers of the kinds. What a function tells of its answer is the
+// record of `specs/Looked` or `specs/Parts` beside it. This crate alone knows at which byte of a
+// node its parts stand: `first_part`, `term_part`, `left_part`, `aggregate_part`, of which the laws
+// of `specs/Laws/Inside` say what is there.
+//
+// A node is the bytes of the record and the number of its place in them, and each function asks
+// that one stands there. The two are no struct: a record is lent once, and its nodes are many. The
+// tables of `walk` hold places as numbers of 16 bits, which a struct of bytes and place would not
+// be; and a function with two places would have to ask that both are places of the same record.
+//
+// Functions with equal bodies stay apart where each promises of another kind of thing at its place.
 //
 // | module | what it has |
 // |---|---|
@@ -13,6 +23,9 @@
 // | leaves | `next_leaf(s, count, first)`: `NextLeafIs` of `leaves_in s count first` |
 #![tactic(auto)]
 
+ghost use Rattle.std.specs.Prelude.{◌≡◌};
+ghost use Rattle.nodes.specs.Kinds.{term_kind_number, read_kind_number, told_apart};
+
 mod aggregates;
 mod leaves;
 mod offsets;
@@ -20,6 +33,7 @@ mod parts;
 mod windows;
 
 pub use aggregates::{next_aggregate, operands_at};
+pub use condition::{AggregateKind, Kind};
 pub use leaves::next_leaf;
 pub use offsets::{aggregate_part, first_part, left_part, term_part};
 pub use parts::{
@@ -33,6 +47,48 @@ pub use windows::window_at;
 // Where a condition record's own condition stands, behind the mark and the version.
 pub const ROOT: usize = 5;
 
+// The kinds of conditions and of aggregates are those of `condition`, and `kind_at` answers no
+// SigilRef. Those of terms are not: `condition` has one for each byte, and here the two sigils, a
+// ParamRef and a BinderRef, are one kind, as they are in the tree.
+#[derive(Clone, Copy, PartialEq)]
+pub enum TermKind {
+    Entity,
+    Integer,
+    Decimal,
+    String,
+    Bool,
+    ContextField,
+    ScopeField,
+    Var,
+    Wildcard,
+    Array,
+    Aggregate,
+    Arith,
+    Sigil,
+}
+
+impl From<condition::TermKind> for TermKind {
+    ghost from_gives = { λ read kind. term_kind_number kind ≡ told_apart (read_kind_number read) };
+
+    fn from(read: condition::TermKind) -> TermKind {
+        match read {
+            condition::TermKind::Entity => TermKind::Entity,
+            condition::TermKind::Integer => TermKind::Integer,
+            condition::TermKind::Decimal => TermKind::Decimal,
+            condition::TermKind::String => TermKind::String,
+            condition::TermKind::Bool => TermKind::Bool,
+            condition::TermKind::ContextField => TermKind::ContextField,
+            condition::TermKind::ScopeField => TermKind::ScopeField,
+            condition::TermKind::Var => TermKind::Var,
+            condition::TermKind::Wildcard => TermKind::Wildcard,
+            condition::TermKind::Array => TermKind::Array,
+            condition::TermKind::Aggregate => TermKind::Aggregate,
+            condition::TermKind::Arith => TermKind::Arith,
+            condition::TermKind::ParamRef | condition::TermKind::BinderRef => TermKind::Sigil,
+        }
+    }
+}
+
 // The ends of a span.
 #[derive(Clone, Copy)]
 pub struct Ends {
@@ -40,7 +96,8 @@ pub struct Ends {
     pub end: u32,
 }
 
-// A comparison: its operator's number, and where its operands stand.
+// A comparison: its operator's number, and where its operands stand. The operator stays document
+// 01's number: all that is asked of it is whether it orders, which it does below 4.
 #[derive(Clone, Copy)]
 pub struct ComparisonAt {
     pub operator: u8,
@@ -55,7 +112,8 @@ pub struct Operands {
     pub right: usize,
 }
 
-// A predicate: how many path names its namespace has and where the first stands, where its action stands, how many arguments it has and where the first stands.
+// A predicate: how many path names its namespace has and where the first stands, where its action
+// stands, how many arguments it has and where the first stands.
 #[derive(Clone, Copy)]
 pub struct PredicateAt {
     pub names: usize,
@@ -65,7 +123,8 @@ pub struct PredicateAt {
     pub first: usize,
 }
 
-// An argument, whose name stands at its own place: where its field path and its term stand, and the place behind it.
+// An argument, whose name stands at its own place: where its field path and its term stand, and the
+// place behind it.
 #[derive(Clone, Copy)]
 pub struct ArgumentAt {
     pub field: usize,
@@ -96,7 +155,9 @@ pub enum WindowAt {
     Seconds(u64),
 }
 
-// The annotation of the last binder of a name: where its segments stand, a timepoint, or there is no such binder.
+// The annotation of the last binder of a name: where its segments stand, a timepoint, or there is
+// no such binder. `Nothing` is a case, and no Option stands around the others, since `sums` and
+// `terms` match the three side by side.
 #[derive(Clone, Copy)]
 pub enum Bound {
     Segments(usize),
@@ -104,5 +165,6 @@ pub enum Bound {
     Nothing,
 }
 
-// The next part of some terms in a row, an aggregate or a leaf: where it stands, and the terms that the others are in; if there is one.
+// The next part of some terms in a row, an aggregate or a leaf: where it stands, and the terms that
+// the others are in; if there is one.
 pub type NextPart = Option<(usize, Several)>;

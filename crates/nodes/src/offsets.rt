@@ -1,11 +1,14 @@
-// Where the first part of a node stands. What stands there, by the kind of the node, is said by the laws of `specs/Laws/Inside`.
+// Where the first part of a node stands. What stands there, by the kind of the node, is said by the
+// laws of `specs/Laws/Inside`.
 ghost use Rattle.std.specs.Prelude.{◌≡◌, true, ◌+◌, ◌≤◌, ◌<◌};
 ghost use Rattle.condition.specs.Places.{is_condition, is_term, is_aggregate};
 ghost use Rattle.nodes.specs.Offsets.{first_part, term_part, left_part, aggregate_part};
 
 use crate::windows::window_length;
 
-// In a condition: a condition, a binder, a slot, a comparison's left operand.
+// In a condition: a condition, a binder, a slot, a comparison's left operand. The kind is told by
+// its byte and by no `Kind`: the definition of the same name goes by the number, and `kind_at`
+// stands in `parts`, which is built on this function.
 pub fn first_part(s: &[u8], at: usize) -> usize
     requires { is_condition s.now at ≡ true }
     ensures value { result ≡ first_part s.now at }

@@ -2,15 +2,15 @@
 //
 // | function | asks | tells of its answer (`specs/Looked`, `specs/Parts`) |
 // |---|---|---|
-// | `kind_at(s, at)` | `is_condition` | `KindHere`: `kind_of (condition_in s at)`, document 01's number |
+// | `kind_at(s, at)` | `is_condition` | `KindHere` of the answer's `kind_number`: `kind_of (condition_in s at)` |
 // | `span_at`, `own_span_at` | `is_condition`; 7 | `Spans (span_of ..)`, `Spans (own_span_of ..)` |
 // | `comparison_at` | kind 8 | `ComparisonHere`: operator's number, places of both operands, the tree |
 // | `predicate_at` | kind 7 | `PredicateHere`: namespace as a `Listed`, action's place, arguments, the tree |
 // | `argument_at(s, n, at)` | `is_arguments s n at`, `0 < n` | `ArgumentHere`: field path, term, the rest; `arguments_over` where n is 0 |
-// | `term_kind_at(s, at)` | `is_term` | `TermKindHere`: `term_kind_of (term_in s at)` |
+// | `term_kind_at(s, at)` | `is_term` | `TermKindHere` of its `term_kind_number`: `term_kind_of (term_in s at)` |
 // | `elements_at`, `past_element(s, n, at)` | kind 10; `is_elements s n at`, `0 < n` | `ElementsHere`, `ElementHere`; `elements_over` where n is 0 |
 // | `arith_at` | kind 12 | `ArithHere`: the places of both operands |
-// | `aggregate_kind_at`, `aggregate_span_at` | `is_aggregate` | `AggregateKindHere`: 1 Sum, 2 Count, 3 Call; `Spans (aggregate_span_of ..)` |
+// | `aggregate_kind_at`, `aggregate_span_at` | `is_aggregate` | `AggregateKindHere` of its `aggregate_kind_number`; `Spans (aggregate_span_of ..)` |
 // | `binders_at`, `body_at` | kind not 3 | `BindersHere`, `BodyHere` |
 // | `slot_at` | `is_slot` | `SlotHere s at r` |
 // | `path_at`, `segments_at` | `is_path`, `SegmentsHere` | `Listed` |
@@ -21,17 +21,20 @@ ghost use Rattle.std.proofs.Math.Option.{some};
 ghost use Rattle.names.specs.Fields.{each, counted, string_of};
 ghost use Rattle.names.specs.Names.{plain, path_name, identifier, last_of};
 ghost use Rattle.names.specs.Paths.{path_of};
-ghost use Rattle.names.specs.Read.{accepted, ending, word_at, Listed};
+ghost use Rattle.names.specs.Read.{accepted, ending, is_row, row, word_at, Listed};
 ghost use Rattle.std.specs.Prelude.{Ok};
 ghost use Rattle.condition.specs.Condition.{slot, binder, entity_fields};
 ghost use Rattle.condition.specs.Walk.{has_name};
 ghost use Rattle.condition.specs.Places.{version_in, condition_here, term_here, is_condition, condition_in, is_term, term_in, is_aggregate, aggregate_in, is_arguments, is_elements, is_path, path_in, is_slot, slot_in, is_annotation, annotation_in, is_binder, binder_in};
-ghost use Rattle.nodes.specs.Kinds.{kind_of, span_of, own_span_of, one_kind, two_kind, term_kind_of, aggregate_kind_of, aggregate_span_of};
+ghost use Rattle.nodes.specs.Kinds.{kind_of, span_of, own_span_of, one_kind, two_kind, term_kind_of, aggregate_kind_of, aggregate_span_of, kind_number, term_kind_number, aggregate_kind_number};
 ghost use Rattle.nodes.specs.Looked.{place_of, Skipped, KindHere, TermKindHere, AggregateKindHere, BodyHere};
-ghost use Rattle.nodes.specs.Parts.{EndsHere, Spans, ComparisonHere, ArithHere, PredicateHere, ArgumentHere, ElementsHere, ElementHere, BindersHere, is_binders, SlotHere, segments_in, SegmentsHere, BoundBy, strings_at, name_in};
+ghost use Rattle.nodes.specs.Parts.{EndsHere, Spans, ComparisonHere, ArithHere, PredicateHere, ArgumentHere, ElementsHere, ElementHere, BindersHere, is_binders, SlotHere, segments_in, SegmentsHere, BoundBy, any_string, strings_at, name_in};
 
 use crate::offsets::{aggregate_part, first_part, left_part, term_part};
-use crate::{ArgumentAt, Bound, ComparisonAt, Ends, Operands, PredicateAt, Several, SlotAt};
+use crate::{
+    AggregateKind, ArgumentAt, Bound, ComparisonAt, Ends, Kind, Operands, PredicateAt, Several,
+    SlotAt, TermKind,
+};
 use condition::{read_binder, read_binders, read_slot, read_subcondition, read_term};
 use names::Read;
 
@@ -43,7 +46,9 @@ fn place_of(r: Read, other: usize) -> usize
     r.unwrap_or(other)
 }
 
-// The place behind a slot, a binder, binders with their count, path names with theirs, a path, a condition, a term.
+// The place behind a slot, a binder, binders with their count, path names with theirs, a path, a
+// condition, a term.
+#[tactic(auto, using(crate::specs::Laws::Opens::passing))]
 pub fn past_slot(s: &[u8], at: usize) -> usize
     requires { is_slot s.now at ≡ true }
     ensures { Skipped (slot s.now at) at result }
@@ -51,6 +56,7 @@ pub fn past_slot(s: &[u8], at: usize) -> usize
     place_of(read_slot(s, at), at)
 }
 
+#[tactic(auto, using(crate::specs::Laws::Opens::passing))]
 pub fn past_binder(s: &[u8], at: usize) -> usize
     requires { is_binder s.now at ≡ true }
     ensures { Skipped (binder s.now at) at result }
@@ -58,6 +64,7 @@ pub fn past_binder(s: &[u8], at: usize) -> usize
     place_of(read_binder(s, at), at)
 }
 
+#[tactic(auto, using(crate::specs::Laws::Opens::passing))]
 pub fn past_binders(s: &[u8], at: usize) -> usize
     requires { is_binders s.now at ≡ true }
     ensures { Skipped (counted (each binder) s.now at) at result }
@@ -65,18 +72,28 @@ pub fn past_binders(s: &[u8], at: usize) -> usize
     place_of(read_binders(s, at), at)
 }
 
-// Strings of whatever class, whose count stands at `start`, are passed by their lengths.
-fn past_strings(s: &[u8], start: usize) -> usize
-    requires { accepted (strings_at s.now start) ≡ true }
-    ensures { Ok result ≡ ending (strings_at s.now start) }
+// So many strings of whatever class, one after another, are passed by their lengths.
+fn past_words(s: &[u8], words: Several) -> usize
+    requires { is_row any_string s.now words.count words.first ≡ true }
+    ensures { Ok result ≡ ending (row any_string words.count s.now words.first) }
 {
-    let mut at = start + 1;
-    for _ in 0..names::wide(s[start]) {
+    let mut at = words.first;
+    for _ in 0..words.count {
         at = names::past_word(s, at);
     }
     at
 }
 
+// Such strings, whose count stands at `at`.
+#[tactic(auto, using(crate::proofs::Strings::counted_strings))]
+fn past_strings(s: &[u8], at: usize) -> usize
+    requires { accepted (strings_at s.now at) ≡ true }
+    ensures { Ok result ≡ ending (strings_at s.now at) }
+{
+    past_words(s, list_at(s, at))
+}
+
+#[tactic(auto, using(crate::proofs::Strings::by_strings))]
 fn past_names(s: &[u8], at: usize) -> usize
     requires { accepted (counted (each (string_of path_name)) s.now at) ≡ true }
     ensures { Skipped (counted (each (string_of path_name)) s.now at) at result }
@@ -84,6 +101,7 @@ fn past_names(s: &[u8], at: usize) -> usize
     past_strings(s, at)
 }
 
+#[tactic(auto, using(crate::proofs::Strings::by_strings))]
 fn past_path(s: &[u8], at: usize) -> usize
     requires { is_path s.now at ≡ true }
     ensures { Skipped (path_of s.now at) at result }
@@ -91,6 +109,7 @@ fn past_path(s: &[u8], at: usize) -> usize
     past_strings(s, at)
 }
 
+#[tactic(auto, using(crate::specs::Laws::Opens::passing))]
 pub fn past_condition(s: &[u8], at: usize) -> usize
     requires { is_condition s.now at ≡ true }
     ensures { Skipped (condition_here s.now at) at result }
@@ -99,6 +118,7 @@ pub fn past_condition(s: &[u8], at: usize) -> usize
 }
 
 // The place behind an entity's name, and from version 3 on behind its id.
+#[tactic(auto, using(crate::proofs::Strings::past_entities))]
 fn past_entity(s: &[u8], at: usize) -> usize
     requires { accepted (entity_fields (version_in s.now) s.now at) ≡ true }
     ensures { Skipped (entity_fields (version_in s.now) s.now at) at result }
@@ -110,62 +130,66 @@ fn past_entity(s: &[u8], at: usize) -> usize
     names::past_word(s, name)
 }
 
+#[tactic(auto, using(crate::proofs::Strings::past_terms))]
 pub fn past_term(s: &[u8], at: usize) -> usize
     requires { is_term s.now at ≡ true }
     ensures { Skipped (term_here s.now at) at result }
 {
     let next = term_part(s, at);
     match term_kind_at(s, at) {
-        1 => past_entity(s, next),
-        6 | 7 => past_path(s, next),
-        8 => names::past_word(s, next),
+        TermKind::Entity => past_entity(s, next),
+        TermKind::ContextField | TermKind::ScopeField => past_path(s, next),
+        TermKind::Var => names::past_word(s, next),
         _ => place_of(read_term(s, at, condition::version(s), 32, false), at),
     }
 }
 
-// The kind of the condition at `at` by document 01's number; a SigilRef is 11, as a Call.
-pub fn kind_at(s: &[u8], at: usize) -> u8
+// The kind of the condition at `at`. A SigilRef counts as a Call. Here and below the byte at `at`
+// is that of a kind, so that the default is never met.
+pub fn kind_at(s: &[u8], at: usize) -> Kind
     requires { is_condition s.now at ≡ true }
-    ensures { KindHere s.now at result }
+    ensures { KindHere s.now at (kind_number result) }
 {
-    match s[at] {
-        12 => 11,
+    match Kind::try_from(s[at]).unwrap_or(Kind::Call) {
+        Kind::SigilRef => Kind::Call,
         kind => kind,
     }
 }
 
 // The kinds with one condition in them, and those with two.
-pub fn has_one(kind: u8) -> bool
-    ensures { result ≡ one_kind kind }
+pub fn has_one(kind: Kind) -> bool
+    ensures { result ≡ one_kind (kind_number kind) }
 {
-    matches!(kind, 3..=5 | 13)
+    matches!(
+        kind,
+        Kind::Not | Kind::Formerly | Kind::Previous | Kind::Refine
+    )
 }
 
-pub fn has_two(kind: u8) -> bool
-    ensures { result ≡ two_kind kind }
+pub fn has_two(kind: Kind) -> bool
+    ensures { result ≡ two_kind (kind_number kind) }
 {
-    matches!(kind, 1 | 2 | 6)
+    matches!(kind, Kind::And | Kind::Or | Kind::Since)
 }
 
-// The kind of the term at `at` by document 01's number; a BinderRef is 13, as a ParamRef.
-pub fn term_kind_at(s: &[u8], at: usize) -> u8
+// The kind of the term at `at`.
+pub fn term_kind_at(s: &[u8], at: usize) -> TermKind
     requires { is_term s.now at ≡ true }
-    ensures { TermKindHere s.now at result }
+    ensures { TermKindHere s.now at (term_kind_number result) }
 {
-    match s[at] {
-        14 => 13,
-        kind => kind,
-    }
+    let read = condition::TermKind::try_from(s[at]);
+    TermKind::from(read.unwrap_or(condition::TermKind::ParamRef))
 }
 
-pub fn aggregate_kind_at(s: &[u8], at: usize) -> u8
+pub fn aggregate_kind_at(s: &[u8], at: usize) -> AggregateKind
     requires { is_aggregate s.now at ≡ true }
-    ensures { AggregateKindHere s.now at result }
+    ensures { AggregateKindHere s.now at (aggregate_kind_number result) }
 {
-    s[at]
+    AggregateKind::try_from(s[at]).unwrap_or(AggregateKind::Call)
 }
 
 // Where the body of a Sum or a Count stands.
+#[tactic(auto, using(crate::specs::Laws::Pieces::pieces))]
 pub fn body_at(s: &[u8], at: usize) -> usize
     requires at_value { is_aggregate s.now at ≡ true }
     requires fact { aggregate_kind_of (aggregate_in s.now at) ≡ 3 → ⊥ }
@@ -175,15 +199,17 @@ pub fn body_at(s: &[u8], at: usize) -> usize
 }
 
 // Where the count of a Sum's or a Count's binders stands.
+#[tactic(auto, using(crate::specs::Laws::Pieces::pieces))]
 pub fn binders_at(s: &[u8], at: usize) -> usize
     requires at_value { is_aggregate s.now at ≡ true }
     requires fact { aggregate_kind_of (aggregate_in s.now at) ≡ 3 → ⊥ }
     ensures { BindersHere s.now at result }
 {
-    if aggregate_kind_at(s, at) == 1 {
-        return past_slot(s, aggregate_part(s, at));
+    let first = aggregate_part(s, at);
+    match aggregate_kind_at(s, at) {
+        AggregateKind::Sum => past_slot(s, first),
+        _ => first,
     }
-    aggregate_part(s, at)
 }
 
 fn ends_at(s: &[u8], at: usize) -> Ends
@@ -196,6 +222,7 @@ fn ends_at(s: &[u8], at: usize) -> Ends
 }
 
 // The span of the condition at `at`, a predicate's own span, an aggregate's span.
+#[tactic(auto, using(crate::specs::Laws::Pieces::pieces))]
 pub fn span_at(s: &[u8], at: usize) -> Ends
     requires { is_condition s.now at ≡ true }
     ensures { Spans (span_of (condition_in s.now at)) result }
@@ -203,6 +230,7 @@ pub fn span_at(s: &[u8], at: usize) -> Ends
     ends_at(s, at + 1)
 }
 
+#[tactic(auto, using(crate::specs::Laws::Pieces::pieces))]
 pub fn own_span_at(s: &[u8], at: usize) -> Ends
     requires at_value { is_condition s.now at ≡ true }
     requires at_value_2 { kind_of (condition_in s.now at) ≡ 7 }
@@ -211,6 +239,7 @@ pub fn own_span_at(s: &[u8], at: usize) -> Ends
     ends_at(s, at + 9)
 }
 
+#[tactic(auto, using(crate::specs::Laws::Pieces::pieces))]
 pub fn aggregate_span_at(s: &[u8], at: usize) -> Ends
     requires { is_aggregate s.now at ≡ true }
     ensures { Spans (aggregate_span_of (aggregate_in s.now at)) result }
@@ -219,6 +248,7 @@ pub fn aggregate_span_at(s: &[u8], at: usize) -> Ends
 }
 
 // The parts of a comparison, of an arithmetic.
+#[tactic(auto, using(crate::specs::Laws::Pieces::pieces))]
 pub fn comparison_at(s: &[u8], at: usize) -> ComparisonAt
     requires at_value { is_condition s.now at ≡ true }
     requires at_value_2 { kind_of (condition_in s.now at) ≡ 8 }
@@ -234,6 +264,7 @@ pub fn comparison_at(s: &[u8], at: usize) -> ComparisonAt
     }
 }
 
+#[tactic(auto, using(crate::specs::Laws::Pieces::pieces))]
 pub fn arith_at(s: &[u8], at: usize) -> Operands
     requires at_value { is_term s.now at ≡ true }
     requires at_value_2 { term_kind_of (term_in s.now at) ≡ 12 }
@@ -245,6 +276,7 @@ pub fn arith_at(s: &[u8], at: usize) -> Operands
 }
 
 // The parts of a predicate, and of the first of so many arguments.
+#[tactic(auto, using(crate::specs::Laws::Pieces::predicates_parts))]
 pub fn predicate_at(s: &[u8], at: usize) -> PredicateAt
     requires at_value { is_condition s.now at ≡ true }
     requires at_value_2 { kind_of (condition_in s.now at) ≡ 7 }
@@ -264,6 +296,7 @@ pub fn predicate_at(s: &[u8], at: usize) -> PredicateAt
     }
 }
 
+#[tactic(auto, using(crate::specs::Laws::Pieces::arguments_parts))]
 pub fn argument_at(s: &[u8], count: usize, at: usize) -> ArgumentAt
     requires at_value { is_arguments s.now count at ≡ true }
     requires count_nonzero { 0 < count }
@@ -296,6 +329,7 @@ pub fn elements_at(s: &[u8], at: usize) -> Several
     list_at(s, term_part(s, at))
 }
 
+#[tactic(auto, using(crate::specs::Laws::Pieces::pieces))]
 pub fn past_element(s: &[u8], count: usize, at: usize) -> usize
     requires at_value { is_elements s.now count at ≡ true }
     requires count_nonzero { 0 < count }
@@ -320,18 +354,19 @@ pub fn segments_at(s: &[u8], at: usize) -> Several
 }
 
 // Where the last segment of an annotation stands.
+#[tactic(auto, using(crate::proofs::Strings::last_of_strings))]
 pub fn last_segment(s: &[u8], start: usize) -> usize
     requires { SegmentsHere s.now start }
     ensures { word_at s.now result ≡ last_of (segments_in s.now start) }
 {
-    let mut at = start + 1;
-    for _ in 1..names::wide(s[start]) {
-        at = names::past_word(s, at);
-    }
-    at
+    let mut others = list_at(s, start);
+    others.count -= 1;
+    past_words(s, others)
 }
 
-// A slot: where its name stands, or which sigil it is.
+// A slot: where its name stands, or which sigil it is. The byte is matched and not decoded first:
+// `SlotAt` needs the place beside it, and an enum of the bare kinds would be matched a second time
+// to get there.
 pub fn slot_at(s: &[u8], at: usize) -> SlotAt
     requires { is_slot s.now at ≡ true }
     ensures { SlotHere s.now at result }
@@ -343,7 +378,9 @@ pub fn slot_at(s: &[u8], at: usize) -> SlotAt
     }
 }
 
-// What an annotation binds.
+// What an annotation binds. The byte is the count of the annotation's segments, and 0 of them are a
+// timepoint: there is no kind to decode.
+#[tactic(auto, using(crate::specs::Laws::Binders::at_binder))]
 pub fn bound_at(s: &[u8], at: usize) -> Bound
     requires { is_annotation s.now at ≡ true }
     ensures { BoundBy s.now (some (annotation_in s.now at)) result }
@@ -363,6 +400,7 @@ pub fn is_named(s: &[u8], at: usize) -> bool
 }
 
 // The name of a binder that has one.
+#[tactic(auto, using(crate::specs::Laws::Binders::naming))]
 pub fn name_of(s: &[u8], at: usize) -> &[u8]
     requires { at < 65536 }
     ensures { result.now ≡ name_in s.now at }

@@ -3,5 +3,6 @@ pub mod Steady
 pub mod Flat
 pub mod Nested
 pub mod Fronts
+pub mod Halving
 pub mod Meaning
 pub mod Examples

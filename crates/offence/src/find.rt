@@ -11,16 +11,25 @@ fn begins(bytes: &[u8], mark: &[u8]) -> bool
     bytes.starts_with(mark)
 }
 
-// Whether the mark of a record stands first.
+// The mark of a record.
+fn mark_of(kind: Kind) -> &'static [u8]
+    ensures { result.now ≡ mark_of kind }
+{
+    match kind {
+        Kind::Schema => b"DWS",
+        Kind::Condition => b"DWC",
+        Kind::Targets => b"DWT",
+        Kind::Path => b"DWP",
+    }
+}
+
+// Whether the mark of a record stands first. The kind and the bytes come one by one, here and
+// below: the bytes may begin with another mark or with none, so that a struct of the two would keep
+// no fact.
 pub fn has_mark(kind: Kind, bytes: &[u8]) -> bool
     ensures { result ≡ begins (mark_of kind) bytes.now }
 {
-    match kind {
-        Kind::Schema => begins(bytes, b"DWS"),
-        Kind::Condition => begins(bytes, b"DWC"),
-        Kind::Targets => begins(bytes, b"DWT"),
-        Kind::Path => begins(bytes, b"DWP"),
-    }
+    begins(bytes, mark_of(kind))
 }
 
 // The record whose mark stands first. Bytes with no record's mark are refused alike by all four,
@@ -43,27 +52,33 @@ pub fn kind_of(bytes: &[u8]) -> Kind
 }
 
 // The number of a record: 1 schema, 2 condition, 3 targets, 4 path.
-pub fn record_of(kind: Kind) -> u8
-    ensures { result ≡ record_of kind }
-{
-    kind as u8
+impl From<Kind> for u8 {
+    ghost from_gives = { λ kind number. number ≡ record_of kind };
+
+    fn from(kind: Kind) -> u8 {
+        kind as u8
+    }
 }
 
-// The number with which bytes are refused as a record of a kind, 0 for none.
+// The number with which bytes are refused as a record of a kind, 0 for none. It is the documents'
+// number and not the refusal itself: `place` speaks of it, and it is what is printed. Each kind has
+// a reader of its own, and this is the one place that chooses among them: a table of functions
+// would hold these four lines in the order of the kinds' numbers, which nothing would check.
 pub fn number_of(kind: Kind, bytes: &[u8]) -> u8
     ensures { result ≡ number_of kind bytes.now }
 {
-    match kind {
-        Kind::Schema => names::refusal_number(schema::read_schema(bytes)),
-        Kind::Condition => names::refusal_number(condition::read_condition(bytes)),
-        Kind::Targets => names::refusal_number(targets::read_targets(bytes)),
-        Kind::Path => names::refusal_number(targets::read_path(bytes)),
-    }
+    names::refusal_number(match kind {
+        Kind::Schema => schema::read_schema(bytes),
+        Kind::Condition => condition::read_condition(bytes),
+        Kind::Targets => targets::read_targets(bytes),
+        Kind::Path => targets::read_path(bytes),
+    })
 }
 
 // The place where the number shows: each shorter front of the bytes only ends too early. It is
 // halved in, since a front that ends too early has no front that does not. The loop stays: std's
-// `partition_point` halves a slice, and the fronts stand in none.
+// `partition_point` halves a slice, and the fronts stand in none. What ends too early is refused by
+// the number 2, `Cut`, as `place` of the definitions says.
 pub fn place_of(kind: Kind, bytes: &[u8]) -> usize
     ensures { result ≡ place (number_of kind) bytes.now }
 {

@@ -5,7 +5,7 @@
 
 mod find;
 
-pub use find::{has_mark, kind_of, number_of, place_of, record_of};
+pub use find::{has_mark, kind_of, number_of, place_of};
 
 // The four records, by document 01's numbers.
 #[derive(Clone, Copy, PartialEq, Eq)]

@@ -16,10 +16,10 @@ use Rattle.types.specs.declared.Form.TheVariants as Form
 use Rattle.types.specs.declared.Rich.{Rich}
 use Rattle.resolution.specs.Places.{typed_of, small_type}
 use Rattle.operands.specs.Operands.{placed, shown}
-use Rattle.operands.specs.Answers.{outcome_of}
+use Rattle.operands.specs.Answers.{Answered, outcome_of}
 use Rattle.operands.specs.declared.Answer.{Answer}
 use Rattle.resolution.specs.Coded.{Typed}
-use Rattle.std.specs.Prelude.{Some, None}
+use Rattle.std.specs.Prelude.{Some, None, Ok, Err}
 use Rattle.names.specs.declared.refusal.Refusal.TheVariants.{NoSpace}
 
 pub type_counted : (t : Ty) → Small t → length (render t) < 18446744073709551616
@@ -27,14 +27,14 @@ type_counted t small = text_counted Form.Render t small
 
 -- a text that was measured
 module _ (w b : List ℕ) where
-  pub place_not : (long : ℕ) → long ≡ length w → length b < long → outcome_of (Answer.Refused NoSpace 0) b ≡ placed w b
+  pub place_not : (long : ℕ) → long ≡ length w → length b < long → outcome_of (Err (record { refusal = NoSpace; «record» = 0 })) b ≡ placed w b
   unfolding placed outcome_of
   place_not long is h = rw (lt-leb (length w) (length b) (omega (arith, is)))
 
   pub place_room : (long : ℕ) → long ≡ length w → long ≤ length b → 0 + length w ≤ length b
   place_room long is h = omega (arith, is)
 
-  pub place_whole : (t : List ℕ) (r : ℕ) → Stored b 0 w t r → outcome_of (Answer.Written r) t ≡ placed w b
+  pub place_whole : (t : List ℕ) (r : ℕ) → Stored b 0 w t r → outcome_of (Ok (Answer.Written r)) t ≡ placed w b
   unfolding placed store outcome_of
   place_whole t r i =
       let h : length w ≤ length b = omega (arith, i.room) in
@@ -46,7 +46,7 @@ pub ruleset placing = (rules, stored_length, type_counted, place_not, place_room
 
 -- a type, if there is one
 module _ (s c b : List ℕ) (x : Typed) where
-  pub show_untyped : x ≡ None → outcome_of Answer.Untyped b ≡ shown (typed_of s c x) b
+  pub show_untyped : x ≡ None → outcome_of (Ok Answer.Untyped) b ≡ shown (typed_of s c x) b
   unfolding outcome_of
   show_untyped e = rw e
 
@@ -54,7 +54,7 @@ module _ (s c b : List ℕ) (x : Typed) where
     pub show_small : small_type (typed_of s c x) → Small (rich_of s c t)
     show_small h = rw e at h
 
-    pub show_typed : (a : Answer) (d : List ℕ) → outcome_of a d ≡ placed (render (rich_of s c t)) b → outcome_of a d ≡ shown (typed_of s c x) b
+    pub show_typed : (a : Answered) (d : List ℕ) → outcome_of a d ≡ placed (render (rich_of s c t)) b → outcome_of a d ≡ shown (typed_of s c x) b
     show_typed a d i = rw e i
 
 pub ruleset showing = (rules, show_untyped, show_small, show_typed)

@@ -4,7 +4,6 @@
 mod run;
 mod text;
 
-use names::Refusal;
 pub use run::operand_type;
 
 // An operand of a comparison.
@@ -14,12 +13,11 @@ pub enum Operand {
     Right,
 }
 
-// What is answered of an operand: its type is written, in so many bytes; it has no type; the condition is no comparison; or it is
-// refused, with the number of the record.
+// What is answered of an operand: its type is written, in so many bytes; it has no type; or the
+// condition is no comparison.
 #[derive(Clone, Copy)]
 pub enum Answer {
     Written(usize),
     Untyped,
     NoComparison,
-    Refused(Refusal, u8),
 }

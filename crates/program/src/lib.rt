@@ -6,10 +6,11 @@ mod fields;
 mod printed;
 
 ghost use Rattle.std.specs.Prelude.{◌≡◌, ◌^◌, ◌<◌, ◌≤◌, None, Some, length, take};
+ghost use Rattle.std.specs.Fn.{FnOnceReturnsAt};
 ghost use Rattle.std.specs.Io.KnownBytes.{Consumes};
-ghost use Rattle.program.specs.Program.{Within, Took, contented};
+ghost use Rattle.program.specs.Program.{GoneOn, Loaded, Within, Took, contented};
 
-pub use fields::{print_u32, split_field, u64_at};
+pub use fields::{split_field, u32_at, u64_at};
 pub use printed::{print_refusal, print_run};
 use std::env::{Env, FillError};
 use std::io::{Cursor, Read, Write};
@@ -41,8 +42,9 @@ fn has_argument(env: &impl Env, i: usize) -> bool {
     !matches!(env.arg(i, &mut [0; 1]), Err(FillError::NotPresent))
 }
 
-// Puts an argument at the front of a space. It has no bytes where there is no such argument, or
-// where it is longer than the space.
+// Puts an argument at the front of a space, and gives how many bytes it has, as std's `arg` does.
+// It has none where there is no such argument, or where it is longer than the space: a number and
+// no Option, since no caller tells an empty argument from none.
 pub fn argument(env: &impl Env, i: usize, space: &mut [u8]) -> usize
     ensures { Within space.new (Some result) }
 {
@@ -62,7 +64,8 @@ fn reason(text: &[u8]) -> &[u8] {
     }
 }
 
-// A line: what failed, and the reason.
+// A line: what failed, and the reason. Where it goes and the name go on one by one, here and below:
+// the first is of the caller's type, so that a struct of the two would be generic for two fields.
 fn say(err: &impl Print, name: &[u8], error: &io::Error) -> io::Result<()> {
     let mut said = Cursor::new([0u8; 320]);
     write!(said, "{error}")?;
@@ -120,8 +123,8 @@ fn read_on<F: Read>(file: &mut F, err: &impl Print, name: &[u8], space: &mut [u8
 }
 
 // Reads the file of a name, as far as the space reaches, and gives how many bytes it put at the
-// front of it. A file that cannot be read is said, with the reason. What a file has no contract can
-// say, as std's of `read` does not: its bytes lie in the space.
+// front of it, as std's `read` does. A file that cannot be read is said, with the reason. What a
+// file has no contract can say, as std's of `read` does not: its bytes lie in the space.
 pub fn load(files: &impl Files, err: &impl Print, name: &[u8], space: &mut [u8]) -> Option<usize>
     ensures { Within space.new result }
 {
@@ -150,8 +153,29 @@ pub fn load_argument(
     load(rt, err, &name[..n], space)
 }
 
-// Has a program go on with the bytes of the file of a name, as far as `N` bytes reach. It ends here
-// where there are none: the reason is said.
+// Goes on with the bytes at the front of a space, as many as a load put there. The count stands
+// beside the space, since `load` gives it as std's `read` does, and the part is cut here alone.
+// Where the load failed nothing is called, and all is well: the reason is said already. That what
+// goes on may be called is asked here and of the two functions below, since it is a fact about a
+// closure, which each of them takes once and whose type is the caller's: no struct of this crate
+// stands for it.
+fn with_loaded<F: FnOnce(&[u8]) -> io::Result<()>>(
+    space: &[u8],
+    loaded: Option<usize>,
+    go_on: F,
+) -> io::Result<()>
+    requires callable { F.IsAlwaysCallable go_on }
+    requires within { Within space.now loaded }
+    ensures { GoneOn (FnOnceReturnsAt F.FnOnce go_on) space.now loaded result }
+{
+    match loaded {
+        Some(n) => go_on(&space[..n]),
+        None => Ok(()),
+    }
+}
+
+// Has a program go on with the bytes of the file of a name, as far as `N` bytes reach, and answers
+// what that answers. It ends here where there are none: the reason is said.
 pub fn with_file<const N: usize, F: FnOnce(&[u8]) -> io::Result<()>>(
     files: &impl Files,
     err: &impl Print,
@@ -160,12 +184,11 @@ pub fn with_file<const N: usize, F: FnOnce(&[u8]) -> io::Result<()>>(
 ) -> io::Result<()>
     requires callable { F.IsAlwaysCallable go_on }
     requires size { N < 2 ^ 63 }
+    ensures { Loaded (FnOnceReturnsAt F.FnOnce go_on) N result }
 {
     let mut space = [0; N];
-    match load(files, err, name, &mut space) {
-        Some(n) => go_on(&space[..n]),
-        None => Ok(()),
-    }
+    let loaded = load(files, err, name, &mut space);
+    with_loaded(&space, loaded, go_on)
 }
 
 // The same with the record in the file that an argument names, or in another where there is no such
@@ -178,10 +201,9 @@ pub fn with_record<F: FnOnce(&[u8]) -> io::Result<()>>(
     go_on: F,
 ) -> io::Result<()>
     requires { F.IsAlwaysCallable go_on }
+    ensures { Loaded (FnOnceReturnsAt F.FnOnce go_on) RECORD_SPACE result }
 {
     let mut space = [0; RECORD_SPACE];
-    match load_argument(rt, err, i, other, &mut space) {
-        Some(n) => go_on(&space[..n]),
-        None => Ok(()),
-    }
+    let loaded = load_argument(rt, err, i, other, &mut space);
+    with_loaded(&space, loaded, go_on)
 }

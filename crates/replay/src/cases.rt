@@ -70,7 +70,8 @@ impl<'a> Iterator for Cases<'a> {
     }
 }
 
-// Whether an answer has the numbers behind a letter.
+// Whether an answer has the numbers behind a letter. They are compared one by one as they stand in
+// the bytes: an answer made of them would have to be made with casts, for one comparison.
 pub(crate) fn same_numbers(head: &[u8], answer: CheckAnswer) -> bool {
     usize::from(answer.number) == names::byte_at(head, 1)
         && usize::from(answer.record) == names::byte_at(head, 2)

@@ -7,9 +7,15 @@ use crate::cases::{behind_head, letter, same_numbers, same_output};
 use crate::{unvisited, written};
 use dogwood::{CheckAnswer, Stepped, Steps};
 
-// What a history has come to: the last answer, the state, and how long the list is.
-#[derive(Clone, Copy)]
-struct Course {
+// A history that is replayed: the records, the list of targets in its space, and what it has come
+// to: the last answer, the state, and how long the list is. The buffer is lent beside it: with the
+// buffer as a field too, the borrow checker does not cover a step, to which both go. The length
+// stands beside the list, since `dogwood_steps_append` takes the two so.
+#[derive(Drop)]
+struct Course<'a, 'b> {
+    schema: &'a [u8],
+    condition: &'a [u8],
+    list: &'b mut [u8],
     answer: CheckAnswer,
     state: Steps,
     length: usize,
@@ -35,136 +41,90 @@ impl<'a> Iterator for Calls<'a> {
     }
 }
 
-// The last answer of a history, where all of them and the list are as they should be.
+// The last answer of a history, where all of them and the list are as they should be: the list is
+// put into its space, the check is started, and all calls are made.
 pub(crate) fn in_steps<'a>(
     schema: &'a [u8],
     condition: &'a [u8],
     history: &[u8],
     buffer: &mut [u8],
 ) -> Option<CheckAnswer> {
-    let mut list = [0xA5; 8192];
-    let space = names::u16_at(history, 1);
+    let mut space = [0xA5; 8192];
     let (targets, others) = program::split_field(history.get(3..)?);
     let (wanted, calls) = program::split_field(others);
-    let used = list.get_mut(..space)?;
-    let answer = called(
+    let list = space.get_mut(..names::u16_at(history, 1))?;
+    list.get_mut(..targets.len())?.copy_from_slice(targets);
+    let Stepped { answer, state } = dogwood::dogwood_steps_start(
         letter(history),
         schema,
         condition,
         targets,
-        calls,
-        used,
-        buffer,
-    )?;
-    same_output(wanted, &list).then_some(answer)
-}
-
-// The last answer, where all of them are as they should be: the list is put into its space, the
-// check is started, and all calls are made.
-fn called<'a>(
-    rules: u8,
-    schema: &'a [u8],
-    condition: &'a [u8],
-    targets: &[u8],
-    calls: &[u8],
-    list: &mut [u8],
-    buffer: &mut [u8],
-) -> Option<CheckAnswer> {
-    list.get_mut(..targets.len())?.copy_from_slice(targets);
-    let started = dogwood::dogwood_steps_start(rules, schema, condition, targets);
-    let mut course = course_of(started, targets.len());
+    );
+    let mut course = Course {
+        schema,
+        condition,
+        list,
+        answer,
+        state,
+        length: targets.len(),
+    };
     for (head, argument) in Calls(calls) {
-        course = call(
-            letter(head),
-            argument,
-            schema,
-            condition,
-            list,
-            course,
-            buffer,
-        );
+        course.call(letter(head), argument, buffer);
         if !same_numbers(head, course.answer) {
             return None;
         }
     }
-    Some(course.answer)
+    let answer = course.answer;
+    same_output(wanted, &space).then_some(answer)
 }
 
-// What a call has come to, the list being as long as it was.
-fn course_of(stepped: Stepped, length: usize) -> Course {
-    let answer = stepped.answer;
-    let state = stepped.state;
-    Course {
-        answer,
-        state,
-        length,
+impl<'a, 'b> Course<'a, 'b> {
+    // The call of a letter: a step, a target appended, a position withdrawn, the rule changed. A
+    // start is what there is already.
+    fn call(&mut self, letter: u8, argument: &[u8], buffer: &mut [u8]) {
+        match letter {
+            b's' => self.step(buffer),
+            b'a' => self.append(argument),
+            b'w' => self.withdraw(argument),
+            b'm' => self.move_rule(),
+            _ => {},
+        }
     }
-}
 
-// The call of a letter: a step, a target appended, a position withdrawn, the rule changed. A start
-// is what there is already.
-fn call<'a>(
-    letter: u8,
-    argument: &[u8],
-    schema: &'a [u8],
-    condition: &'a [u8],
-    list: &mut [u8],
-    course: Course,
-    buffer: &mut [u8],
-) -> Course {
-    match letter {
-        b's' => stepped(schema, condition, list, course, buffer),
-        b'a' => appended(list, course, argument),
-        b'w' => withdrawn(list, course, argument),
-        b'm' => moved(course),
-        _ => course,
+    // What a call has come to, the list being as long as it was.
+    fn come_to(&mut self, stepped: Stepped) {
+        self.answer = stepped.answer;
+        self.state = stepped.state;
     }
-}
 
-fn stepped<'a>(
-    schema: &'a [u8],
-    condition: &'a [u8],
-    list: &[u8],
-    course: Course,
-    buffer: &mut [u8],
-) -> Course {
-    let targets = names::part_of(list, 0, course.length);
-    let state = course.state;
-    course_of(
-        dogwood::dogwood_steps_step(schema, condition, targets, state, buffer),
-        course.length,
-    )
-}
-
-fn withdrawn(list: &[u8], course: Course, argument: &[u8]) -> Course {
-    let targets = names::part_of(list, 0, course.length);
-    let state = course.state;
-    course_of(
-        dogwood::dogwood_steps_withdraw(targets, state, letter(argument)),
-        course.length,
-    )
-}
-
-// The rule changed: nothing is answered, and a list has zeros in the place of an answer.
-fn moved(course: Course) -> Course {
-    let state = course.state;
-    Course {
-        answer: written(0, 0),
-        state: dogwood::dogwood_steps_move(state),
-        length: course.length,
+    // The fields are read before the list is lent: the borrow checker does not cover a reading of
+    // them behind it.
+    fn step(&mut self, buffer: &mut [u8]) {
+        let (schema, condition) = (self.schema, self.condition);
+        let (state, length) = (self.state, self.length);
+        let targets = names::part_of(self.list, 0, length);
+        let stepped = dogwood::dogwood_steps_step(schema, condition, targets, state, buffer);
+        self.come_to(stepped);
     }
-}
 
-// A target appended: where it is refused the list is as long as it was.
-fn appended(list: &mut [u8], course: Course, target: &[u8]) -> Course {
-    let answer = unvisited(dogwood::dogwood_steps_append(list, course.length, target));
-    Course {
-        answer,
-        length: if answer.number == 0 {
-            answer.count
-        } else {
-            course.length
-        },
-        ..course
+    fn withdraw(&mut self, argument: &[u8]) {
+        let (state, length) = (self.state, self.length);
+        let targets = names::part_of(self.list, 0, length);
+        let stepped = dogwood::dogwood_steps_withdraw(targets, state, letter(argument));
+        self.come_to(stepped);
+    }
+
+    // The rule changed: nothing is answered, and a list has zeros in the place of an answer.
+    fn move_rule(&mut self) {
+        self.answer = written(0, 0);
+        self.state = dogwood::dogwood_steps_move(self.state);
+    }
+
+    // A target appended: where it is refused the list is as long as it was.
+    fn append(&mut self, target: &[u8]) {
+        self.answer = unvisited(dogwood::dogwood_steps_append(self.list, self.length, target));
+        if self.answer.number == 0 {
+            self.length = self.answer.count;
+        }
     }
 }

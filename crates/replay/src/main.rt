@@ -12,8 +12,8 @@ mod history;
 use cases::{Case, Cases, same_numbers, same_output};
 use dogwood::{Answer, CheckAnswer};
 use operands::Operand;
-use std::io;
 use std::rt::Files;
+use std::{fmt, io};
 
 // Room for a whole list.
 const LIST_SPACE: usize = 2097152;
@@ -26,18 +26,19 @@ struct Tally {
     first: Option<usize>,
 }
 
-// The number that the reader of a letter gives.
-fn number(letter: u8, record: &[u8]) -> u8 {
+// The number that the reader of a letter gives; none for a letter that no case has.
+fn number(letter: u8, record: &[u8]) -> Option<u8> {
     match letter {
-        b's' => dogwood::dogwood_read_schema(record),
-        b'c' => dogwood::dogwood_read_condition(record),
-        b't' => dogwood::dogwood_read_targets(record),
-        b'p' => dogwood::dogwood_read_path(record),
-        _ => 255,
+        b's' => Some(dogwood::dogwood_read_schema(record)),
+        b'c' => Some(dogwood::dogwood_read_condition(record)),
+        b't' => Some(dogwood::dogwood_read_targets(record)),
+        b'p' => Some(dogwood::dogwood_read_path(record)),
+        _ => None,
     }
 }
 
-// The check by rules, with few slots of workspace: 1 is strict, and 2 gives each binder its own body.
+// The check by rules, with few slots of workspace. The rules are bits, since `dogwood_check_with`
+// takes them so: 1 is strict, and 2 gives each binder its own body.
 fn ruled<'a>(rules: u8, a: &'a [u8], b: &'a [u8], c: &'a [u8], buffer: &mut [u8]) -> CheckAnswer {
     let mut workspace = [0; 8];
     dogwood::dogwood_check_with(rules, a, b, c, buffer, &mut workspace)
@@ -45,12 +46,7 @@ fn ruled<'a>(rules: u8, a: &'a [u8], b: &'a [u8], c: &'a [u8], buffer: &mut [u8]
 
 // The answer of an operation that makes no visits.
 fn unvisited(answer: Answer) -> CheckAnswer {
-    CheckAnswer {
-        number: answer.number,
-        record: answer.record,
-        count: answer.count,
-        visits: 0,
-    }
+    typecheck::with_visits(answer, 0)
 }
 
 // A number, and how many bytes were written.
@@ -63,20 +59,18 @@ fn written(number: u8, count: usize) -> CheckAnswer {
     }
 }
 
-// What no case has.
-fn refused() -> CheckAnswer {
-    written(255, 0)
-}
-
-// The exported function of a letter, with a buffer of the size that its case asks for.
-fn exported(letter: u8, case: Case, buffer: &mut [u8]) -> CheckAnswer {
+// The exported function of a letter, with a buffer of the size that its case asks for; none for
+// what no case has. The letters are those of the lists, here as in `number`, `answered` and the
+// calls of a history, and each is told apart in one function alone. A case and the buffer go on one
+// by one: a struct of them would hold a `&mut` for one call.
+fn exported(letter: u8, case: Case, buffer: &mut [u8]) -> Option<CheckAnswer> {
     let Case {
         first: a,
         second: b,
         third: c,
         ..
     } = case;
-    match letter {
+    let answer = match letter {
         b'k' => dogwood::dogwood_check(a, b, c, buffer),
         b'x' => ruled(1, a, b, c, buffer),
         b'o' => ruled(2, a, b, c, buffer),
@@ -84,39 +78,38 @@ fn exported(letter: u8, case: Case, buffer: &mut [u8]) -> CheckAnswer {
         b'n' => unvisited(dogwood::dogwood_sums_with(2, a, buffer)),
         b'l' => unvisited(dogwood::dogwood_lookup(a, b, c, buffer)),
         b'w' => unvisited(dogwood::dogwood_windows(a, program::u64_at(b, 0), buffer)),
-        b'h' => history::in_steps(a, b, c, buffer).unwrap_or(refused()),
-        _ => written(number(letter, a), 0),
-    }
+        b'h' => history::in_steps(a, b, c, buffer)?,
+        _ => written(number(letter, a)?, 0),
+    };
+    Some(answer)
 }
 
-// The rendered type of an operand, and how long it is; what no case has where the records give
-// none.
-fn operand(case: Case, position: usize, which: Operand, buffer: &mut [u8]) -> CheckAnswer {
+// The rendered type of an operand, and how long it is; none where the records give no type.
+fn operand(case: Case, position: usize, which: Operand, buffer: &mut [u8]) -> Option<CheckAnswer> {
     match operands::operand_type(case.first, case.second, case.third, position, which, buffer) {
-        operands::Answer::Written(n) => written(0, n),
-        operands::Answer::Untyped => written(0, 0),
-        operands::Answer::NoComparison | operands::Answer::Refused(_, _) => refused(),
+        Ok(operands::Answer::Written(n)) => Some(written(0, n)),
+        Ok(operands::Answer::Untyped) => Some(written(0, 0)),
+        Ok(operands::Answer::NoComparison) | Err(_) => None,
     }
 }
 
-// What the operation of a case answers.
-fn answered(case: Case, buffer: &mut [u8]) -> CheckAnswer {
+// What the operation of a case answers; none for what no case has.
+fn answered(case: Case, buffer: &mut [u8]) -> Option<CheckAnswer> {
     let size = names::u16_at(case.head, 5);
     match case.letter() {
         b'e' => operand(case, size, Operand::Left, buffer),
         b'f' => operand(case, size, Operand::Right, buffer),
-        letter => match buffer.get_mut(..size) {
-            Some(part) => exported(letter, case, part),
-            None => refused(),
-        },
+        letter => exported(letter, case, buffer.get_mut(..size)?),
     }
 }
 
 // Whether a case goes as it says. No case asks for a larger buffer.
 fn agrees(case: Case) -> bool {
     let mut buffer = [0xA5; 8192];
-    let answer = answered(case, &mut buffer);
-    same_numbers(case.head, answer) && same_output(case.output, &buffer)
+    match answered(case, &mut buffer) {
+        Some(answer) => same_numbers(case.head, answer) && same_output(case.output, &buffer),
+        None => false,
+    }
 }
 
 // One more case. None of the numbers comes near the largest.
@@ -143,32 +136,43 @@ fn all(list: &[u8]) -> Tally {
     tally
 }
 
-// `NAME: 12 cases, 0 differ`, and where some differ which is the first.
-fn told(out: &impl Print, file: &[u8], tally: Tally) -> io::Result<()> {
-    out.write_all(file)?;
-    print!(out; ": {} cases, {} differ", tally.cases, tally.differ)?;
-    if let Some(first) = tally.first {
-        print!(out; ", the first is case {first}")?;
+// `12 cases, 0 differ`, and where some differ which is the first.
+impl fmt::Display for Tally {
+    fn fmt<W: fmt::Write>(&self, f: &mut fmt::Formatter<W>) -> fmt::Result {
+        write!(f, "{} cases, {} differ", self.cases, self.differ)?;
+        match self.first {
+            Some(first) => write!(f, ", the first is case {first}"),
+            None => Ok(()),
+        }
     }
-    out.write_all(b"\n")
 }
 
-// Runs the cases of a file, and prints how they went.
-fn replay(rt: &(impl Files + Print), err: &impl Print, file: &[u8]) -> io::Result<()> {
-    program::with_file::<LIST_SPACE, _>(rt, err, file, |list| told(rt, file, all(list)))
+// Runs the cases of a file, and prints how they went behind its name.
+fn replay(rt: &(impl Files + Print), err: &impl Print, file: &str) -> io::Result<()> {
+    program::with_file::<LIST_SPACE, _>(
+        rt,
+        err,
+        file.as_bytes(),
+        |list| println!(rt; "{file}: {}", all(list)),
+    )
 }
 
 fn main(rt: HostRuntime) -> io::Result<()> {
     let err = rt.stderr();
-    replay(&rt, &err, b"readers.cases")?;
-    replay(&rt, &err, b"check.cases")?;
-    replay(&rt, &err, b"strict.cases")?;
-    replay(&rt, &err, b"sums.cases")?;
-    replay(&rt, &err, b"lookup.cases")?;
-    replay(&rt, &err, b"windows.cases")?;
-    replay(&rt, &err, b"values.cases")?;
-    replay(&rt, &err, b"times.cases")?;
-    replay(&rt, &err, b"own.cases")?;
-    replay(&rt, &err, b"steps.cases")?;
-    replay(&rt, &err, b"terms.cases")
+    for file in [
+        "readers.cases",
+        "check.cases",
+        "strict.cases",
+        "sums.cases",
+        "lookup.cases",
+        "windows.cases",
+        "values.cases",
+        "times.cases",
+        "own.cases",
+        "steps.cases",
+        "terms.cases",
+    ] {
+        replay(&rt, &err, file)?;
+    }
+    Ok(())
 }

@@ -10,8 +10,9 @@ ghost use Rattle.reports.specs.Placed.{Writes};
 use crate::{Answer, Report, State};
 use names::{Refusal, put, put_u16, put_u32};
 
-// A report in steps, where its message is written straight to the buffer: has_room; then put_header, the message's writers from
-// there on and one_more; or stopped. The law `append_stored` says that this appends the report, `append_stopped` that no room stops the run.
+// A report in steps, where its message is written straight to the buffer: has_room; then
+// put_header, the message's writers from there on and one_more; or stopped. The law `append_stored`
+// says that this appends the report, `append_stopped` that no room stops the run.
 
 // Whether a report is put in whose message has so many bytes.
 #[tactic(auto, unfolding(crate::specs::Sink::room_for))]
@@ -74,7 +75,11 @@ pub fn answer_of(state: State) -> Answer
     ensures { Answers state result }
 {
     Answer {
-        number: if state.full { 11 } else { 0 },
+        number: if state.full {
+            u8::from(Refusal::NoSpace)
+        } else {
+            0
+        },
         record: 0,
         count: state.count,
     }
@@ -99,7 +104,8 @@ pub fn refuse(refusal: Refusal, which: u8) -> Answer
     refused(u8::from(refusal), which)
 }
 
-// The same by a number.
+// It refuses by a number. In this repository `refuse` alone calls it; it stays a public function
+// for callers that have a number and no `Refusal`.
 #[tactic(auto, unfolding(crate::specs::Answers::outcome_of))]
 pub fn refused(number: u8, which: u8) -> Answer
     ensures { Refuses number which result }

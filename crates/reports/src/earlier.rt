@@ -8,7 +8,8 @@ ghost use Rattle.reports.specs.Decode.{long_at, report, reports, Whole};
 use crate::Report;
 use names::{part_of, same, u16_at, u32_at};
 
-// Whether the report at a place has the start and the message of this one: the start is tested first, then the length, then the bytes.
+// Whether the report at a place has the start and the message of this one: the start is tested
+// first, then the length, then the bytes.
 pub fn is_repeat(buf: &[u8], at: usize, it: Report<'_>) -> bool
     requires { at + 10 + long_at buf.now at ≤ length buf.now }
     ensures { result ≡ same_pair (breach_of it.entry) (report (drop at buf.now)) }

@@ -1,4 +1,11 @@
 // Reports in a lent buffer: each a message with its start and end, as many whole ones as fit.
+//
+// The buffer, the table of its reports and the state stay parameters of their own, and what holds
+// of them stays a clause. A struct that kept the two lent parts would have to promise in each
+// function that they are still the same parts when it returns: two clauses more for the one that
+// would go, and the caller, who lends them for one call at a time, would make it anew for each. The
+// functions that only look at the buffer are called with these parts too, so that a struct for them
+// alone would be made anew at each of their calls.
 #![tactic(auto)]
 
 ghost use Rattle.std.specs.Prelude.{◌<◌, length};
@@ -16,10 +23,10 @@ pub use buffer::{
 pub use pieces::{put_piece, text_size, word_count};
 pub use slots::clear;
 pub use standing::{refile, resume};
-pub use tabled::{push, push_scratch};
+pub use tabled::push;
 
-// What the buffer holds: the bytes used, the reports in them, and whether one did not fit. (The flag is no Option's shape: the
-// bytes and the reports stand and count on where one did not fit.)
+// What the buffer holds: the bytes used, the reports in them, and whether one did not fit. (The
+// flag is no Option's shape: the bytes and the reports stand and count on where one did not fit.)
 #[derive(Clone, Copy, Default)]
 pub struct State {
     pub used: usize,
@@ -51,8 +58,9 @@ pub struct Resumed {
     pub size: usize,
 }
 
-// What a run answers: the number of a refusal, 0 for none; the record that it is about, 0 for none; how many reports the buffer holds.
-// (It crosses the C interface, so it has these numbers, and neither an Option nor a Result.)
+// What a run answers: the number of a refusal, 0 for none; the record that it is about, 0 for none;
+// how many reports the buffer holds. (It crosses the C interface, so it has these numbers, and
+// neither an Option nor a Result.)
 #[repr(C)]
 #[derive(Clone, Copy)]
 pub struct Answer {

@@ -1,39 +1,73 @@
 // The fixed texts of the messages.
-ghost use Rattle.std.specs.Prelude.{◌≡◌, [], ◌+◌, ◌<◌, ◌≤◌, length, get_or};
+ghost use Rattle.std.specs.Prelude.{◌≡◌, ◌+◌, ◌≤◌, length};
 ghost use Rattle.names.specs.Writer.{Stored};
 ghost use Rattle.reports.specs.Messages.{part, text_size, words};
-ghost use Rattle.reports.specs.Laws.Messages.{first_of, pieces};
 
 use crate::Message;
 use names::put;
 
-// The texts between the words that a message quotes, message by message, one behind the other, and where each begins and the last one ends.
-const PIECES: [u8; 899] =
-    *b"argument `` of `` expects `` but got ```tp()` binds `` to the current timepoint, but `` is declared ``; a `tp` variable must be declared `Timepoint`comparison requires numeric operands on both sides, got `` and ``equality requires both sides to have the same type, got `` and ``a wildcard (`*` / `_`) cannot appear inside an arithmetic expression; it resolves to no value, so the whole guard would be silently falsearithmetic operates only on `Long` values, but this operand has type ``cannot sum ``: sum requires a `Long` summand, but `` is ``.cannot sum ``: sum requires a `Long` summand, but `` is `Timepoint`. Timepoints are ordinal positions, not quantities \xe2\x80\x94 use a Timepoint in the `for (\xe2\x80\xa6)` binders to keep per-timepoint rows, not as the value being summed.cannot sum ``: sum requires a `Long` summand, but `` is `Decimal`. Dogwood arithmetic operates only on `Long` values, not decimals.";
-
-const STARTS: [usize; 30] = [
-    0, 10, 16, 27, 38, 39, 43, 53, 86, 101, 148, 205, 212, 213, 270, 277, 278, 415, 485, 486, 498,
-    537, 543, 545, 557, 596, 768, 780, 819, 899,
+// The texts between the words that a message quotes, a table for each message.
+const WRONG_ARGUMENT: [&[u8]; 5] = [
+    b"argument `",
+    b"` of `",
+    b"` expects `",
+    b"` but got `",
+    b"`",
 ];
 
-// The numbers of a message are a match each: an array of them by a message's rank would not show which number is whose.
+const WRONG_TIMEPOINT: [&[u8]; 5] = [
+    b"`tp(",
+    b")` binds `",
+    b"` to the current timepoint, but `",
+    b"` is declared `",
+    b"`; a `tp` variable must be declared `Timepoint`",
+];
 
-// The place of a message's first text in the table.
-fn first_piece(which: Message) -> usize
-    ensures { result ≡ first_of which }
-{
-    match which {
-        Message::WrongArgument => 0,
-        Message::WrongTimepoint => 5,
-        Message::NotNumeric => 10,
-        Message::UnlikeTypes => 13,
-        Message::WildcardInside => 16,
-        Message::NotLong => 17,
-        Message::CannotSum => 19,
-        Message::CannotSumTimepoint => 23,
-        Message::CannotSumDecimal => 26,
-    }
-}
+const NOT_NUMERIC: [&[u8]; 3] = [
+    b"comparison requires numeric operands on both sides, got `",
+    b"` and `",
+    b"`",
+];
+
+const UNLIKE_TYPES: [&[u8]; 3] = [
+    b"equality requires both sides to have the same type, got `",
+    b"` and `",
+    b"`",
+];
+
+const WILDCARD_INSIDE: [&[u8]; 1] = [
+    b"a wildcard (`*` / `_`) cannot appear inside an arithmetic expression; \
+      it resolves to no value, so the whole guard would be silently false",
+];
+
+const NOT_LONG: [&[u8]; 2] = [
+    b"arithmetic operates only on `Long` values, but this operand has type `",
+    b"`",
+];
+
+const CANNOT_SUM: [&[u8]; 4] = [
+    b"cannot sum `",
+    b"`: sum requires a `Long` summand, but `",
+    b"` is `",
+    b"`.",
+];
+
+const CANNOT_SUM_TIMEPOINT: [&[u8]; 3] = [
+    b"cannot sum `",
+    b"`: sum requires a `Long` summand, but `",
+    b"` is `Timepoint`. Timepoints are ordinal positions, not quantities \xe2\x80\x94 \
+      use a Timepoint in the `for (\xe2\x80\xa6)` binders to keep per-timepoint rows, \
+      not as the value being summed.",
+];
+
+const CANNOT_SUM_DECIMAL: [&[u8]; 3] = [
+    b"cannot sum `",
+    b"`: sum requires a `Long` summand, but `",
+    b"` is `Decimal`. Dogwood arithmetic operates only on `Long` values, not decimals.",
+];
+
+// The numbers of a message are a match each: an array of them by a message's rank would not show
+// which number is whose, and the sizes are not added up anew for each message that is measured.
 
 // How many bytes a message's texts have: with those of its words, the message's length.
 pub fn text_size(which: Message) -> usize
@@ -69,21 +103,29 @@ pub fn word_count(which: Message) -> usize
     }
 }
 
-// The text at a place of the table.
-fn put_text(out: &mut [u8], at: usize, n: usize) -> usize
-    requires { (n < 29) × (at + length (get_or pieces n []) ≤ length out.old) }
-    ensures { Stored out.old at (get_or pieces n []) out.new result }
+// A text of a message.
+#[tactic(auto, unfolding(crate::specs::Messages::parts, names::specs::Text::text))]
+fn text_of(which: Message, i: usize) -> &'static [u8]
+    requires { i ≤ words which }
+    ensures { result.now ≡ part which i }
 {
-    let from = STARTS[n];
-    let to = STARTS[n + 1];
-    let pieces = PIECES;
-    put(out, at, &pieces[from..to])
+    match which {
+        Message::WrongArgument => WRONG_ARGUMENT[i],
+        Message::WrongTimepoint => WRONG_TIMEPOINT[i],
+        Message::NotNumeric => NOT_NUMERIC[i],
+        Message::UnlikeTypes => UNLIKE_TYPES[i],
+        Message::WildcardInside => WILDCARD_INSIDE[i],
+        Message::NotLong => NOT_LONG[i],
+        Message::CannotSum => CANNOT_SUM[i],
+        Message::CannotSumTimepoint => CANNOT_SUM_TIMEPOINT[i],
+        Message::CannotSumDecimal => CANNOT_SUM_DECIMAL[i],
+    }
 }
 
-// A text of a message.
+// Writes a text of a message.
 pub fn put_piece(out: &mut [u8], at: usize, which: Message, i: usize) -> usize
     requires { (i ≤ words which) × (at + length (part which i) ≤ length out.old) }
     ensures { Stored out.old at (part which i) out.new result }
 {
-    put_text(out, at, first_piece(which) + i)
+    put(out, at, text_of(which, i))
 }

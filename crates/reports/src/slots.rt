@@ -1,5 +1,6 @@
-// The table of the reports so far, by a number made of their start and message: a repeat is found without asking all reports.
-// Its first entry is a key, which the caller may choose, and the slots are the entries behind it.
+// The table of the reports so far, by a number made of their start and message: a repeat is found
+// without asking all reports. Its first entry is a key, which the caller may choose, and the slots
+// are the entries behind it.
 ghost use Rattle.std.specs.Prelude.{◌≡◌, ◌+◌, ◌*◌, ◌<◌, ◌≤◌, length, get_or, set, take, drop};
 ghost use Rattle.names.specs.Fields.{number};
 ghost use Rattle.reports.specs.Sink.{sink, breach_of, Sound, held};
@@ -62,7 +63,8 @@ fn hash_message(by: u32, message: &[u8]) -> u32
     mix_bytes(by, join(by, one, two), rest)
 }
 
-// The number of a start and a message. Without the square the starts' slots would stand about as far from each other under one message as under another.
+// The number of a start and a message. Without the square the starts' slots would stand about as
+// far from each other under one message as under another.
 #[tactic(auto, unfolding(crate::specs::Slots::hashed))]
 fn hash(key: u32, it: Report<'_>) -> u32
     ensures { result ≡ hashed key it.entry.start it.entry.message.now }
@@ -89,7 +91,8 @@ fn slot_at(size: usize, first: usize, k: usize) -> usize
     if k < behind { first + k } else { k - behind }
 }
 
-// What a slot holds.
+// What a slot holds: 0 where it is free, else the place of a report and one more. It is no Option,
+// since the table is lent as numbers of 32 bits.
 fn entry_at(table: &[u32], at: usize) -> usize
     requires { at + 1 < length table.now }
     ensures { result ≡ get_or (slots_of table.now) at 0 }
@@ -97,7 +100,8 @@ fn entry_at(table: &[u32], at: usize) -> usize
     table[at + 1] as usize
 }
 
-// The slot that a report is put into, the first free one from its own slot on; none, where the table has its start and message.
+// The slot that a report is put into, the first free one from its own slot on; none, where the
+// table has its start and message.
 pub fn find(buf: &[u8], state: State, table: &[u32], it: Report<'_>) -> Option<usize>
     requires sound { Sound (sink buf.now state) }
     requires tabled { Tabled (key_of table.now) (held (sink buf.now state)) (slots_of table.now) }

@@ -1,4 +1,5 @@
-// A buffer that is handed back: the reports that stand whole at its front, and their places in a table.
+// A buffer that is handed back: the reports that stand whole at its front, and their places in a
+// table.
 ghost use Rattle.std.specs.Prelude.{◌≡◌, true, false, ◌+◌, ◌<◌, ◌≤◌, length};
 ghost use Rattle.reports.specs.Decode.{long_at};
 ghost use Rattle.reports.specs.Sink.{sink, Sound, more};
@@ -8,21 +9,20 @@ ghost use Rattle.reports.specs.Standing.{standing_state, HeaderAt, EndsAt, Resum
 use crate::buffer::one_more;
 use crate::slots::{clear, file, find, is_open};
 use crate::{Header, Report, Resumed, State};
-use names::{part_of, wide, word_at};
+use names::{part_of, word_at};
 
-// The header of the report at a place. The start and the end come by one load of eight bytes: each by itself would be four loads.
+// The header of the report at a place. The start and the end come by one load of eight bytes: each
+// by itself would be four loads.
 fn header_at(buf: &[u8], at: usize) -> Header
     requires { at + 10 ≤ length buf.now }
     ensures here { HeaderAt buf.now at result }
     ensures long_bound { result.long < 65536 }
 {
     let both = word_at(buf, at);
-    let high = wide(buf[at + 8]);
-    let low = wide(buf[at + 9]);
     Header {
         start: (both / 4294967296) as u32,
         end: (both % 4294967296) as u32,
-        long: high * 256 + low,
+        long: usize::from(u16::from_be_bytes([buf[at + 8], buf[at + 9]])),
     }
 }
 
@@ -42,7 +42,8 @@ fn report_end(buf: &[u8], at: usize) -> Option<usize>
     Some(at + 10 + header.long)
 }
 
-// The state of a buffer that holds nothing but the reports that stand whole at the front of some bytes.
+// The state of a buffer that holds nothing but the reports that stand whole at the front of some
+// bytes.
 fn standing_state(bytes: &[u8]) -> State
     ensures value { result ≡ standing_state bytes.now }
     ensures sound { Sound (sink bytes.now result) }
@@ -54,8 +55,10 @@ fn standing_state(bytes: &[u8]) -> State
     state
 }
 
-// What a buffer holds of which so many bytes are used: the reports that stand whole at the front of these bytes, and how many of its bytes may be used further. All
-// of them where nothing else stands there, else only those of these reports.
+// What a buffer holds of which so many bytes are used: the reports that stand whole at the front of
+// these bytes, and how many of its bytes may be used further. All of them where nothing else stands
+// there, else only those of these reports. The buffer is lent whole beside `used`, and not only its
+// front: the bytes behind `used` are counted among those that may be used.
 pub fn resume(buf: &[u8], used: usize) -> Resumed
     ensures { Resumes buf.now used result }
 {
@@ -68,7 +71,8 @@ pub fn resume(buf: &[u8], used: usize) -> Resumed
     Resumed { state, size }
 }
 
-// The report that stands behind those of a state, put into a table that takes one more, where the table does not have its pair.
+// The report that stands behind those of a state, put into a table that takes one more, where the
+// table does not have its pair.
 fn file_next(buf: &[u8], table: &mut [u32], state: State) -> State
     requires sound { Sound (sink buf.now state) × (state.full ≡ false) }
     requires filed { Filed (sink buf.now state) table.old }
@@ -92,14 +96,16 @@ fn file_next(buf: &[u8], table: &mut [u32], state: State) -> State
     next
 }
 
-// The reports of a buffer put into a table, as long as it takes more, whatever it held before. The key stays.
+// The reports of a buffer put into a table, as long as it takes more, whatever it held before. The
+// key stays.
 pub fn refile(buf: &[u8], state: State, table: &mut [u32])
     requires { Sound (sink buf.now state) }
     ensures { Filed (sink buf.now state) table.new }
 {
     clear(table);
     let mut filed = State::default();
-    // The count of what is filed lies in the state that `file_next` returns: no index is counted beside it.
+    // The count of what is filed lies in the state that `file_next` returns: no index is counted
+    // beside it.
     while filed.count < state.count {
         if !is_open(buf, table, filed) {
             return;

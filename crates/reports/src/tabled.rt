@@ -1,5 +1,6 @@
-// One breach into the buffer, where no report has its message and start: the reports so far are looked up in a table, and one by one only where it takes no more.
-ghost use Rattle.std.specs.Prelude.{◌≡◌, true, false, [], ◌∷◌, ◌<◌, length, take};
+// One breach into the buffer, where no report has its message and start: the reports so far are
+// looked up in a table, and one by one only where it takes no more.
+ghost use Rattle.std.specs.Prelude.{◌≡◌, true, false, [], ◌∷◌};
 ghost use Rattle.reports.specs.Sink.{sink, breach_of, Sound, push};
 ghost use Rattle.reports.specs.Slots.{is_open, Filed, FreeIn, Lent, Pushed};
 
@@ -7,9 +8,9 @@ use crate::buffer::append_report;
 use crate::earlier::seen;
 use crate::slots::{file, find, is_open};
 use crate::{Report, State};
-use names::part_of;
 
-// One breach that no report is, put into the buffer and, where it fits, into a slot that is free for it.
+// One breach that no report is, put into the buffer and, where it fits, into a slot that is free
+// for it.
 fn add_filed(buf: &mut [u8], table: &mut [u32], slot: usize, state: State, it: Report<'_>) -> State
     requires sound { Sound (sink buf.old state) }
     requires free_in { FreeIn buf.old state table.old (breach_of it) slot }
@@ -52,7 +53,8 @@ fn push_searched(buf: &mut [u8], table: &[u32], state: State, it: Report<'_>) ->
     append_report(buf, state, it)
 }
 
-// One breach, where no report has its message and start: the table tells, and where it takes no more the reports do.
+// One breach, where no report has its message and start: the table tells, and where it takes no
+// more the reports do.
 pub fn push(buf: &mut [u8], table: &mut [u32], state: State, it: Report<'_>) -> State
     requires { Lent (sink buf.old state) table.old }
     ensures { Pushed buf.old state (breach_of it.entry ∷ []) buf.new result table.new }
@@ -64,31 +66,4 @@ pub fn push(buf: &mut [u8], table: &mut [u32], state: State, it: Report<'_>) -> 
         return push_filed(buf, table, state, it);
     }
     push_searched(buf, table, state, it)
-}
-
-// The same of a message that was composed in a scratch: its first n bytes.
-pub fn push_scratch(
-    buf: &mut [u8],
-    table: &mut [u32],
-    state: State,
-    start: u32,
-    end: u32,
-    scratch: &[u8],
-    n: usize,
-) -> State
-    requires lent { Lent (sink buf.old state) table.old }
-    requires n_bound { n < 65536 }
-    ensures { Pushed buf.old state (record { start = start; end = end; message = take n scratch.now } ∷ []) buf.new result table.new }
-{
-    let message = part_of(scratch, 0, n);
-    push(
-        buf,
-        table,
-        state,
-        Report {
-            start,
-            end,
-            message,
-        },
-    )
 }

@@ -5,14 +5,15 @@ use mathlib.Core.List.{List, [], ◌∷◌}
 use mathlib.Core.Option.{Option, none, some}
 use Prim.Native.Nat.{ℕ, ◌+◌, ◌-◌, ◌≤◌, ◌<◌}
 use native.Mathlib.Omega.{arith}
-use lib.ListN.{length, get_or}
+use lib.ListN.{length, get_or, drop}
 use borrow.Author.Rules.{rules}
 use Rattle.names.specs.Lists.{any_of, select}
 use Rattle.names.specs.Fields.{string_of}
 use Rattle.names.specs.Names.{path_name, same, simple_name}
 use Rattle.names.specs.Read.{word_at, Listed, Found}
+use Rattle.names.specs.Laws.Walks.{take_at_most}
 use Rattle.names.specs.Laws.Rows.{Remaining, remaining_all, remaining_over, StringsLeft, strings_left}
-use Rattle.types.specs.Meaning.{tag_of, layered, rich_of}
+use Rattle.types.specs.Meaning.{bytes_of, tag_of, layered, rich_of}
 use Rattle.types.specs.Laws.Texts.{layers_in, tag_in, Small}
 use Rattle.types.specs.declared.Tag.{Tag}
 use Rattle.types.specs.declared.Base.TheVariants as Base
@@ -26,7 +27,6 @@ use Rattle.targets.specs.Places.{narrowed, targets_in}
 use Rattle.targets.specs.declared.Narrowed.{Narrowed}
 use Rattle.resolution.specs.Resolution.{ancestors_of, admits, admitted_by, side_admits, admitted, admits_any_env, entity_of, scope_type}
 use Rattle.resolution.specs.Places.{are_types, types_in, is_absent, Nearer, Follows, NextOf, NextNearOf, NextPlaced, typed_of, small_type}
-use Rattle.resolution.specs.Laws.Sizes.{Bytes, simple_short, word_short}
 use Rattle.std.specs.Prelude.{Some, None, is_some}
 use Rattle.types.specs.declared.Rich.{Rich}
 use Rattle.resolution.specs.Coded.{NextNear, Next}
@@ -306,8 +306,9 @@ pub untagged_small : (s : List ℕ) (r : Rich) → r ≡ record { layers = 0; ba
 unfolding layered layers_in tag_in
 untagged_small s r j c = rw j record { layers = omega arith; tag = omega arith }
 
-pub tagged_small : (s : List ℕ) → Bytes s → (test : List ℕ → Bool) (row : Row) (x : Next) → NextOf s test row x → (p : ℕ) (rest : Row) → x ≡ Some (p, rest) → (tag : Tag) (r : Rich) → r ≡ record { layers = 0; base = Base.Tagged tag } → ((c : List ℕ) → tag_of s c tag ≡ simple_name (word_at s p)) → (c : List ℕ) → Small (rich_of s c r)
+pub tagged_small : (s : List ℕ) (tag : Tag) → tag.len ≤ 255 → (r : Rich) → r ≡ record { layers = 0; base = Base.Tagged tag } → (c : List ℕ) → Small (rich_of s c r)
 unfolding layered layers_in tag_in
-tagged_small s bytes test row x next p rest e tag r j is c = rw j record { layers = omega arith; tag = rw (is c) (simple_short (word_at s p) (word_short s bytes p)) }
+tagged_small s tag short r j c =
+    rw j record { layers = omega arith; tag = let h = take_at_most tag.len (drop tag.at (bytes_of s c tag.source)) in omega (arith, h, short) }
 
 pub ruleset tagging = (rules, type_none, type_rest, type_inside, type_several, type_one, nothing_small, untagged_small, tagged_small)

@@ -19,77 +19,89 @@ use Rattle.names.specs.declared.Row.{Row}
 use Rattle.targets.specs.Targets.{Narrowing}
 use Rattle.resolution.specs.Resolution as Resolution
 use Rattle.resolution.specs.Resolution.{OnType, ambiguous, unknown, typed, types_of, failed, agreed, failure, verdict, on_entity, on_types_by, on_types, declared_all, admitted_by, admitted, scope_path_by, scope_path, renderings}
-use Rattle.resolution.specs.Places.{are_segments, segments_in, Behind, are_types, types_in, Follows, NextPlaced, end_of, small_end, small_path}
-use Rattle.resolution.specs.Passes.{scope_of, briefly, end_alone, end_beside, end_among, with_end, alone_of, among_of}
-use Rattle.resolution.specs.declared.PathEnd.{PathEnd}
+use Rattle.resolution.specs.Places.{segments_in, are_types, types_in, Follows, NextPlaced, end_of, small_end, small_path}
+use Rattle.resolution.specs.Passes.{scope_of, briefly, end_alone, end_beside, end_among, with_end, failed_by, alone_of, among_of}
+use Rattle.resolution.specs.declared.Failure.{Failure}
+use Rattle.resolution.specs.Coded.{PathEnd}
 use Rattle.resolution.specs.declared.ScopePath.{ScopePath}
-use Rattle.resolution.specs.Laws.Segments.{no_segments}
-use Rattle.std.specs.Prelude.{Some, None}
+use Rattle.resolution.specs.Laws.Segments.{unsplit}
+use Rattle.std.specs.Prelude.{Some, None, Ok, Err}
+use Rattle.resolution.specs.Paths.{Splits}
+use Rattle.resolution.specs.declared.path.Headed.{Headed}
+use Rattle.std.specs.Prelude as code
 use Rattle.resolution.specs.Coded.{NextNear}
 
 -- One more entity type, in the code's answers.
+-- the answers by what a path ends in
 module _ (e : PathEnd) where
-  pub alone_resolved : (t : Rich) → e ≡ PathEnd.Resolved t → ScopePath.Resolved t ≡ alone_of e
+  alone_failed_of : (f : Failure) → failed_by f ≡ alone_of (Err f)
+  alone_failed_of (Failure.Missing p) = refl
+  alone_failed_of (Failure.NonRecord p) = refl
+
+  among_failed_of : (f : Failure) → failed_by f ≡ among_of (Err f)
+  among_failed_of (Failure.Missing p) = refl
+  among_failed_of (Failure.NonRecord p) = refl
+
+  pub alone_resolved : (t : Rich) → e ≡ Ok t → ScopePath.Resolved t ≡ alone_of e
   alone_resolved t i = rw i
 
-  pub alone_missing : (p : ℕ) → e ≡ PathEnd.Missing p → ScopePath.Missing p ≡ alone_of e
-  alone_missing p i = rw i
+  pub alone_failed : (f : Failure) → e ≡ Err f → (r : ScopePath) → r ≡ failed_by f → r ≡ alone_of e
+  alone_failed f i r is = rw (i, is) (alone_failed_of f)
 
-  pub alone_plain : (p : ℕ) → e ≡ PathEnd.NonRecord p → ScopePath.NonRecord p ≡ alone_of e
-  alone_plain p i = rw i
+  pub among_failed : (f : Failure) → e ≡ Err f → (r : ScopePath) → r ≡ failed_by f → r ≡ among_of e
+  among_failed f i r is = rw (i, is) (among_failed_of f)
 
-  pub among_missing : (p : ℕ) → e ≡ PathEnd.Missing p → ScopePath.Missing p ≡ among_of e
-  among_missing p i = rw i
-
-  pub among_plain : (p : ℕ) → e ≡ PathEnd.NonRecord p → ScopePath.NonRecord p ≡ among_of e
-  among_plain p i = rw i
+pub ruleset ending = (rules, alone_resolved, alone_failed, among_failed)
 
 module _ (s c : List ℕ) where
   alone_of_lem : (e : PathEnd) → scope_of s c (alone_of e) ≡ end_alone (end_of s c e)
   unfolding end_alone
-  alone_of_lem (PathEnd.Resolved t) = refl
-  alone_of_lem (PathEnd.Missing p) = refl
-  alone_of_lem (PathEnd.NonRecord p) = refl
+  alone_of_lem (Ok t) = refl
+  alone_of_lem (Err (Failure.Missing p)) = refl
+  alone_of_lem (Err (Failure.NonRecord p)) = refl
 
   among_of_lem : (e : PathEnd) → scope_of s c (among_of e) ≡ end_among (end_of s c e)
   unfolding end_among
-  among_of_lem (PathEnd.Resolved t) = refl
-  among_of_lem (PathEnd.Missing p) = refl
-  among_of_lem (PathEnd.NonRecord p) = refl
+  among_of_lem (Ok t) = refl
+  among_of_lem (Err (Failure.Missing p)) = refl
+  among_of_lem (Err (Failure.NonRecord p)) = refl
 
   module _ (t : Rich) where
-    pub beside_same : (u : Rich) (b : Bool) → b ≡ same_type (rich_of s c u) (rich_of s c t) → b ≡ true → scope_of s c (ScopePath.Resolved t) ≡ end_beside (rich_of s c t) (end_of s c (PathEnd.Resolved u))
+    pub beside_same : (u : Rich) (b : Bool) → b ≡ same_type (rich_of s c u) (rich_of s c t) → b ≡ true → scope_of s c (ScopePath.Resolved t) ≡ end_beside (rich_of s c t) (end_of s c (Ok u))
     unfolding end_beside
     beside_same u b is e = rw (← is, e)
 
-    pub beside_other : (u : Rich) (b : Bool) → b ≡ same_type (rich_of s c u) (rich_of s c t) → b ≡ false → scope_of s c ScopePath.Ambiguous ≡ end_beside (rich_of s c t) (end_of s c (PathEnd.Resolved u))
+    pub beside_other : (u : Rich) (b : Bool) → b ≡ same_type (rich_of s c u) (rich_of s c t) → b ≡ false → scope_of s c ScopePath.Ambiguous ≡ end_beside (rich_of s c t) (end_of s c (Ok u))
     unfolding end_beside
     beside_other u b is e = rw (← is, e)
 
     module _ (e : PathEnd) where
-      pub beside_resolved : (u : Rich) → e ≡ PathEnd.Resolved u → (r : ScopePath) → scope_of s c r ≡ end_beside (rich_of s c t) (end_of s c (PathEnd.Resolved u)) → scope_of s c r ≡ end_beside (rich_of s c t) (end_of s c e)
+      pub beside_resolved : (u : Rich) → e ≡ Ok u → (r : ScopePath) → scope_of s c r ≡ end_beside (rich_of s c t) (end_of s c (Ok u)) → scope_of s c r ≡ end_beside (rich_of s c t) (end_of s c e)
       beside_resolved u i r is = rw i is
 
-      pub beside_missing : (p : ℕ) → e ≡ PathEnd.Missing p → scope_of s c (ScopePath.Missing p) ≡ end_beside (rich_of s c t) (end_of s c e)
+      pub beside_failed : (f : Failure) → e ≡ Err f → (r : ScopePath) → r ≡ failed_by f → scope_of s c r ≡ end_beside (rich_of s c t) (end_of s c e)
       unfolding end_beside
-      beside_missing p i = rw i
-
-      pub beside_plain : (p : ℕ) → e ≡ PathEnd.NonRecord p → scope_of s c (ScopePath.NonRecord p) ≡ end_beside (rich_of s c t) (end_of s c e)
-      unfolding end_beside
-      beside_plain p i = rw i
+      beside_failed f i r is = rw (i, is) (go f)
+        where
+          go : (f : Failure) → scope_of s c (failed_by f) ≡ end_beside (rich_of s c t) (end_of s c (Err f))
+          go (Failure.Missing p) = refl
+          go (Failure.NonRecord p) = refl
 
   module _ (a : ScopePath) (e : PathEnd) where
     pub with_resolved : (t : Rich) → a ≡ ScopePath.Resolved t → (r : ScopePath) → scope_of s c r ≡ end_beside (rich_of s c t) (end_of s c e) → scope_of s c r ≡ with_end (scope_of s c a) (end_of s c e)
     unfolding with_end
     with_resolved t i r is = rw i is
 
-    pub with_missing : (p : ℕ) → a ≡ ScopePath.Missing p → scope_of s c (ScopePath.Missing p) ≡ with_end (scope_of s c a) (end_of s c e)
+    pub with_failed : ((t : Rich) → a ≡ ScopePath.Resolved t → ⊥) → (a ≡ ScopePath.Ambiguous → ⊥) → (a ≡ ScopePath.Unknown → ⊥) → scope_of s c a ≡ with_end (scope_of s c a) (end_of s c e)
     unfolding with_end
-    with_missing p i = rw i
-
-    pub with_plain : (p : ℕ) → a ≡ ScopePath.NonRecord p → scope_of s c (ScopePath.NonRecord p) ≡ with_end (scope_of s c a) (end_of s c e)
-    unfolding with_end
-    with_plain p i = rw i
+    with_failed = go a
+      where
+        go : (a : ScopePath) → ((t : Rich) → a ≡ ScopePath.Resolved t → ⊥) → (a ≡ ScopePath.Ambiguous → ⊥) → (a ≡ ScopePath.Unknown → ⊥) → scope_of s c a ≡ with_end (scope_of s c a) (end_of s c e)
+        go (ScopePath.Resolved t) h k l = absurd (h t refl)
+        go (ScopePath.Missing p) h k l = refl
+        go (ScopePath.NonRecord p) h k l = refl
+        go ScopePath.Ambiguous h k l = absurd (k refl)
+        go ScopePath.Unknown h k l = absurd (l refl)
 
     pub with_ambiguous : a ≡ ScopePath.Ambiguous → (r : ScopePath) → r ≡ among_of e → scope_of s c r ≡ with_end (scope_of s c a) (end_of s c e)
     unfolding with_end
@@ -99,9 +111,7 @@ module _ (s c : List ℕ) where
     unfolding with_end
     with_none i r is = rw (i, is) (alone_of_lem e)
 
-pub ruleset ending = (rules, alone_resolved, alone_missing, alone_plain, among_missing, among_plain)
-
-pub ruleset joining = (rules, beside_same, beside_other, beside_resolved, beside_missing, beside_plain, with_resolved, with_missing, with_plain, with_ambiguous, with_none)
+pub ruleset joining = (rules, beside_same, beside_other, beside_resolved, beside_failed, with_resolved, with_failed, with_ambiguous, with_none)
 
 -- The answer for the entity types so far, and on over the others.
 unfoldable pub onward : Resolution.ScopePath → List OnType → Resolution.ScopePath
@@ -287,13 +297,9 @@ pass_start s c N head rest row are = record { stands = are; same = over_all (sch
 
 pub ruleset passing = (rules, pass_start, pass_over, pass_small, pass_fewer, pass_undeclared, pass_declared, pass_on)
 
--- The whole path.
-module _ (s c : List ℕ) (S : Schema) (N : Option Narrowing) (names : List (List ℕ)) (path : Row) (are : are_segments c path ≡ true) where
-  pub scope_empty : path.count ≡ 0 → scope_of s c ScopePath.Unknown ≡ briefly (scope_path S N names (segments_in c path))
-  unfolding scope_path_by briefly
-  scope_empty e = rw (← no_segments c path are (omega arith))
+-- A path without segments is unknown.
+pub scope_empty : (s c : List ℕ) (S : Schema) (N : Option Narrowing) (names : List (List ℕ)) (path : Row) (x : code.Option Headed) → Splits c path x → x ≡ None → scope_of s c ScopePath.Unknown ≡ briefly (scope_path S N names (segments_in c path))
+unfolding scope_path_by briefly
+scope_empty s c S N names path x splits e = rw (unsplit c path x splits e)
 
-  pub scope_whole : (rest : Row) → Behind c path rest → (r : ScopePath) → scope_of s c r ≡ briefly (scope_path S N names (word_at c path.at ∷ segments_in c rest)) → scope_of s c r ≡ briefly (scope_path S N names (segments_in c path))
-  scope_whole rest b r is = rw b.value at is
-
-pub ruleset whole = (rules, nearby_all, scope_empty, scope_whole)
+pub ruleset whole = (rules, nearby_all, scope_empty)

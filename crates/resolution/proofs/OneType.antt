@@ -6,6 +6,7 @@ use mathlib.Core.Option.{Option, none, some}
 use Prim.Native.Nat.{ℕ}
 use native.Mathlib.Omega.{arith}
 use borrow.Author.Rules.{rules}
+use Rattle.std.specs.Prelude.{Ok, Err}
 use Rattle.names.specs.Lists.{maybe}
 use Rattle.names.specs.Names.{same}
 use Rattle.names.specs.Read.{word_at}
@@ -22,8 +23,10 @@ use Rattle.names.specs.declared.Row.{Row}
 use Rattle.resolution.specs.Resolution as Resolution
 use Rattle.resolution.specs.Resolution.{head_missing, nested_missing, nested, descend, resolve_in_by, resolve_in, projection, unattributed, on_entity_by, on_entity}
 use Rattle.resolution.specs.Places.{are_segments, segments_in, resolution_of, end_of, small_resolution, small_end}
-use Rattle.resolution.specs.declared.PathResolution.{PathResolution}
-use Rattle.resolution.specs.declared.PathEnd.{PathEnd}
+use Rattle.resolution.specs.declared.Unresolved.{Unresolved}
+use Rattle.resolution.specs.Coded.{PathResolution}
+use Rattle.resolution.specs.declared.Failure.{Failure}
+use Rattle.resolution.specs.Coded.{PathEnd}
 use Rattle.resolution.specs.Laws.Segments.{first_segment, no_segments}
 
 -- `id` and `type`
@@ -44,15 +47,15 @@ module _ (c : List ℕ) (head : ℕ) (rest : Row) (are : are_segments c rest ≡
   tested : (d : Bool) → b ≡ d → (same (word_at c head) (text "id") || same (word_at c head) (text "type")) ≡ d
   tested d e = rw (← is_w) (sym is_b ∙ e)
 
-  pub part_missing : b ≡ false → Ends (PathEnd.Missing head)
+  pub part_missing : b ≡ false → Ends (Err (Failure.Missing head))
   unfolding unattributed
   part_missing e s = rw (tested false e)
 
-  pub part_alone : b ≡ true → rest.count ≡ 0 → Ends (PathEnd.Resolved (record { layers = 0; base = Base.Plain Scalar.String }))
+  pub part_alone : b ≡ true → rest.count ≡ 0 → Ends (Ok (record { layers = 0; base = Base.Plain Scalar.String }))
   unfolding unattributed projection layered
   part_alone e z s = rw (tested true e, ← no_segments c rest are (omega arith))
 
-  pub part_nested : b ≡ true → (rest.count ≡ 0 → ⊥) → Ends (PathEnd.NonRecord rest.at)
+  pub part_nested : b ≡ true → (rest.count ≡ 0 → ⊥) → Ends (Err (Failure.NonRecord rest.at))
   unfolding unattributed projection
   part_nested e z s = rw (tested true e, ← (first_segment c rest are (omega arith)).same)
 
@@ -95,19 +98,19 @@ module _ (s c : List ℕ) (a f head : ℕ) (rest : Row) (st : Standing (are_fiel
       ap (on_resolution (unattributed (word_at c head) (segments_in c rest))) (is ∙ ap (λ (fields : Attributes). resolve_in fields (word_at c head) (segments_in c rest)) st.value)
       ∙ by_resolution (word_at c head) (segments_in c rest) (entity_in s a)
 
-  pub one_resolved : (t : Rich) → e ≡ PathResolution.Resolved t → On (end_of s c (PathEnd.Resolved t))
+  pub one_resolved : (t : Rich) → e ≡ Ok t → On (end_of s c (Ok t))
   one_resolved t i = rw i at by
 
-  pub one_missing : (p : ℕ) → e ≡ PathResolution.NestedMissing p → On (end_of s c (PathEnd.Missing p))
+  pub one_missing : (p : ℕ) → e ≡ Err (Unresolved.NestedMissing p) → On (end_of s c (Err (Failure.Missing p)))
   one_missing p i = rw i at by
 
-  pub one_plain : (p : ℕ) → e ≡ PathResolution.NonRecord p → On (end_of s c (PathEnd.NonRecord p))
+  pub one_plain : (p : ℕ) → e ≡ Err (Unresolved.NonRecord p) → On (end_of s c (Err (Failure.NonRecord p)))
   one_plain p i = rw i at by
 
-  pub one_head : e ≡ PathResolution.HeadMissing → (r : PathEnd) → ((d : List ℕ) → end_of d c r ≡ unattributed (word_at c head) (segments_in c rest)) → On (end_of s c r)
+  pub one_head : e ≡ (Err Unresolved.HeadMissing) → (r : PathEnd) → ((d : List ℕ) → end_of d c r ≡ unattributed (word_at c head) (segments_in c rest)) → On (end_of s c r)
   one_head i r u = u s ∙ rw i at by
 
-  pub one_small : (t : Rich) → e ≡ PathResolution.Resolved t → small_resolution (resolution_of s c e) → Small (rich_of s c t)
+  pub one_small : (t : Rich) → e ≡ Ok t → small_resolution (resolution_of s c e) → Small (rich_of s c t)
   one_small t i h = rw i at h
 
   pub head_small : (r : PathEnd) → ((d : List ℕ) → end_of d c r ≡ unattributed (word_at c head) (segments_in c rest)) → small_end (end_of s c r)

@@ -23,12 +23,17 @@ use Rattle.schema.specs.Places.{schema_in, is_entity, entity_in, FindsEntity}
 use Rattle.names.specs.declared.Row.{Row}
 use Rattle.targets.specs.Targets.{Narrowing}
 use Rattle.resolution.specs.Resolution.{typed, on_entity, admitted_by, renderings}
-use Rattle.resolution.specs.Places.{are_segments, segments_in, Behind, are_types, types_in, Follows, NextPlaced, end_of, typed_of, small_end, small_type}
+use Rattle.resolution.specs.Places.{segments_in, are_types, types_in, Follows, NextPlaced, end_of, typed_of, small_end, small_type}
 use Rattle.resolution.specs.Passes.{rendered, above, under, closest, type_on, types_on, renderings_on, next_rendered, end_type}
-use Rattle.resolution.specs.declared.PathEnd.{PathEnd}
-use Rattle.resolution.specs.Laws.Segments.{no_segments}
+use Rattle.resolution.specs.declared.Failure.{Failure}
+use Rattle.resolution.specs.Coded.{PathEnd}
+use Rattle.resolution.specs.Laws.Segments.{unsplit}
 use Rattle.resolution.proofs.Texts.{picked, picked_next}
-use Rattle.std.specs.Prelude.{Some, None}
+use Rattle.std.specs.Prelude.{Some, None, Ok, Err}
+use Rattle.resolution.specs.Paths.{Splits}
+use Rattle.resolution.specs.declared.path.Headed.{Headed}
+use Rattle.std.specs.Prelude as code
+use Rattle.std.specs.Result.{result_ok}
 use Rattle.resolution.specs.Coded.{Typed, NextNear}
 
 -- Two texts, each in a scratch of 512 bytes.
@@ -93,23 +98,25 @@ module _ (s c : List ℕ) (last best other : Typed) where
 pub ruleset closing = (rules, closer_none, closer_small, closer_not, closer_yes, closer_behind)
 
 -- The type on one entity type.
-pub end_resolved : (e : PathEnd) (t : Rich) → e ≡ PathEnd.Resolved t → Some t ≡ end_type e
-end_resolved e t i = rw i
+end_ok : (e : PathEnd) → result_ok e ≡ end_type e
+end_ok (Ok t) = refl
+end_ok (Err (Failure.Missing p)) = refl
+end_ok (Err (Failure.NonRecord p)) = refl
 
 module _ (s c : List ℕ) where
   end_typed : (e : PathEnd) → typed_of s c (end_type e) ≡ typed (end_of s c e)
   unfolding typed
-  end_typed (PathEnd.Resolved t) = refl
-  end_typed (PathEnd.Missing p) = refl
-  end_typed (PathEnd.NonRecord p) = refl
+  end_typed (Ok t) = refl
+  end_typed (Err (Failure.Missing p)) = refl
+  end_typed (Err (Failure.NonRecord p)) = refl
 
   end_small : (e : PathEnd) → small_end (end_of s c e) → small_type (typed_of s c (end_type e))
-  end_small (PathEnd.Resolved t) h = h
-  end_small (PathEnd.Missing p) h = h
-  end_small (PathEnd.NonRecord p) h = h
+  end_small (Ok t) h = h
+  end_small (Err (Failure.Missing p)) h = h
+  end_small (Err (Failure.NonRecord p)) h = h
 
-  pub type-small-end : (e : PathEnd) → small_end (end_of s c e) → (r : Typed) → r ≡ end_type e → small_type (typed_of s c r)
-  type-small-end e h r i = rw i (end_small e h)
+  pub type-small-end : (e : PathEnd) → small_end (end_of s c e) → (r : Typed) → r ≡ result_ok e → small_type (typed_of s c r)
+  type-small-end e h r i = rw (i ∙ end_ok e) (end_small e h)
 
   module _ (p head : ℕ) (rest : Row) (w : List ℕ) (is_w : w ≡ word_at s p) (x : Found) (finds : FindsEntity s (find_entity (schema_in s) w) x) where
     pub type_undeclared : x ≡ None → typed_of s c None ≡ type_on (schema_in s) (word_at c head ∷ segments_in c rest) (word_at s p)
@@ -121,13 +128,13 @@ module _ (s c : List ℕ) where
     pub type_declared : (at : ℕ) → x ≡ Some at → is_entity s at ≡ true
     type_declared at g = rw g at finds.stands
 
-    pub type_by : (at : ℕ) → x ≡ Some at → (e : PathEnd) → end_of s c e ≡ on_entity (word_at c head) (segments_in c rest) (entity_in s at) → (r : Typed) → r ≡ end_type e → typed_of s c r ≡ type_on (schema_in s) (word_at c head ∷ segments_in c rest) (word_at s p)
+    pub type_by : (at : ℕ) → x ≡ Some at → (e : PathEnd) → end_of s c e ≡ on_entity (word_at c head) (segments_in c rest) (entity_in s at) → (r : Typed) → r ≡ result_ok e → typed_of s c r ≡ type_on (schema_in s) (word_at c head ∷ segments_in c rest) (word_at s p)
     unfolding type_on
     type_by at g e is r j =
         let i : find_entity (schema_in s) (word_at s p) ≡ some (entity_in s at) = rw (← is_w) (sym finds.value ∙ rw g) in
-        rw (i, ← is, j) (end_typed e)
+        rw (i, ← is, j ∙ end_ok e) (end_typed e)
 
-pub ruleset typing = (rules, end_resolved, type-small-end, type_undeclared, type_declared, type_by)
+pub ruleset typing = (rules, type-small-end, type_undeclared, type_declared, type_by)
 
 -- The pass.
 module _ (s c : List ℕ) (S : Schema) (N : Option Narrowing) (path : List (List ℕ)) (last : Option (List ℕ)) (o : Option Ty) where
@@ -169,18 +176,15 @@ pick_next s c S N path last row best is = rw is (picked_next S path last (select
 
 pub ruleset picking = (rules, pick_start, pick_small, pick_next, pick_over, pick_fewer, pick_on)
 
--- The whole path.
-module _ (s c : List ℕ) (S : Schema) (N : Option Narrowing) (names : List (List ℕ)) (last : Option (List ℕ)) (path : Row) (are : are_segments c path ≡ true) where
+-- A path without segments has no types.
+module _ (s c : List ℕ) (S : Schema) (N : Option Narrowing) (names : List (List ℕ)) (last : Option (List ℕ)) (path : Row) where
   no_types : (ns : List (List ℕ)) → types_on S [] ns ≡ []
   unfolding types_on type_on
   no_types [] = refl
   no_types (n ∷ ns) = no_types ns
 
-  pub picking_empty : path.count ≡ 0 → next_rendered (renderings_on S N names (segments_in c path)) (typed_of s c None) ≡ select (above last) (renderings_on S N names (segments_in c path))
+  pub picking_empty : (x : code.Option Headed) → Splits c path x → x ≡ None → next_rendered (renderings_on S N names (segments_in c path)) (typed_of s c None) ≡ select (above last) (renderings_on S N names (segments_in c path))
   unfolding renderings select
-  picking_empty e = rw (← no_segments c path are (omega arith), no_types (select (admitted_by S N) names))
+  picking_empty x splits e = rw (unsplit c path x splits e, no_types (select (admitted_by S N) names))
 
-  pub picking_whole : (rest : Row) → Behind c path rest → (r : Typed) → next_rendered (renderings_on S N names (word_at c path.at ∷ segments_in c rest)) (typed_of s c r) ≡ select (above last) (renderings_on S N names (word_at c path.at ∷ segments_in c rest)) → next_rendered (renderings_on S N names (segments_in c path)) (typed_of s c r) ≡ select (above last) (renderings_on S N names (segments_in c path))
-  picking_whole rest b r is = rw b.value at is
-
-pub ruleset picking_path = (rules, picking_empty, picking_whole)
+pub ruleset picking_path = (rules, picking_empty)

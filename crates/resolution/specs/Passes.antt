@@ -1,5 +1,5 @@
 -- What one pass over a scope's entity types knows, and what the passes list.
-use Rattle.std.specs.Prelude.{ℕ, Bool, true, false, cond, ◌&&◌, List, [], ◌∷◌, Some, None}
+use Rattle.std.specs.Prelude.{ℕ, Bool, true, false, cond, ◌&&◌, List, [], ◌∷◌, Some, None, Ok, Err}
 use Rattle.std.proofs.Math.Option.{Option, none, some}
 use Rattle.names.specs.Lists.{maybe, select}
 use Rattle.names.specs.Names.{below}
@@ -12,9 +12,9 @@ use Rattle.targets.specs.Targets.{Narrowing}
 use Rattle.resolution.specs.Resolution as Resolution
 use Rattle.resolution.specs.Resolution.{PathEnd, missing_at, typed, on_entity, admitted_by, renderings}
 use Rattle.resolution.specs.declared.ScopePath.{ScopePath}
-use Rattle.resolution.specs.declared.PathEnd as declared
-use Rattle.resolution.specs.declared.PathEnd.TheVariants as End
+use Rattle.resolution.specs.declared.Failure.{Failure}
 use Rattle.resolution.specs.Coded.{Typed}
+use Rattle.resolution.specs.Coded as coded
 
 -- document 01's numbers of the answers
 abbrev pub scope_number : ScopePath → ℕ
@@ -80,16 +80,21 @@ with_end (Resolution.ambiguous words) e = end_among e
 with_end (Resolution.ScopePath.missing segment names) e = Resolution.ScopePath.missing segment []
 with_end (Resolution.ScopePath.non_record segment) e = Resolution.ScopePath.non_record segment
 
--- the same for the code's answers
-abbrev pub alone_of : declared.PathEnd → ScopePath
-alone_of (End.Resolved t) = ScopePath.Resolved t
-alone_of (End.Missing at) = ScopePath.Missing at
-alone_of (End.NonRecord at) = ScopePath.NonRecord at
+-- a failure of a path on one type, as an answer for all
+abbrev pub failed_by : Failure → ScopePath
+failed_by (Failure.Missing at) = ScopePath.Missing at
+failed_by (Failure.NonRecord at) = ScopePath.NonRecord at
 
-abbrev pub among_of : declared.PathEnd → ScopePath
-among_of (End.Resolved t) = ScopePath.Ambiguous
-among_of (End.Missing at) = ScopePath.Missing at
-among_of (End.NonRecord at) = ScopePath.NonRecord at
+-- the same for the code's answers
+abbrev pub alone_of : coded.PathEnd → ScopePath
+alone_of (Ok t) = ScopePath.Resolved t
+alone_of (Err (Failure.Missing at)) = ScopePath.Missing at
+alone_of (Err (Failure.NonRecord at)) = ScopePath.NonRecord at
+
+abbrev pub among_of : coded.PathEnd → ScopePath
+among_of (Ok t) = ScopePath.Ambiguous
+among_of (Err (Failure.Missing at)) = ScopePath.Missing at
+among_of (Err (Failure.NonRecord at)) = ScopePath.NonRecord at
 
 -- a path fails on the entity type of a name by a missing segment
 unfoldable pub fails_at : Schema → List (List ℕ) → List ℕ → List ℕ → Bool
@@ -134,7 +139,7 @@ abbrev pub next_rendered : List (List ℕ) → Option Ty → List (List ℕ)
 next_rendered words o = maybe [] (λ t. render t ∷ select (below (render t)) words) o
 
 -- the type at an end
-abbrev pub end_type : declared.PathEnd → Typed
-end_type (End.Resolved t) = Some t
-end_type (End.Missing at) = None
-end_type (End.NonRecord at) = None
+abbrev pub end_type : coded.PathEnd → Typed
+end_type (Ok t) = Some t
+end_type (Err (Failure.Missing at)) = None
+end_type (Err (Failure.NonRecord at)) = None

@@ -1,5 +1,5 @@
 -- What the code's answers stand for: a type's tag lies in the schema's bytes s, a segment in the bytes c that hold the path.
-use Rattle.std.specs.Prelude.{ℕ, ◌+◌, ◌≤◌, ◌<◌, ◌≡◌, Bool, true, false, List, [], ◌∷◌, length, get_or, Some, None}
+use Rattle.std.specs.Prelude.{ℕ, ◌+◌, ◌≤◌, ◌<◌, ◌≡◌, Bool, true, false, List, [], ◌∷◌, length, get_or, Some, None, Ok, Err}
 use Rattle.std.proofs.Math.Option.{Option, none, some}
 use Rattle.names.specs.Lists.{select}
 use Rattle.names.specs.Fields.{string_of}
@@ -12,8 +12,10 @@ use Rattle.names.specs.declared.Row.{Row}
 use Rattle.schema.specs.Places.{Nearby, Near}
 use Rattle.targets.specs.declared.Narrowed.{Narrowed}
 use Rattle.resolution.specs.Resolution as Resolution
-use Rattle.resolution.specs.declared.PathResolution.{PathResolution}
-use Rattle.resolution.specs.declared.PathEnd.{PathEnd}
+use Rattle.resolution.specs.declared.Unresolved.{Unresolved}
+use Rattle.resolution.specs.Coded.{PathResolution}
+use Rattle.resolution.specs.declared.Failure.{Failure}
+use Rattle.resolution.specs.Coded.{PathEnd}
 use Rattle.resolution.specs.Coded.{Typed, NextNear, Next}
 
 -- the segments of a path, so many plain strings from a position
@@ -40,22 +42,22 @@ typed_of s c (Some t) = some (rich_of s c t)
 typed_of s c None = none
 
 abbrev pub resolution_of : List ℕ → List ℕ → PathResolution → Resolution.PathResolution
-resolution_of s c (PathResolution.Resolved t) = Resolution.PathResolution.resolved (rich_of s c t)
-resolution_of s c PathResolution.HeadMissing = Resolution.head_missing
-resolution_of s c (PathResolution.NestedMissing at) = Resolution.nested_missing (word_at c at)
-resolution_of s c (PathResolution.NonRecord at) = Resolution.PathResolution.non_record (word_at c at)
+resolution_of s c (Ok t) = Resolution.PathResolution.resolved (rich_of s c t)
+resolution_of s c (Err Unresolved.HeadMissing) = Resolution.head_missing
+resolution_of s c (Err (Unresolved.NestedMissing at)) = Resolution.nested_missing (word_at c at)
+resolution_of s c (Err (Unresolved.NonRecord at)) = Resolution.PathResolution.non_record (word_at c at)
 
 -- the type at its end
 abbrev pub leaf_of : PathResolution → Typed
-leaf_of (PathResolution.Resolved t) = Some t
-leaf_of PathResolution.HeadMissing = None
-leaf_of (PathResolution.NestedMissing at) = None
-leaf_of (PathResolution.NonRecord at) = None
+leaf_of (Ok t) = Some t
+leaf_of (Err Unresolved.HeadMissing) = None
+leaf_of (Err (Unresolved.NestedMissing at)) = None
+leaf_of (Err (Unresolved.NonRecord at)) = None
 
 abbrev pub end_of : List ℕ → List ℕ → PathEnd → Resolution.PathEnd
-end_of s c (PathEnd.Resolved t) = Resolution.PathEnd.resolved (rich_of s c t)
-end_of s c (PathEnd.Missing at) = Resolution.PathEnd.missing (word_at c at)
-end_of s c (PathEnd.NonRecord at) = Resolution.PathEnd.non_record (word_at c at)
+end_of s c (Ok t) = Resolution.PathEnd.resolved (rich_of s c t)
+end_of s c (Err (Failure.Missing at)) = Resolution.PathEnd.missing (word_at c at)
+end_of s c (Err (Failure.NonRecord at)) = Resolution.PathEnd.non_record (word_at c at)
 
 -- The types of answers are small, so that their texts are bounded.
 abbrev pub small_type : Option Ty → Type 0

@@ -1,22 +1,24 @@
 // Paths on all the entity types that a scope admits.
-ghost use Rattle.std.specs.Prelude.{◌≡◌, true, ◌∷◌};
-ghost use Rattle.names.specs.Read.{word_at};
+ghost use Rattle.std.specs.Prelude.{◌≡◌, Ok};
 ghost use Rattle.types.specs.Meaning.{rich_of};
-ghost use Rattle.schema.specs.Places.{is_schema, schema_in, Nearby};
-ghost use Rattle.targets.specs.Places.{narrowed};
+ghost use Rattle.schema.specs.Places.{Nearby};
 ghost use Rattle.resolution.specs.Resolution.{scope_path};
-ghost use Rattle.resolution.specs.Places.{are_segments, segments_in, are_types, types_in, end_of, small_path};
-ghost use Rattle.resolution.specs.Passes.{scope_number, scope_of, briefly, end_beside, with_end, alone_of, among_of};
+ghost use Rattle.resolution.specs.Places.{end_of, small_path};
+ghost use Rattle.resolution.specs.Paths.{path_of, headed_of};
+ghost use Rattle.resolution.specs.Scopes.{schema_of, narrowing_of, types_of};
+ghost use Rattle.resolution.specs.Passes.{scope_number, scope_of, briefly, end_beside, with_end, failed_by, alone_of, among_of};
 
-use crate::along::behind;
+use crate::along::split_first;
+use crate::candidates::Candidates;
 use crate::entity::resolve_one;
+use crate::path::{Headed, Path};
 use crate::scope::next_placed;
-use crate::{NextNear, PathEnd, ScopePath};
+use crate::{Failure, PathEnd, ScopePath};
 use names::Row;
-use targets::Narrowed;
 use types::Rich;
 
-// Document 01's number of an answer.
+// Document 01's number of an answer. Three answers hold a type or a place, and `as u8` gives the
+// number of a case only where no case holds anything.
 pub fn scope_number(answer: ScopePath) -> u8
     ensures { result ≡ scope_number answer }
 {
@@ -29,14 +31,28 @@ pub fn scope_number(answer: ScopePath) -> u8
     }
 }
 
+// A failure on one entity type, as an answer for all.
+impl From<Failure> for ScopePath {
+    ghost from_gives = { λ failure answer. answer ≡ failed_by failure };
+
+    fn from(failure: Failure) -> ScopePath {
+        match failure {
+            Failure::Missing(p) => ScopePath::Missing(p),
+            Failure::NonRecord(p) => ScopePath::NonRecord(p),
+        }
+    }
+}
+
+// `alone`, `among` and `beside` differ in the arm of a type: a closure for it would have to carry
+// what each of them promises there.
+//
 // The answer where one entity type is all that is known.
 fn alone(end: PathEnd) -> ScopePath
     ensures { result ≡ alone_of end }
 {
     match end {
-        PathEnd::Resolved(t) => ScopePath::Resolved(t),
-        PathEnd::Missing(p) => ScopePath::Missing(p),
-        PathEnd::NonRecord(p) => ScopePath::NonRecord(p),
+        Ok(t) => ScopePath::Resolved(t),
+        Err(failure) => ScopePath::from(failure),
     }
 }
 
@@ -45,15 +61,15 @@ fn among(end: PathEnd) -> ScopePath
     ensures { result ≡ among_of end }
 {
     match end {
-        PathEnd::Resolved(_) => ScopePath::Ambiguous,
-        PathEnd::Missing(p) => ScopePath::Missing(p),
-        PathEnd::NonRecord(p) => ScopePath::NonRecord(p),
+        Ok(_) => ScopePath::Ambiguous,
+        Err(failure) => ScopePath::from(failure),
     }
 }
 
 // The answer where the others agree on a type.
 fn agreed<'a>(s: &'a [u8], c: &'a [u8], t: Rich, u: Rich) -> ScopePath
-    ensures { scope_of s.now c.now result ≡ end_beside (rich_of s.now c.now t) (end_of s.now c.now (PathEnd.Resolved u)) }
+    ensures { scope_of s.now c.now result
+        ≡ end_beside (rich_of s.now c.now t) (end_of s.now c.now (Ok u)) }
 {
     if types::equal(s, c, u, t) {
         return ScopePath::Resolved(t);
@@ -65,9 +81,8 @@ fn beside<'a>(s: &'a [u8], c: &'a [u8], t: Rich, end: PathEnd) -> ScopePath
     ensures { scope_of s.now c.now result ≡ end_beside (rich_of s.now c.now t) (end_of s.now c.now end) }
 {
     match end {
-        PathEnd::Resolved(u) => agreed(s, c, t, u),
-        PathEnd::Missing(p) => ScopePath::Missing(p),
-        PathEnd::NonRecord(p) => ScopePath::NonRecord(p),
+        Ok(u) => agreed(s, c, t, u),
+        Err(failure) => ScopePath::from(failure),
     }
 }
 
@@ -77,67 +92,51 @@ fn with_end<'a>(s: &'a [u8], c: &'a [u8], known: ScopePath, end: PathEnd) -> Sco
 {
     match known {
         ScopePath::Resolved(t) => beside(s, c, t, end),
-        ScopePath::Missing(p) => ScopePath::Missing(p),
-        ScopePath::NonRecord(p) => ScopePath::NonRecord(p),
         ScopePath::Ambiguous => among(end),
         ScopePath::Unknown => alone(end),
+        failed => failed,
     }
 }
 
-// The path of a head and the other segments, on all admitted entity types of a row, which are looked up from `from` on.
-fn over_types<'a>(
-    s: &'a [u8],
-    n: &[u8],
-    narrowing: Narrowed,
-    row: Row,
-    from: Row,
-    c: &'a [u8],
-    head: usize,
-    rest: Row,
-) -> ScopePath
-    requires s_value { is_schema s.now ≡ true }
-    requires row_value { are_types s.now row ≡ true }
-    requires nearby { Nearby s.now from }
-    requires rest_value { are_segments c.now rest ≡ true }
-    ensures result_value { scope_of s.now c.now result ≡ briefly (scope_path (schema_in s.now) (narrowed n.now narrowing) (types_in s.now row) (word_at c.now head ∷ segments_in c.now rest)) }
-    ensures small_path { small_path (scope_of s.now c.now result) }
+// A path with a first segment, on all admitted candidates, which are looked up from `from` on.
+fn over_types<'a>(candidates: Candidates<'a>, from: Row, path: Headed<'a>) -> ScopePath
+    requires { Nearby candidates.scope.schema.bytes.now from }
+    ensures result_value { scope_of candidates.entry.scope.schema.bytes.now path.entry.rest.bytes.now result
+        ≡ briefly (scope_path (schema_of candidates.entry.scope)
+        (narrowing_of candidates.entry.scope) (types_of candidates.entry) (headed_of path.entry)) }
+    ensures small_path { small_path (scope_of candidates.entry.scope.schema.bytes.now path.entry.rest.bytes.now
+        result) }
 {
-    let mut left = row;
+    let scope = candidates.scope;
+    let s = scope.schema.bytes;
+    let mut left = candidates.types;
     let mut known = ScopePath::Unknown;
     let mut near = from;
-    while let Some((p, others, around)) = next_placed(s, n, narrowing, left, near) {
+    while let Some((p, others, around)) = next_placed(Candidates { scope, types: left }, near) {
         let Some(at) = schema::entity_here(s, around, names::word(s, p)) else {
             return ScopePath::Unknown;
         };
-        let end = resolve_one(s, at, c, head, rest);
-        known = with_end(s, c, known, end);
+        let end = resolve_one(s, at, path);
+        known = with_end(s, path.rest.bytes, known, end);
         left = others;
         near = around;
     }
     known
 }
 
-// An attribute path under a scope, whose entity types stand in a row of the schema.
-pub fn resolve_scope_path<'a>(
-    s: &'a [u8],
-    n: &[u8],
-    narrowing: Narrowed,
-    row: Row,
-    c: &'a [u8],
-    path: Row,
-) -> ScopePath
-    requires s_value { is_schema s.now ≡ true }
-    requires row_value { are_types s.now row ≡ true }
-    requires path_value { are_segments c.now path ≡ true }
-    ensures result_value { scope_of s.now c.now result ≡ briefly (scope_path (schema_in s.now) (narrowed n.now narrowing) (types_in s.now row) (segments_in c.now path)) }
-    ensures small_path { small_path (scope_of s.now c.now result) }
+// An attribute path under a scope.
+pub fn resolve_scope_path<'a>(candidates: Candidates<'a>, path: Path<'a>) -> ScopePath
+    ensures result_value { scope_of candidates.entry.scope.schema.bytes.now path.entry.bytes.now result
+        ≡ briefly (scope_path (schema_of candidates.entry.scope)
+        (narrowing_of candidates.entry.scope) (types_of candidates.entry) (path_of path.entry)) }
+    ensures small_path { small_path (scope_of candidates.entry.scope.schema.bytes.now path.entry.bytes.now result) }
 {
-    let count = path.count;
-    if count == 0 {
+    let Some(headed) = split_first(path) else {
         return ScopePath::Unknown;
-    }
-    let head = path.at;
-    let rest = behind(c, path);
-    let all = schema::entity_row(s);
-    over_types(s, n, narrowing, row, all, c, head, rest)
+    };
+    over_types(
+        candidates,
+        schema::entity_row(candidates.scope.schema),
+        headed,
+    )
 }

@@ -5,11 +5,12 @@ ghost use Rattle.names.specs.Read.{word_at};
 ghost use Rattle.names.specs.Text.{text};
 ghost use Rattle.schema.specs.Places.{is_entity, entity_in};
 ghost use Rattle.resolution.specs.Resolution.{unattributed, on_entity};
-ghost use Rattle.resolution.specs.Places.{are_segments, segments_in, end_of, small_end};
+ghost use Rattle.resolution.specs.Places.{end_of, small_end};
+ghost use Rattle.resolution.specs.Paths.{path_of};
 
 use crate::along::resolve_in;
-use crate::{PathEnd, PathResolution};
-use names::Row;
+use crate::path::Headed;
+use crate::{Failure, PathEnd, Unresolved};
 use types::{Rich, Scalar};
 
 // The names of an entity's own parts.
@@ -20,34 +21,35 @@ fn is_part(name: &[u8]) -> bool
 }
 
 // Where the head is no attribute: `id` and `type` are strings, which have no fields.
-fn without_attribute(c: &[u8], head: usize, rest: Row) -> PathEnd
-    requires { are_segments c.now rest ≡ true }
-    ensures { (s : List ℕ) → end_of s c.now result ≡ unattributed (word_at c.now head) (segments_in c.now rest) }
+fn without_attribute(path: Headed<'_>) -> PathEnd
+    ensures { (s : List ℕ) → end_of s path.entry.rest.bytes.now result
+        ≡ unattributed (word_at path.entry.rest.bytes.now path.entry.head)
+        (path_of path.entry.rest) }
 {
-    if is_part(names::word(c, head)) {
-        let count = rest.count;
-        if count == 0 {
-            return PathEnd::Resolved(Rich::from(Scalar::String));
+    let rest = path.rest.segments;
+    if is_part(names::word(path.rest.bytes, path.head)) {
+        if rest.count == 0 {
+            return Ok(Rich::from(Scalar::String));
         }
-        let next = rest.at;
-        return PathEnd::NonRecord(next);
+        return Err(Failure::NonRecord(rest.at));
     }
-    PathEnd::Missing(head)
+    Err(Failure::Missing(path.head))
 }
 
-// The path of a head and the other segments, on the entity type at `entity`.
-pub fn resolve_one(s: &[u8], entity: usize, c: &[u8], head: usize, rest: Row) -> PathEnd
-    requires entity_value { is_entity s.now entity ≡ true }
-    requires rest_value { are_segments c.now rest ≡ true }
-    ensures result_value { end_of s.now c.now result ≡ on_entity (word_at c.now head) (segments_in c.now rest) (entity_in s.now entity) }
-    ensures small_end { small_end (end_of s.now c.now result) }
+// A path with a first segment, on the entity type at `entity`.
+pub fn resolve_one(s: &[u8], entity: usize, path: Headed<'_>) -> PathEnd
+    requires { is_entity s.now entity ≡ true }
+    ensures result_value { end_of s.now path.entry.rest.bytes.now result
+        ≡ on_entity (word_at path.entry.rest.bytes.now path.entry.head) (path_of path.entry.rest)
+        (entity_in s.now entity) }
+    ensures small_end { small_end (end_of s.now path.entry.rest.bytes.now result) }
 {
     let fields = schema::fields_of(s, entity);
-    let end = resolve_in(s, fields, c, head, rest);
+    let end = resolve_in(s, fields, path);
     match end {
-        PathResolution::Resolved(t) => PathEnd::Resolved(t),
-        PathResolution::HeadMissing => without_attribute(c, head, rest),
-        PathResolution::NestedMissing(p) => PathEnd::Missing(p),
-        PathResolution::NonRecord(p) => PathEnd::NonRecord(p),
+        Ok(t) => Ok(t),
+        Err(Unresolved::HeadMissing) => without_attribute(path),
+        Err(Unresolved::NestedMissing(p)) => Err(Failure::Missing(p)),
+        Err(Unresolved::NonRecord(p)) => Err(Failure::NonRecord(p)),
     }
 }

@@ -7,17 +7,19 @@ ghost use Rattle.names.specs.Read.{word_at};
 ghost use Rattle.types.specs.Types.{render};
 ghost use Rattle.types.specs.Laws.Texts.{Small};
 ghost use Rattle.types.specs.Meaning.{rich_of};
-ghost use Rattle.schema.specs.Places.{is_schema, schema_in, Near};
-ghost use Rattle.targets.specs.Places.{narrowed};
-ghost use Rattle.resolution.specs.Places.{are_segments, segments_in, are_types, types_in, typed_of, small_type};
-ghost use Rattle.resolution.specs.Passes.{rendered, above, under, closest, type_on, renderings_on, next_rendered, end_type};
+ghost use Rattle.schema.specs.Places.{schema_in, Near};
+ghost use Rattle.resolution.specs.Places.{typed_of, small_type};
+ghost use Rattle.resolution.specs.Paths.{path_of, headed_of};
+ghost use Rattle.resolution.specs.Scopes.{schema_of, narrowing_of, types_of};
+ghost use Rattle.resolution.specs.Passes.{rendered, above, under, closest, type_on, renderings_on, next_rendered};
 
-use crate::along::behind;
+use crate::Typed;
+use crate::along::split_first;
+use crate::candidates::Candidates;
 use crate::entity::resolve_one;
+use crate::path::{Headed, Path};
 use crate::scope::next_placed;
-use crate::{NextNear, PathEnd, Typed};
 use names::Row;
-use targets::Narrowed;
 use types::Rich;
 
 // Whether the text of the first type stands before that of the second.
@@ -33,6 +35,9 @@ fn renders_below<'a>(s: &'a [u8], c: &'a [u8], t: Rich, u: Rich) -> bool
     names::is_below(&left[..n], &right[..m])
 }
 
+// These ask for a text behind the last one, and for one before the best: they differ in which of
+// the two texts stands first. As `last.is_none_or(|u| ..)` the closure would carry the clause of
+// each, since its caller does not see what the body of a closure answers.
 fn is_above<'a>(s: &'a [u8], c: &'a [u8], last: Typed, t: Rich) -> bool
     requires small_type { small_type (typed_of s.now c.now last) }
     requires small { Small (rich_of s.now c.now t) }
@@ -72,50 +77,38 @@ fn closer<'a>(s: &'a [u8], c: &'a [u8], last: Typed, best: Typed, other: Typed) 
     best
 }
 
-fn end_type(end: PathEnd) -> Typed
-    ensures { result ≡ end_type end }
-{
-    match end {
-        PathEnd::Resolved(t) => Some(t),
-        _ => None,
-    }
-}
-
 // The type of the path on the entity type whose name stands at `name`. The search for it ended at `near`.
-fn type_on(s: &[u8], near: Row, name: usize, c: &[u8], head: usize, rest: Row) -> Typed
-    requires near { Near s.now (word_at s.now name) near }
-    requires rest_value { are_segments c.now rest ≡ true }
-    ensures result_value { typed_of s.now c.now result ≡ type_on (schema_in s.now) (word_at c.now head ∷ segments_in c.now rest) (word_at s.now name) }
-    ensures small_type { small_type (typed_of s.now c.now result) }
+fn type_on(s: &[u8], near: Row, name: usize, path: Headed<'_>) -> Typed
+    requires { Near s.now (word_at s.now name) near }
+    ensures result_value { typed_of s.now path.entry.rest.bytes.now result
+        ≡ type_on (schema_in s.now) (headed_of path.entry) (word_at s.now name) }
+    ensures small_type { small_type (typed_of s.now path.entry.rest.bytes.now result) }
 {
     let at = schema::entity_here(s, near, names::word(s, name))?;
-    let end = resolve_one(s, at, c, head, rest);
-    end_type(end)
+    resolve_one(s, at, path).ok()
 }
 
-fn rendering_from<'a>(
-    s: &'a [u8],
-    n: &[u8],
-    narrowing: Narrowed,
-    row: Row,
-    c: &'a [u8],
-    head: usize,
-    rest: Row,
-    last: Typed,
-) -> Typed
-    requires s_value { is_schema s.now ≡ true }
-    requires row_value { are_types s.now row ≡ true }
-    requires rest_value { are_segments c.now rest ≡ true }
-    requires small_type { small_type (typed_of s.now c.now last) }
-    ensures result_value { next_rendered (renderings_on (schema_in s.now) (narrowed n.now narrowing) (types_in s.now row) (word_at c.now head ∷ segments_in c.now rest)) (typed_of s.now c.now result) ≡ select (above (rendered (typed_of s.now c.now last))) (renderings_on (schema_in s.now) (narrowed n.now narrowing) (types_in s.now row) (word_at c.now head ∷ segments_in c.now rest)) }
-    ensures small_type_2 { small_type (typed_of s.now c.now result) }
+fn rendering_from<'a>(candidates: Candidates<'a>, path: Headed<'a>, last: Typed) -> Typed
+    requires small_type { small_type (typed_of candidates.scope.schema.bytes.now path.rest.bytes.now last) }
+    ensures result_value { next_rendered
+        (renderings_on (schema_of candidates.entry.scope) (narrowing_of candidates.entry.scope)
+        (types_of candidates.entry) (headed_of path.entry))
+        (typed_of candidates.entry.scope.schema.bytes.now path.entry.rest.bytes.now result)
+        ≡ select (above
+        (rendered (typed_of candidates.entry.scope.schema.bytes.now path.entry.rest.bytes.now
+        last))) (renderings_on (schema_of candidates.entry.scope)
+        (narrowing_of candidates.entry.scope) (types_of candidates.entry) (headed_of path.entry)) }
+    ensures small_type_2 { small_type (typed_of candidates.entry.scope.schema.bytes.now path.entry.rest.bytes.now
+        result) }
 {
-    let mut left = row;
+    let scope = candidates.scope;
+    let s = scope.schema.bytes;
+    let mut left = candidates.types;
     let mut best = None;
-    let mut near = schema::entity_row(s);
-    while let Some((p, others, around)) = next_placed(s, n, narrowing, left, near) {
-        let own = type_on(s, around, p, c, head, rest);
-        best = closer(s, c, last, best, own);
+    let mut near = schema::entity_row(scope.schema);
+    while let Some((p, others, around)) = next_placed(Candidates { scope, types: left }, near) {
+        let own = type_on(s, around, p, path);
+        best = closer(s, path.rest.bytes, last, best, own);
         left = others;
         near = around;
     }
@@ -123,27 +116,17 @@ fn rendering_from<'a>(
 }
 
 // The type whose text is the next behind that of the last one written, or the first where none is.
-pub fn next_rendering<'a>(
-    s: &'a [u8],
-    n: &[u8],
-    narrowing: Narrowed,
-    row: Row,
-    c: &'a [u8],
-    path: Row,
-    last: Typed,
-) -> Typed
-    requires s_value { is_schema s.now ≡ true }
-    requires row_value { are_types s.now row ≡ true }
-    requires path_value { are_segments c.now path ≡ true }
-    requires small_type { small_type (typed_of s.now c.now last) }
-    ensures result_value { next_rendered (renderings_on (schema_in s.now) (narrowed n.now narrowing) (types_in s.now row) (segments_in c.now path)) (typed_of s.now c.now result) ≡ select (above (rendered (typed_of s.now c.now last))) (renderings_on (schema_in s.now) (narrowed n.now narrowing) (types_in s.now row) (segments_in c.now path)) }
-    ensures small_type_2 { small_type (typed_of s.now c.now result) }
+pub fn next_rendering<'a>(candidates: Candidates<'a>, path: Path<'a>, last: Typed) -> Typed
+    requires small_type { small_type (typed_of candidates.scope.schema.bytes.now path.bytes.now last) }
+    ensures result_value { next_rendered
+        (renderings_on (schema_of candidates.entry.scope) (narrowing_of candidates.entry.scope)
+        (types_of candidates.entry) (path_of path.entry))
+        (typed_of candidates.entry.scope.schema.bytes.now path.entry.bytes.now result)
+        ≡ select (above
+        (rendered (typed_of candidates.entry.scope.schema.bytes.now path.entry.bytes.now last)))
+        (renderings_on (schema_of candidates.entry.scope) (narrowing_of candidates.entry.scope)
+        (types_of candidates.entry) (path_of path.entry)) }
+    ensures small_type_2 { small_type (typed_of candidates.entry.scope.schema.bytes.now path.entry.bytes.now result) }
 {
-    let count = path.count;
-    if count == 0 {
-        return None;
-    }
-    let head = path.at;
-    let rest = behind(c, path);
-    rendering_from(s, n, narrowing, row, c, head, rest, last)
+    rendering_from(candidates, split_first(path)?, last)
 }

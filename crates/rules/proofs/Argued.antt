@@ -3,7 +3,8 @@ use mathlib.Core.Path.{◌≡◌, refl, sym, ap, ◌∙◌}
 use mathlib.Core.Bool.{true}
 use mathlib.Core.List.{List}
 use mathlib.Core.Option.{Option, some}
-use Prim.Native.Nat.{ℕ, ◌-◌, ◌≤◌}
+use Prim.Native.Nat.{ℕ, ◌+◌, ◌-◌, ◌≤◌, ◌<◌}
+use native.Mathlib.Omega.{arith}
 use borrow.Author.Rules.{rules}
 use Rattle.names.specs.Fields.{string_of}
 use Rattle.names.specs.Names.{path_name}
@@ -29,8 +30,8 @@ use Rattle.reports.specs.Slots.{Lent, Pushed}
 use Rattle.reports.specs.Laws.Sinks.{recorded_more}
 use Rattle.reports.specs.Kept.{fold}
 use Rattle.reports.specs.Reports.{Breach}
-use Rattle.terms.specs.Facts.{facts_in}
-use Rattle.terms.specs.declared.Facts as Code
+use Rattle.terms.specs.Settings.{facts_at}
+use Rattle.terms.specs.declared.setting.Setting.{Setting}
 use Rattle.messages.specs.Words.{Said, said_breaches, Tells, span_in}
 use Rattle.rules.specs.Rules.{both, argument_breach, argument_breaches, node_breaches}
 use Rattle.rules.specs.Places.{arguments_at, node_at, AppliedHere}
@@ -59,34 +60,37 @@ module _ (f : Facts) (s c : List ℕ) (own : Span) (name : List ℕ) (action : O
     unfolding argument_breaches fold
     arguing_over a h = record { still = a.still; is = rw (arguments_over c n at h) at a.same }
 
-    pub arguing_turn : {whole : Sink} {now next table table' : List ℕ} {st r : State} → Arguing whole (sink now st) table n at → (p : ArgumentAt) → ArgumentHere c n at p → {x : Said}
+    pub arguing_turn : {whole : Sink} {now next table table' : List ℕ} {st r : State} → Arguing whole (sink now st) table n at → 0 < n → (p : ArgumentAt) → ArgumentHere c (n - 1 + 1) at p → {x : Said}
         → Tells s c (both (context_type_by f.vocabulary action (path_in c p.field)) (term_type (some f) (term_in c p.term)) (argument_breach (word_at c at) name)) x
         → Pushed now st (said_breaches s c x own) next r table' → Arguing whole (sink next r) table' (n - 1) p.next
     unfolding argument_breaches
-    arguing_turn a p h g e = record {
-      still = e.still;
-      stands = h.rest;
-      same = recorded_more e _ ∙ rw (h.value, ← g.is own) at a.same;
-    }
+    arguing_turn a more p first g e =
+        let there : n - 1 + 1 ≡ n = omega (arith, more) in
+        let h : ArgumentHere c n at p = rw there at first in
+        record {
+          still = e.still;
+          stands = h.rest;
+          same = recorded_more e _ ∙ rw (h.value, ← g.is own) at a.same;
+        }
 
 -- ---- the predicate
 
-module _ (s c : List ℕ) (at : ℕ) (r : Ends) (span : Spans (own_span_of (condition_in c at)) r) (p : PredicateAt) (h : PredicateHere c at p) (x : Found)
-    (a : Answers (is_action s) (action_in s) (predicate_action (schema_in s) (row_in (string_of path_name) c p.names p.namespace) (word_at c p.action)) x) where
-  predicate-is : (n : List ℕ) (f : Code.Facts) → node_at s c n f at ≡ argument_breaches (facts_in s c n f) (word_at c p.action) (predicate_action (schema_in s) (row_in (string_of path_name) c p.names p.namespace) (word_at c p.action)) (arguments_in c p.count p.first) (own_span_of (condition_in c at))
+module _ (t : Setting) (at : ℕ) (r : Ends) (span : Spans (own_span_of (condition_in t.condition.bytes.now at)) r) (p : PredicateAt) (h : PredicateHere t.condition.bytes.now at p) (x : Found)
+    (a : Answers (is_action t.schema.bytes.now) (action_in t.schema.bytes.now) (predicate_action (schema_in t.schema.bytes.now) (row_in (string_of path_name) t.condition.bytes.now p.names p.namespace) (word_at t.condition.bytes.now p.action)) x) where
+  predicate-is : node_at t at ≡ argument_breaches (facts_at t) (word_at t.condition.bytes.now p.action) (predicate_action (schema_in t.schema.bytes.now) (row_in (string_of path_name) t.condition.bytes.now p.names p.namespace) (word_at t.condition.bytes.now p.action)) (arguments_in t.condition.bytes.now p.count p.first) (own_span_of (condition_in t.condition.bytes.now at))
   unfolding node_breaches
-  predicate-is n f = rw h.names.value (ap (node_breaches (facts_in s c n f)) h.value)
+  predicate-is = rw h.names.value (ap (node_breaches (facts_at t)) h.value)
 
-  pub applied_here : AppliedHere s c at (record { span = r; name = p.action; action = x; count = p.count; first = p.first })
+  pub applied_here : AppliedHere t at (record { span = r; name = p.action; action = x; count = p.count; first = p.first })
   applied_here = record {
     action = a.stands;
     args = h.args;
-    value = λ n f. let here : own_span_of (condition_in c at) ≡ span_in r = λ i. record { start = sym span.start i; end = sym span.end i } in sym (predicate-is n f ∙ rw (here, ← a.value));
+    value = let here : own_span_of (condition_in t.condition.bytes.now at) ≡ span_in r = λ i. record { start = sym span.start i; end = sym span.end i } in sym (predicate-is ∙ rw (here, ← a.value));
   }
 
 -- its breaches are those of its arguments
-pub predicate_told : (s c n : List ℕ) (f : Code.Facts) (at : ℕ) (p : Applied) → AppliedHere s c at p → {old new table : List ℕ} {st st' : State} → Pushed old st (arguments_at s c n f p) new st' table → Pushed old st (node_at s c n f at) new st' table
-predicate_told s c n f at p h e = rw (h.value n f) at e
+pub predicate_told : (t : Setting) (at : ℕ) (p : Applied) → AppliedHere t at p → {old new table : List ℕ} {st st' : State} → Pushed old st (arguments_at t p) new st' table → Pushed old st (node_at t at) new st' table
+predicate_told t at p h e = rw h.value at e
 
 pub ruleset by_types = (rules, argument_typed)
 

@@ -2,6 +2,7 @@
 use mathlib.Core.Path.{◌≡◌, refl, sym, ap, ◌∙◌}
 use mathlib.Core.Bool.{Bool, true, cond, ◌||◌}
 use mathlib.Core.List.{List, [], ◌++◌}
+use mathlib.Core.Logic.{◌⊎◌, inl, inr}
 use mathlib.Core.Option.{some}
 use Prim.Native.Nat.{ℕ}
 use borrow.Author.Rules.{rules}
@@ -12,7 +13,10 @@ use Rattle.names.specs.Lists.{gather}
 use Rattle.names.specs.Read.{word_at}
 use Rattle.condition.specs.Condition as tree
 use Rattle.condition.specs.Condition.{Span, Condition, Term, integer, decimal, string, bool, Slot, named, param_ref, binder_ref, Operator, le, lt, ge, gt, eq, not_eq, one, two, predicate, comparison, exists, tp, opaque, entity, literal, context_field, scope_field, var, wildcard, array, aggregate, sigil}
-use Rattle.nodes.specs.Kinds.{kind_of, span_of, term_kind_of, operator_number}
+use Rattle.nodes.specs.Kinds.{kind_of, span_of, term_kind_of, operator_number, kind_number, term_kind_number}
+use Rattle.nodes.specs.Laws.Numbers.{same_term_kind, not_wildcard, not_aggregate, not_arith, not_predicate, not_comparison, not_timepoint}
+use Rattle.nodes.specs.declared.Kind.{Kind}
+use Rattle.nodes.specs.declared.TermKind.{TermKind}
 use Rattle.condition.specs.Places.{is_condition, condition_in, is_term, term_in, is_slot, slot_in}
 use Rattle.nodes.specs.Offsets.{first_part}
 use Rattle.nodes.specs.Laws.Pieces.{timepoint_inside}
@@ -32,17 +36,20 @@ use Rattle.reports.specs.Laws.Sinks.{Reporting, reporting_next, reporting_over, 
 use Rattle.terms.specs.Terms.{Facts, term_type}
 use Rattle.terms.specs.Answers.{TypeOf}
 use Rattle.terms.specs.Facts.{facts_in, NameTyped}
+use Rattle.terms.specs.Settings.{facts_at}
 use Rattle.terms.specs.declared.Facts as Code
 use Rattle.messages.specs.Words.{Rule, Said, quoted, said_breaches, Tells, span_in}
 use Rattle.rules.specs.Messages.{wildcard_inside}
 use Rattle.rules.specs.Rules.{breach_if, both, not_long_here, operands_by, ordering, leaf_breaches, arithmetic_breaches, timepoint_breach, timepoint_breaches, node_breaches}
-use Rattle.rules.specs.Findings.{said_of, Finds}
-use Rattle.rules.specs.Places.{ComparedHere, JudgedHere}
+use Rattle.rules.specs.Findings.{said_of, found_breaches}
+use Rattle.terms.specs.declared.setting.Setting.{Setting}
+use Rattle.rules.specs.Places.{node_at, ComparedHere, JudgedHere}
 use Rattle.rules.specs.declared.Compared.{Compared}
 use Rattle.rules.specs.declared.Judged.{Judged}
 use Rattle.rules.specs.declared.Finding.{Finding}
-use Rattle.rules.specs.declared.Finding.TheVariants.{Clean, Wildcard}
+use Rattle.rules.specs.declared.Finding.TheVariants.{Wildcard}
 use Rattle.resolution.specs.Coded.{Typed}
+use Rattle.std.specs.Prelude as code
 use Rattle.std.specs.Prelude.{Some, None}
 
 -- ---- terms by their kinds
@@ -81,23 +88,23 @@ module _ (f : Facts) (at : Span) where
   operand_by_kind sigil = refl
 
 -- a leaf, by its kind
-module _ (f : Facts) (s c : List ℕ) (at k : ℕ) (o : TermKindHere c at k) (not_arith : term_kind_of (term_in c at) ≡ 12 → ⊥) where
-  leaf-is : (span : Span) → leaf_breaches f (term_in c at) span ≡ cond (eqb k 9) (breach_if true wildcard_inside span) (cond (eqb k 11 || eqb k 13) [] (not_long_here (term_type (some f) (term_in c at)) span))
-  leaf-is span = rw o.kind (leaf_by_kind f span (term_in c at) not_arith)
+module _ (f : Facts) (s c : List ℕ) (at : ℕ) (kind : TermKind) (o : TermKindHere c at (term_kind_number kind)) (other : term_kind_of (term_in c at) ≡ 12 → ⊥) where
+  leaf-is : (span : Span) → leaf_breaches f (term_in c at) span ≡ cond (eqb (term_kind_number kind) 9) (breach_if true wildcard_inside span) (cond (eqb (term_kind_number kind) 11 || eqb (term_kind_number kind) 13) [] (not_long_here (term_type (some f) (term_in c at)) span))
+  leaf-is span = rw o.kind (leaf_by_kind f span (term_in c at) other)
 
-  pub leaf_wild : k ≡ 9 → Finds s c (leaf_breaches f (term_in c at)) Wildcard
+  pub leaf_wild : kind ≡ TermKind.Wildcard → Tells s c (leaf_breaches f (term_in c at)) (said_of (Some Wildcard))
   unfolding quoted
   leaf_wild e = record { is = λ span. rw (leaf-is span, e); stands = record { first = tt; second = tt; third = tt; fourth = tt; below = lit< tt } }
 
-  module _ (not_wild : k ≡ 9 → ⊥) where
-    pub leaf_aggregate : k ≡ 11 → Finds s c (leaf_breaches f (term_in c at)) Clean
-    leaf_aggregate e = record { is = λ span. rw (leaf-is span, e); stands = tt }
+  pub leaf_passed : (kind ≡ TermKind.Aggregate) ⊎ (kind ≡ TermKind.Sigil) → Tells s c (leaf_breaches f (term_in c at)) (said_of None)
+  leaf_passed (inl e) = record { is = λ span. rw (leaf-is span, e); stands = tt }
+  leaf_passed (inr e) = record { is = λ span. rw (leaf-is span, e); stands = tt }
 
-    pub leaf_sigil : k ≡ 13 → Finds s c (leaf_breaches f (term_in c at)) Clean
-    leaf_sigil e = record { is = λ span. rw (leaf-is span, e); stands = tt }
-
-    pub leaf_typed : (k ≡ 11 → ⊥) → (k ≡ 13 → ⊥) → (r : Typed) → TypeOf s c (term_type (some f) (term_in c at)) r → {x : Said} → Tells s c (not_long_here (typed_of s c r)) x → Tells s c (leaf_breaches f (term_in c at)) x
-    leaf_typed a b r v g = record { is = λ span. rw (leaf-is span, ne_eqb _ _ not_wild, ne_eqb _ _ a, ne_eqb _ _ b, ← v.value) (g.is span); stands = g.stands }
+  pub leaf_typed : (kind ≡ TermKind.Wildcard → ⊥) → (kind ≡ TermKind.Aggregate → ⊥) → (kind ≡ TermKind.Sigil → ⊥) → (r : Typed) → TypeOf s c (term_type (some f) (term_in c at)) r → {x : Said} → Tells s c (not_long_here (typed_of s c r)) x → Tells s c (leaf_breaches f (term_in c at)) x
+  leaf_typed a b d r v g = record {
+    is = λ span. rw (leaf-is span, ne_eqb _ _ (not_wildcard kind a), ne_eqb _ _ (not_aggregate kind b), ne_eqb _ _ (λ e. d (same_term_kind kind TermKind.Sigil e)), ← v.value) (g.is span);
+    stands = g.stands;
+  }
 
 -- ---- what was found is reported where the rule stands
 
@@ -138,16 +145,15 @@ module _ (f : Facts) (c : List ℕ) (span : Span) where
           let r = l.reporting in
           record { stands = (leaf_next c left x is at rest e).others; reporting = reporting_next push breaches_of (rw (leaf_next c left x is at rest e).value at r) (told s c (leaf_breaches f (term_in c at)) span g p) }
 
-module _ (f : Facts) (c : List ℕ) (at : ℕ) (span : Span) {old new table : List ℕ} {st st' : State} where
-  module _ (k : ℕ) (o : TermKindHere c at k) where
-    pub operand_arithmetic : k ≡ 12 → Pushed old st (leaf_breaches f (term_in c at) span) new st' table → Pushed old st (arithmetic_breaches f (term_in c at) span) new st' table
-    operand_arithmetic e g = rw (operand_by_kind f span (term_in c at), ← o.kind, e) g
+-- an operand, by its kind
+module _ (f : Facts) (c : List ℕ) (at : ℕ) (kind : TermKind) (o : TermKindHere c at (term_kind_number kind)) where
+  pub operand_arithmetic : kind ≡ TermKind.Arith → (span : Span) {old new table : List ℕ} {st st' : State} → Pushed old st (leaf_breaches f (term_in c at) span) new st' table → Pushed old st (arithmetic_breaches f (term_in c at) span) new st' table
+  operand_arithmetic e span g = rw (operand_by_kind f span (term_in c at), ← o.kind, e) g
 
-module _ (f : Facts) (c : List ℕ) (at k : ℕ) (o : TermKindHere c at k) where
-  pub operand_plain : (k ≡ 12 → ⊥) → (span : Span) (old : List ℕ) (st : State) (table : List ℕ) → Lent (sink old st) table → Pushed old st (arithmetic_breaches f (term_in c at) span) old st table
-  operand_plain n span old st table p = rw (operand_by_kind f span (term_in c at), ← o.kind, ne_eqb _ _ n) (recorded_none old st p)
+  pub operand_plain : (kind ≡ TermKind.Arith → ⊥) → (span : Span) (old : List ℕ) (st : State) (table : List ℕ) → Lent (sink old st) table → Pushed old st (arithmetic_breaches f (term_in c at) span) old st table
+  operand_plain n span old st table p = rw (operand_by_kind f span (term_in c at), ← o.kind, ne_eqb _ _ (not_arith kind n)) (recorded_none old st p)
 
-pub ruleset leaf_kinds = (rules, leaf_wild, leaf_aggregate, leaf_sigil, leaf_typed)
+pub ruleset leaf_kinds = (rules, leaf_wild, leaf_passed, leaf_typed)
 
 pub ruleset each_leaf = (rules, leaves_begin, leaves_stand, leaves_over, leaf_stands, leaf_plain, fewer_leaves, leaves_turn)
 
@@ -201,33 +207,32 @@ pub ruleset comparisons = (rules, comparison_told)
 
 -- its slot
 module _ (s c : List ℕ) (at : ℕ) (r : SlotAt) (e : SlotHere c at r) where
-  pub slot_param : r ≡ SlotAt.ParamRef → (f : Facts) → Finds s c (timepoint_breaches f (slot_in c at)) Clean
+  pub slot_sigil : (r ≡ SlotAt.ParamRef) ⊎ (r ≡ SlotAt.BinderRef) → (f : Facts) → Tells s c (timepoint_breaches f (slot_in c at)) (said_of None)
   unfolding timepoint_breaches
-  slot_param g f = rw (e.value, g) (record { is = λ span. refl; stands = tt })
-
-  pub slot_binder : r ≡ SlotAt.BinderRef → (f : Facts) → Finds s c (timepoint_breaches f (slot_in c at)) Clean
-  unfolding timepoint_breaches
-  slot_binder g f = rw (e.value, g) (record { is = λ span. refl; stands = tt })
+  slot_sigil (inl g) f = rw (e.value, g) (record { is = λ span. refl; stands = tt })
+  slot_sigil (inr g) f = rw (e.value, g) (record { is = λ span. refl; stands = tt })
 
   pub slot_named : (p : ℕ) → r ≡ SlotAt.Named p → (name : List ℕ) → name ≡ word_at c p → (n : List ℕ) (facts : Code.Facts) (typed : Typed) → NameTyped s c facts name typed
       → {x : Said} → Tells s c (timepoint_breach (word_at c p) (typed_of s c typed)) x → Tells s c (timepoint_breaches (facts_in s c n facts) (slot_in c at)) x
   unfolding timepoint_breaches
   slot_named p g name w n facts typed v h = record { is = λ span. rw (e.value, g, ← w, ← v.value n, w) (h.is span); stands = h.stands }
 
-pub ruleset slots = (rules, slot_param, slot_binder, slot_named)
+pub ruleset slots = (rules, slot_sigil, slot_named)
 
 pub timepoint_slot : (s : List ℕ) (at : ℕ) → is_condition s at ≡ true → kind_of (condition_in s at) ≡ 10 → (p : ℕ) → p ≡ first_part s at → is_slot s p ≡ true
 timepoint_slot s at acc is p e = (timepoint_inside s at acc is p e).stands
 
-pub tp_judged : (f : Facts) (s c : List ℕ) (at : ℕ) (r : Ends) → Spans (span_of (condition_in c at)) r → (p : ℕ) → TimepointHere c at p → (x : Finding) → Finds s c (timepoint_breaches f (slot_in c p)) x
-    → JudgedHere s c (node_breaches f (condition_in c at)) (record { span = r; finding = x })
-unfolding node_breaches
-tp_judged f s c at r span p h x g = record { is = g.is (span_in r) ∙ sym (rw (h.value, span-is span)); stands = g.stands }
+module _ (t : Setting) (at : ℕ) where
+  pub tp_judged : (r : Ends) → Spans (span_of (condition_in t.condition.bytes.now at)) r → (p : ℕ) → TimepointHere t.condition.bytes.now at p → (x : code.Option Finding)
+      → Tells t.schema.bytes.now t.condition.bytes.now (timepoint_breaches (facts_at t) (slot_in t.condition.bytes.now p)) (said_of x)
+      → JudgedHere t (node_at t at) (record { span = r; finding = x })
+  unfolding node_breaches
+  tp_judged r span p h x g = record { is = g.is (span_in r) ∙ sym (rw (h.value, span-is span)); stands = g.stands }
 
 pub ruleset tps = (rules, timepoint_inside, timepoint_slot, tp_judged)
 
 -- what was judged is reported
-pub judged_told : {s c : List ℕ} {bs : List Breach} {r : Judged} → JudgedHere s c bs r → {old new table : List ℕ} {st st' : State} → Pushed old st (said_breaches s c (said_of r.finding) (span_in r.span)) new st' table → Pushed old st bs new st' table
+pub judged_told : {t : Setting} {bs : List Breach} {r : Judged} → JudgedHere t bs r → {old new table : List ℕ} {st st' : State} → Pushed old st (found_breaches t r.finding (span_in r.span)) new st' table → Pushed old st bs new st' table
 judged_told h e = rw h.is at e
 
 pub ruleset judging = (rules, judged_told)
@@ -244,12 +249,12 @@ quiet f (exists span d x) a b e = refl
 quiet f (tp span d) a b e = absurd (e refl)
 quiet f (opaque span) a b e = refl
 
-module _ (c : List ℕ) (at k : ℕ) (o : KindHere c at k) where
-  pub node_quiet : (k ≡ 7 → ⊥) → (k ≡ 8 → ⊥) → (k ≡ 10 → ⊥) → (f : Facts) (old : List ℕ) (st : State) (table : List ℕ) → Lent (sink old st) table → Pushed old st (node_breaches f (condition_in c at)) old st table
-  node_quiet a b d f old st table p = rw (quiet f (condition_in c at) (λ e. a (o.kind ∙ e)) (λ e. b (o.kind ∙ e)) (λ e. d (o.kind ∙ e))) (recorded_none old st p)
+module _ (c : List ℕ) (at : ℕ) (kind : Kind) (o : KindHere c at (kind_number kind)) where
+  pub node_quiet : (kind ≡ Kind.Predicate → ⊥) → (kind ≡ Kind.Comparison → ⊥) → (kind ≡ Kind.Timepoint → ⊥) → (f : Facts) (old : List ℕ) (st : State) (table : List ℕ) → Lent (sink old st) table → Pushed old st (node_breaches f (condition_in c at)) old st table
+  node_quiet a b d f old st table p = rw (quiet f (condition_in c at) (λ e. not_predicate kind a (o.kind ∙ e)) (λ e. not_comparison kind b (o.kind ∙ e)) (λ e. not_timepoint kind d (o.kind ∙ e))) (recorded_none old st p)
 
   -- the kind of a node is asked for its parts
-  pub node_kind : (j : ℕ) → k ≡ j → kind_of (condition_in c at) ≡ j
-  node_kind j e = sym o.kind ∙ e
+  pub node_kind : (k : Kind) → kind ≡ k → kind_of (condition_in c at) ≡ kind_number k
+  node_kind k e = sym o.kind ∙ ap kind_number e
 
 pub ruleset nodes = (rules, node_kind, node_quiet)

@@ -6,6 +6,7 @@ use native.Mathlib.Omega.{arith}
 use borrow.Author.Rules.{rules}
 use lib.ListN.{length, take}
 use lib.Dec.{lit≤}
+use Rattle.std.specs.Prelude as code
 use Rattle.std.specs.Prelude.{None, Some}
 use Rattle.names.specs.Writer.{Stored}
 use Rattle.types.specs.declared.Rich.{Rich}
@@ -20,29 +21,29 @@ use Rattle.messages.specs.Laws.Lengths.{Bytes, text_within}
 use Rattle.messages.specs.declared.Sentence.{Sentence}
 use Rattle.rules.specs.Findings.{said_of}
 use Rattle.rules.specs.declared.Finding.{Finding}
-use Rattle.rules.specs.declared.Finding.TheVariants.{Clean, Wildcard, NotLong, NotNumeric, Unlike, WrongTimepoint, WrongArgument}
+use Rattle.rules.specs.declared.Finding.TheVariants.{Wildcard, NotLong, NotNumeric, Unlike, WrongTimepoint, WrongArgument}
 
 -- the message of each finding
-pub said_clean : (f : Finding) → f ≡ Clean → None ≡ said_of f
+pub said_clean : (f : code.Option Finding) → f ≡ None → None ≡ said_of f
 said_clean f e = rw e
 
-module _ (f : Finding) {r : Said} where
-  pub said_wildcard : f ≡ Wildcard → r ≡ said_of Wildcard → r ≡ said_of f
+module _ (f : code.Option Finding) {r : Said} where
+  pub said_wildcard : f ≡ Some Wildcard → r ≡ said_of (Some Wildcard) → r ≡ said_of f
   said_wildcard e h = rw e h
 
-  pub said_not_long : (t : Rich) → f ≡ NotLong t → r ≡ said_of (NotLong t) → r ≡ said_of f
+  pub said_not_long : (t : Rich) → f ≡ Some (NotLong t) → r ≡ said_of (Some (NotLong t)) → r ≡ said_of f
   said_not_long t e h = rw e h
 
-  pub said_numeric : (x y : Rich) → f ≡ NotNumeric x y → r ≡ said_of (NotNumeric x y) → r ≡ said_of f
+  pub said_numeric : (x y : Rich) → f ≡ Some (NotNumeric x y) → r ≡ said_of (Some (NotNumeric x y)) → r ≡ said_of f
   said_numeric x y e h = rw e h
 
-  pub said_unlike : (x y : Rich) → f ≡ Unlike x y → r ≡ said_of (Unlike x y) → r ≡ said_of f
+  pub said_unlike : (x y : Rich) → f ≡ Some (Unlike x y) → r ≡ said_of (Some (Unlike x y)) → r ≡ said_of f
   said_unlike x y e h = rw e h
 
-  pub said_timepoint : (p : ℕ) (t : Rich) → f ≡ WrongTimepoint p t → r ≡ said_of (WrongTimepoint p t) → r ≡ said_of f
+  pub said_timepoint : (p : ℕ) (t : Rich) → f ≡ Some (WrongTimepoint p t) → r ≡ said_of (Some (WrongTimepoint p t)) → r ≡ said_of f
   said_timepoint p t e h = rw e h
 
-  pub said_argument : (p q : ℕ) (x y : Rich) → f ≡ WrongArgument p q x y → r ≡ said_of (WrongArgument p q x y) → r ≡ said_of f
+  pub said_argument : (p q : ℕ) (x y : Rich) → f ≡ Some (WrongArgument p q x y) → r ≡ said_of (Some (WrongArgument p q x y)) → r ≡ said_of f
   said_argument p q x y e h = rw e h
 
 pub ruleset saying = (rules, said_clean, said_wildcard, said_not_long, said_numeric, said_unlike, said_timepoint, said_argument)
@@ -52,17 +53,17 @@ most_said : Said → ℕ
 most_said None = 0
 most_said (Some m) = most m
 
-said_short : (f : Finding) → most_said (said_of f) ≤ 2048
+said_short : (f : code.Option Finding) → most_said (said_of f) ≤ 2048
 unfolding most_said
-said_short Clean = lit≤ tt
-said_short Wildcard = lit≤ tt
-said_short (NotLong t) = lit≤ tt
-said_short (NotNumeric l r) = lit≤ tt
-said_short (Unlike l r) = lit≤ tt
-said_short (WrongTimepoint p t) = lit≤ tt
-said_short (WrongArgument p q x a) = lit≤ tt
+said_short None = lit≤ tt
+said_short (Some Wildcard) = lit≤ tt
+said_short (Some (NotLong t)) = lit≤ tt
+said_short (Some (NotNumeric l r)) = lit≤ tt
+said_short (Some (Unlike l r)) = lit≤ tt
+said_short (Some (WrongTimepoint p t)) = lit≤ tt
+said_short (Some (WrongArgument p q x a)) = lit≤ tt
 
-module _ (s c : List ℕ) (f : Finding) (r : Said) (is : r ≡ said_of f) where
+module _ (s c : List ℕ) (f : code.Option Finding) (r : Said) (is : r ≡ said_of f) where
   pub nothing_said : r ≡ None → (span : Ends) (old : List ℕ) (st : State) (table : List ℕ) → Lent (sink old st) table → Pushed old st (said_breaches s c (said_of f) (span_in span)) old st table
   nothing_said e span old st table p = rw (← is, e) (recorded_none old st p)
 

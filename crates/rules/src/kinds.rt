@@ -4,7 +4,6 @@ ghost use Rattle.nodes.specs.Kinds.{kind_of};
 ghost use Rattle.condition.specs.Places.{is_condition, condition_in, is_term, is_slot};
 ghost use Rattle.reports.specs.Sink.{sink};
 ghost use Rattle.reports.specs.Slots.{Lent, Pushed};
-ghost use Rattle.terms.specs.Facts.{Known};
 ghost use Rattle.rules.specs.Findings.{Finds};
 ghost use Rattle.rules.specs.Places.{node_at, arithmetics_at, operands_at, timepoint_at, ComparedHere, JudgedHere};
 
@@ -13,11 +12,13 @@ use crate::judge::{operands, wrong_timepoint};
 use crate::predicate::predicate;
 use crate::report::report;
 use crate::{Compared, Finding, Judged, Operand};
-use nodes::SlotAt;
+use nodes::{Kind, SlotAt};
 use reports::State;
-use terms::Facts;
+use terms::Setting;
 
-// A comparison taken apart: the four operators that order come first.
+// A comparison taken apart: the four operators that order come first. The number of an operator is
+// read here alone, and only whether it is one of the four that order counts.
+#[tactic(auto, using(crate::proofs::AtNode::comparing))]
 fn compared_at(condition: &[u8], at: usize) -> Compared
     requires at_value { is_condition condition.now at ≡ true }
     requires at_value_2 { kind_of (condition_in condition.now at) ≡ 8 }
@@ -35,22 +36,17 @@ fn compared_at(condition: &[u8], at: usize) -> Compared
 }
 
 // The arithmetic of both operands, left then right.
-fn arithmetics<'a>(
+fn arithmetics(
     buf: &mut [u8],
     table: &mut [u32],
     state: State,
-    schema: &'a [u8],
-    condition: &'a [u8],
-    targets: &[u8],
-    env: &[u16],
-    facts: Facts,
+    setting: Setting,
     parts: Compared,
 ) -> State
     requires lent { Lent (sink buf.old state) table.old }
-    requires known { Known schema.now condition.now env.now facts }
-    requires left_value { is_term condition.now parts.left ≡ true }
-    requires right_value { is_term condition.now parts.right ≡ true }
-    ensures { Pushed buf.old state (arithmetics_at schema.now condition.now targets.now facts parts) buf.new result table.new }
+    requires left_value { is_term setting.condition.bytes.now parts.left ≡ true }
+    requires right_value { is_term setting.condition.bytes.now parts.right ≡ true }
+    ensures { Pushed buf.old state (arithmetics_at setting.entry parts) buf.new result table.new }
 {
     let span = parts.span;
     let left = Operand {
@@ -61,163 +57,102 @@ fn arithmetics<'a>(
         span,
         at: parts.right,
     };
-    let after = arithmetic(
-        buf, table, state, schema, condition, targets, env, facts, left,
-    );
-    arithmetic(
-        buf, table, after, schema, condition, targets, env, facts, right,
-    )
+    let after = arithmetic(buf, table, state, setting, left);
+    arithmetic(buf, table, after, setting, right)
 }
 
 // The types of the two operands.
-fn operand_types<'a>(
-    schema: &'a [u8],
-    condition: &'a [u8],
-    targets: &[u8],
-    env: &[u16],
-    facts: Facts,
-    parts: Compared,
-) -> Finding
-    requires known { Known schema.now condition.now env.now facts }
-    requires left_value { is_term condition.now parts.left ≡ true }
-    requires right_value { is_term condition.now parts.right ≡ true }
-    ensures { Finds schema.now condition.now (operands_at schema.now condition.now targets.now facts parts) result }
+#[tactic(auto, using(crate::proofs::AtNode::typing))]
+fn operand_types(setting: Setting, parts: Compared) -> Option<Finding>
+    requires left_value { is_term setting.condition.bytes.now parts.left ≡ true }
+    requires right_value { is_term setting.condition.bytes.now parts.right ≡ true }
+    ensures { Finds setting.entry (operands_at setting.entry parts) result }
 {
-    let left = terms::term_type(schema, condition, targets, env, facts, parts.left);
-    let right = terms::term_type(schema, condition, targets, env, facts, parts.right);
-    let common = facts.common;
-    let profile = common.profile;
-    operands(schema, condition, profile, parts.ordering, left, right)
+    let left = terms::term_type(setting, parts.left);
+    let right = terms::term_type(setting, parts.right);
+    operands(setting, parts.ordering, left, right)
 }
 
 // A comparison: arithmetic first, then the operands' types.
-fn comparison<'a>(
-    buf: &mut [u8],
-    table: &mut [u32],
-    state: State,
-    schema: &'a [u8],
-    condition: &'a [u8],
-    targets: &[u8],
-    env: &[u16],
-    facts: Facts,
-    at: usize,
-) -> State
+fn comparison(buf: &mut [u8], table: &mut [u32], state: State, setting: Setting, at: usize) -> State
     requires lent { Lent (sink buf.old state) table.old }
-    requires known { Known schema.now condition.now env.now facts }
-    requires at_value { is_condition condition.now at ≡ true }
-    requires at_value_2 { kind_of (condition_in condition.now at) ≡ 8 }
-    ensures { Pushed buf.old state (node_at schema.now condition.now targets.now facts at) buf.new result table.new }
+    requires at_value { is_condition setting.condition.bytes.now at ≡ true }
+    requires at_value_2 { kind_of (condition_in setting.condition.bytes.now at) ≡ 8 }
+    ensures { Pushed buf.old state (node_at setting.entry at) buf.new result table.new }
 {
-    let parts = compared_at(condition, at);
-    let after = arithmetics(
-        buf, table, state, schema, condition, targets, env, facts, parts,
-    );
-    let finding = operand_types(schema, condition, targets, env, facts, parts);
-    let span = parts.span;
-    report(buf, table, after, schema, condition, span, finding)
+    let parts = compared_at(setting.condition.bytes, at);
+    let after = arithmetics(buf, table, state, setting, parts);
+    let finding = operand_types(setting, parts);
+    report(
+        buf,
+        table,
+        after,
+        setting.schema.bytes,
+        setting.condition.bytes,
+        parts.span,
+        finding,
+    )
 }
 
 // The slot of a `tp`.
-fn timepoint<'a>(
-    schema: &'a [u8],
-    condition: &'a [u8],
-    targets: &[u8],
-    env: &[u16],
-    facts: Facts,
-    at: usize,
-) -> Finding
-    requires known { Known schema.now condition.now env.now facts }
-    requires at_value { is_slot condition.now at ≡ true }
-    ensures { Finds schema.now condition.now (timepoint_at schema.now condition.now targets.now facts at) result }
+fn timepoint(setting: Setting, at: usize) -> Option<Finding>
+    requires at_value { is_slot setting.condition.bytes.now at ≡ true }
+    ensures { Finds setting.entry (timepoint_at setting.entry at) result }
 {
-    let slot = nodes::slot_at(condition, at);
-    match slot {
+    let condition = setting.condition.bytes;
+    match nodes::slot_at(condition, at) {
         SlotAt::Named(name) => {
+            let schema = setting.schema.bytes;
             let word = names::word(condition, name);
-            let typed = terms::var_type(schema, condition, env, facts, word);
-            return wrong_timepoint(schema, condition, name, typed);
+            let typed = terms::var_type(schema, condition, setting.env, setting.facts, word);
+            wrong_timepoint(setting, name, typed)
         }
-        SlotAt::ParamRef => Finding::Clean,
-        SlotAt::BinderRef => Finding::Clean,
+        SlotAt::ParamRef | SlotAt::BinderRef => None,
     }
 }
 
 // A `tp`, judged.
-fn judged_tp<'a>(
-    schema: &'a [u8],
-    condition: &'a [u8],
-    targets: &[u8],
-    env: &[u16],
-    facts: Facts,
-    at: usize,
-) -> Judged
-    requires known { Known schema.now condition.now env.now facts }
-    requires at_value { is_condition condition.now at ≡ true }
-    requires at_value_2 { kind_of (condition_in condition.now at) ≡ 10 }
-    ensures { JudgedHere schema.now condition.now (node_at schema.now condition.now targets.now facts at) result }
+fn judged_tp(setting: Setting, at: usize) -> Judged
+    requires at_value { is_condition setting.condition.bytes.now at ≡ true }
+    requires at_value_2 { kind_of (condition_in setting.condition.bytes.now at) ≡ 10 }
+    ensures { JudgedHere setting.entry (node_at setting.entry at) result }
 {
-    let span = nodes::span_at(condition, at);
-    let slot = nodes::first_part(condition, at);
-    let finding = timepoint(schema, condition, targets, env, facts, slot);
+    let span = nodes::span_at(setting.condition.bytes, at);
+    let slot = nodes::first_part(setting.condition.bytes, at);
+    let finding = timepoint(setting, slot);
     Judged { span, finding }
 }
 
 // A `tp`.
-fn tp<'a>(
-    buf: &mut [u8],
-    table: &mut [u32],
-    state: State,
-    schema: &'a [u8],
-    condition: &'a [u8],
-    targets: &[u8],
-    env: &[u16],
-    facts: Facts,
-    at: usize,
-) -> State
+fn tp(buf: &mut [u8], table: &mut [u32], state: State, setting: Setting, at: usize) -> State
     requires lent { Lent (sink buf.old state) table.old }
-    requires known { Known schema.now condition.now env.now facts }
-    requires at_value { is_condition condition.now at ≡ true }
-    requires at_value_2 { kind_of (condition_in condition.now at) ≡ 10 }
-    ensures { Pushed buf.old state (node_at schema.now condition.now targets.now facts at) buf.new result table.new }
+    requires at_value { is_condition setting.condition.bytes.now at ≡ true }
+    requires at_value_2 { kind_of (condition_in setting.condition.bytes.now at) ≡ 10 }
+    ensures { Pushed buf.old state (node_at setting.entry at) buf.new result table.new }
 {
-    let judged = judged_tp(schema, condition, targets, env, facts, at);
-    let span = judged.span;
-    let finding = judged.finding;
-    report(buf, table, state, schema, condition, span, finding)
+    let judged = judged_tp(setting, at);
+    report(
+        buf,
+        table,
+        state,
+        setting.schema.bytes,
+        setting.condition.bytes,
+        judged.span,
+        judged.finding,
+    )
 }
 
 // What one reached node breaks.
-pub fn node<'a>(
-    buf: &mut [u8],
-    table: &mut [u32],
-    state: State,
-    schema: &'a [u8],
-    condition: &'a [u8],
-    targets: &[u8],
-    env: &[u16],
-    facts: Facts,
-    at: usize,
-) -> State
+#[tactic(auto, using(crate::proofs::AtNode::nodes))]
+pub fn node(buf: &mut [u8], table: &mut [u32], state: State, setting: Setting, at: usize) -> State
     requires lent { Lent (sink buf.old state) table.old }
-    requires known { Known schema.now condition.now env.now facts }
-    requires at_value { is_condition condition.now at ≡ true }
-    ensures { Pushed buf.old state (node_at schema.now condition.now targets.now facts at) buf.new result table.new }
+    requires at_value { is_condition setting.condition.bytes.now at ≡ true }
+    ensures { Pushed buf.old state (node_at setting.entry at) buf.new result table.new }
 {
-    let kind = nodes::kind_at(condition, at);
-    if kind == 7 {
-        return predicate(
-            buf, table, state, schema, condition, targets, env, facts, at,
-        );
+    match nodes::kind_at(setting.condition.bytes, at) {
+        Kind::Predicate => predicate(buf, table, state, setting, at),
+        Kind::Comparison => comparison(buf, table, state, setting, at),
+        Kind::Timepoint => tp(buf, table, state, setting, at),
+        _ => state,
     }
-    if kind == 8 {
-        return comparison(
-            buf, table, state, schema, condition, targets, env, facts, at,
-        );
-    }
-    if kind == 10 {
-        return tp(
-            buf, table, state, schema, condition, targets, env, facts, at,
-        );
-    }
-    state
 }

@@ -1,4 +1,5 @@
-// A finding into the buffer: its message is composed in a scratch, compared with the earlier reports, and copied out.
+// A finding into the buffer: its message is composed in a scratch, compared with the earlier
+// reports, and copied out.
 ghost use Rattle.std.specs.Prelude.{◌≡◌};
 ghost use Rattle.reports.specs.Sink.{sink};
 ghost use Rattle.reports.specs.Slots.{Lent, Pushed};
@@ -8,15 +9,15 @@ ghost use Rattle.rules.specs.Findings.{said_of};
 use crate::Finding;
 use messages::{Sentence, Word, say};
 use nodes::Ends;
-use reports::{Message, State};
+use reports::{Message, Report, State};
 
-// The message of a finding.
-fn said_of(finding: Finding) -> Option<Sentence>
+// The message of a finding, where there is one.
+#[tactic(auto, using(crate::proofs::Reporting::saying))]
+fn said_of(finding: Option<Finding>) -> Option<Sentence>
     ensures { result ≡ said_of finding }
 {
     let none = Word::Nothing;
-    match finding {
-        Finding::Clean => None,
+    match finding? {
         Finding::Wildcard => say(Message::WildcardInside, none, none, none, none),
         Finding::NotLong(t) => say(Message::NotLong, Word::Shown(t), none, none, none),
         Finding::NotNumeric(l, r) => say(
@@ -49,7 +50,10 @@ fn said_of(finding: Finding) -> Option<Sentence>
     }
 }
 
-// The breaches of a finding at a span.
+// The breaches of a finding at a span. It takes the bytes of the schema and of the condition, and
+// no setting: that each is below 256, which bounds the message, is known of a slice that is a
+// parameter itself. The same function was tried with a setting, and its proof did not close.
+#[tactic(auto, using(crate::proofs::Reporting::reporting))]
 pub fn report<'a>(
     buf: &mut [u8],
     table: &mut [u32],
@@ -57,7 +61,7 @@ pub fn report<'a>(
     schema: &'a [u8],
     condition: &'a [u8],
     span: Ends,
-    finding: Finding,
+    finding: Option<Finding>,
 ) -> State
     requires lent { Lent (sink buf.old state) table.old }
     requires said_stands { SaidStands schema.now condition.now (said_of finding) }
@@ -68,5 +72,10 @@ pub fn report<'a>(
     };
     let mut scratch = [0u8; 2048];
     let n = messages::put_message(&mut scratch, 0, schema, condition, message);
-    reports::push_scratch(buf, table, state, span.start, span.end, &scratch, n)
+    let it = Report {
+        start: span.start,
+        end: span.end,
+        message: &scratch[..n],
+    };
+    reports::push(buf, table, state, it)
 }

@@ -1,9 +1,9 @@
 -- The type that the checks compare, by the first byte of a declared one. Assumes nothing.
 use mathlib.Core.Path.{◌≡◌, refl, sym, ap, ◌∙◌}
 use mathlib.Core.Bool.{true}
+use mathlib.Core.Logic.{◌⊎◌, inl, inr}
 use mathlib.Core.List.{List}
-use mathlib.Core.Option.{none}
-use Prim.Native.Nat.{ℕ, zero, suc, ◌+◌, ◌-◌, ◌≤◌, ◌<◌}
+use Prim.Native.Nat.{ℕ, zero, suc, ◌+◌, ◌-◌, ◌≤◌}
 use native.Mathlib.Numerals.{add-one}
 use native.Mathlib.Omega.{arith}
 use lib.ListN.{length, get_or, drop}
@@ -11,9 +11,9 @@ use borrow.Author.Rules.{rules}
 use Rattle.names.specs.Fields.{got, choose, string_of, levels}
 use Rattle.names.specs.Names.{path_name, simple_name}
 use Rattle.names.specs.Read.{word_at}
-use Rattle.names.specs.Laws.Readers.{Split, split, string_view, accept, is_accepted, has_value, got_value, Each, each_below, ◌&◌}
+use Rattle.names.specs.Laws.Readers.{Split, split, string_view, accept, is_accepted, has_value, got_value}
 use Rattle.names.specs.Laws.Walks.{part_of_part, take_at_most}
-use Rattle.types.specs.Types.{Ty, dated, entity, array}
+use Rattle.types.specs.Types.{Ty, dated, array}
 use Rattle.types.specs.Meaning.{scalar_of, tag_of, base_of, layered}
 use Rattle.types.specs.declared.Source.TheVariants as Source
 use Rattle.types.specs.declared.Scalar.{Scalar}
@@ -22,7 +22,9 @@ use Rattle.types.specs.declared.Tag.{Tag}
 use Rattle.schema.specs.Schema.{Declared, never, set, extension, kinds, type_at, attributes}
 use Rattle.schema.specs.Schema as schema
 use Rattle.schema.specs.Find.{extension_type, rich_type_by, rich_type}
-use Rattle.schema.specs.Places.{type_in, is_type, KindHere}
+use Rattle.schema.specs.Places.{type_in, is_type, KindHere, kind_number}
+use Rattle.schema.specs.declared.kind.TypeKind.{TypeKind}
+use Rattle.schema.specs.Laws.ByKind.{one_kind}
 use Rattle.schema.proofs.TypeViews.{open_type}
 use Rattle.schema.proofs.Levels.{type_wider}
 
@@ -45,51 +47,51 @@ layered_more n t = rw add-one (go n)
     go (suc n) = ap array (go n)
 
 -- The type that stands at a position, by its first byte.
-module _ (s : List ℕ) (at : ℕ) (is : is_type s at ≡ true) (k : ℕ) (op : KindHere s at k) where
-  at_kind : (j : ℕ) → k ≡ j → choose j (kinds (type_at 31)) s (at + 1) ≡ got (type_in s at) (accept _ is).place
+module _ (s : List ℕ) (at : ℕ) (is : is_type s at ≡ true) (k : TypeKind) (op : KindHere s at (kind_number k)) where
+  at_kind : (j : TypeKind) → k ≡ j → choose (kind_number j) (kinds (type_at 31)) s (at + 1) ≡ got (type_in s at) (accept _ is).place
   at_kind j e =
       let a = accept _ is in
-      let i : get_or s at 0 ≡ j = sym op.kind ∙ e in
+      let i : get_or s at 0 ≡ kind_number j = sym op.kind ∙ ap kind_number e in
       rw (has_value never a.read, ← i) (open_type s at a.read).body
 
-  pub rich_long : k ≡ 0 → (c : List ℕ) → base_of s c (Base.Plain Scalar.Long) ≡ rich_type (type_in s at)
+  pub rich_long : k ≡ TypeKind.Long → (c : List ℕ) → base_of s c (Base.Plain Scalar.Long) ≡ rich_type (type_in s at)
   unfolding choose kinds rich_type_by
-  rich_long e c = ap rich_type (got_value (at_kind 0 e))
+  rich_long e c = ap rich_type (got_value (at_kind TypeKind.Long e))
 
-  pub rich_string : k ≡ 1 → (c : List ℕ) → base_of s c (Base.Plain Scalar.String) ≡ rich_type (type_in s at)
+  pub rich_string : k ≡ TypeKind.String → (c : List ℕ) → base_of s c (Base.Plain Scalar.String) ≡ rich_type (type_in s at)
   unfolding choose kinds rich_type_by
-  rich_string e c = ap rich_type (got_value (at_kind 1 e))
+  rich_string e c = ap rich_type (got_value (at_kind TypeKind.String e))
 
-  pub rich_bool : k ≡ 2 → (c : List ℕ) → base_of s c (Base.Plain Scalar.Bool) ≡ rich_type (type_in s at)
+  pub rich_bool : k ≡ TypeKind.Bool → (c : List ℕ) → base_of s c (Base.Plain Scalar.Bool) ≡ rich_type (type_in s at)
   unfolding choose kinds rich_type_by
-  rich_bool e c = ap rich_type (got_value (at_kind 2 e))
+  rich_bool e c = ap rich_type (got_value (at_kind TypeKind.Bool e))
 
-  pub rich_any_set : k ≡ 5 → (c : List ℕ) → base_of s c Base.AnyArray ≡ rich_type (type_in s at)
+  pub rich_any_set : k ≡ TypeKind.AnySet → (c : List ℕ) → base_of s c Base.AnyArray ≡ rich_type (type_in s at)
   unfolding choose kinds rich_type_by
-  rich_any_set e c = ap rich_type (got_value (at_kind 5 e))
+  rich_any_set e c = ap rich_type (got_value (at_kind TypeKind.AnySet e))
 
-  pub rich_never : k ≡ 10 → (c : List ℕ) → base_of s c (Base.Plain Scalar.Never) ≡ rich_type (type_in s at)
+  pub rich_never : k ≡ TypeKind.Never → (c : List ℕ) → base_of s c (Base.Plain Scalar.Never) ≡ rich_type (type_in s at)
   unfolding choose kinds rich_type_by
-  rich_never e c = ap rich_type (got_value (at_kind 10 e))
+  rich_never e c = ap rich_type (got_value (at_kind TypeKind.Never e))
 
-  pub rich_object : k ≡ 6 → (c : List ℕ) → base_of s c (Base.Plain Scalar.Object) ≡ rich_type (type_in s at)
+  pub rich_object : k ≡ TypeKind.Record → (c : List ℕ) → base_of s c (Base.Plain Scalar.Object) ≡ rich_type (type_in s at)
   unfolding choose kinds rich_type_by
-  rich_object e c = ap rich_type (got_value (split (attributes (type_at 31) s (at + 1)) _ (at_kind 6 e)).rest)
+  rich_object e c = ap rich_type (got_value (split (attributes (type_at 31) s (at + 1)) _ (at_kind TypeKind.Record e)).rest)
 
   -- an extension and an entity have a name
-  module _ (e : k ≡ 3) where
+  module _ (e : k ≡ TypeKind.Extension) where
     is_extension : extension (word_at s (at + 1)) ≡ type_in s at
     unfolding choose kinds
-    is_extension = let a = split (string_of path_name s (at + 1)) _ (at_kind 3 e) in ap extension (sym (string_view path_name s (at + 1) a.first).word) ∙ got_value a.rest
+    is_extension = let a = split (string_of path_name s (at + 1)) _ (at_kind TypeKind.Extension e) in ap extension (sym (string_view path_name s (at + 1) a.first).word) ∙ got_value a.rest
 
     pub rich_extension : (v : List ℕ) → v ≡ word_at s (at + 1) → (w : List ℕ) → w ≡ simple_name v → (a : Scalar) → scalar_of a ≡ extension_type dated w → (c : List ℕ) → base_of s c (Base.Plain a) ≡ rich_type (type_in s at)
     unfolding rich_type_by
     rich_extension v is_v w is_w a is_a c = rw (is_a, ← is_extension, ← is_v, ← is_w)
 
-  module _ (e : k ≡ 7) where
+  module _ (e : k ≡ TypeKind.Entity) where
     named : Split (string_of path_name s (at + 1)) (λ w n. got (schema.entity w) n) (type_in s at) (accept _ is).place
     unfolding choose kinds
-    named = split (string_of path_name s (at + 1)) _ (at_kind 7 e)
+    named = split (string_of path_name s (at + 1)) _ (at_kind TypeKind.Entity e)
 
     pub name_inside : at + 1 + 1 + get_or s (at + 1) 0 ≤ length s
     name_inside = let v = string_view path_name s (at + 1) named.first in omega (arith, v.place, v.inside)
@@ -100,30 +102,18 @@ module _ (s : List ℕ) (at : ℕ) (is : is_type s at ≡ true) (k : ℕ) (op : 
         let w = (string_view path_name s (at + 1) named.first).word in
         rw (is_tag c, ← w, ← got_value named.rest)
 
-  pub rich_untagged : (get_or s at 0 ≡ 4 → ⊥) → (k ≡ 0 → ⊥) → (k ≡ 1 → ⊥) → (k ≡ 2 → ⊥) → (k ≡ 3 → ⊥) → (k ≡ 5 → ⊥) → (k ≡ 6 → ⊥) → (k ≡ 7 → ⊥) → (k ≡ 10 → ⊥) → (c : List ℕ) → base_of s c Base.Untagged ≡ rich_type (type_in s at)
-  unfolding choose kinds rich_type_by Each
-  rich_untagged n4 n0 n1 n2 n3 n5 n6 n7 n10 c =
-      let known : k < 11 = rw op.kind (open_type s at (accept _ is).read).known in
-      each_below (λ j. k ≡ j → entity none ≡ rich_type (type_in s at)) 11 (
-      tt
-      & (λ e. absurd (n0 e))
-      & (λ e. absurd (n1 e))
-      & (λ e. absurd (n2 e))
-      & (λ e. absurd (n3 e))
-      & (λ e. absurd (n4 (sym op.kind ∙ e)))
-      & (λ e. absurd (n5 e))
-      & (λ e. absurd (n6 e))
-      & (λ e. absurd (n7 e))
-      & (λ e. ap rich_type (got_value (at_kind 8 e)))
-      & (λ e. ap rich_type (got_value (at_kind 9 e)))
-      & (λ e. absurd (n10 e)))
-      k known refl
+  -- below the layers no set is left, and no other kind is untagged
+  pub rich_untagged : (get_or s at 0 ≡ 4 → ⊥) → (k ≡ TypeKind.Set) ⊎ ((k ≡ TypeKind.SeveralEntities) ⊎ (k ≡ TypeKind.AnyEntity)) → (c : List ℕ) → base_of s c Base.Untagged ≡ rich_type (type_in s at)
+  unfolding choose kinds rich_type_by
+  rich_untagged h (inl e) c = absurd (h (sym op.kind ∙ ap kind_number e))
+  rich_untagged h (inr (inl e)) c = ap rich_type (got_value (at_kind TypeKind.SeveralEntities e))
+  rich_untagged h (inr (inr e)) c = ap rich_type (got_value (at_kind TypeKind.AnyEntity e))
 
   -- a set, and its element one byte on
-  module _ (e : k ≡ 4) where
+  module _ (e : k ≡ TypeKind.Set) where
     element : Split (type_at 31 s (at + 1)) (λ t n. got (set t) n) (type_in s at) (accept _ is).place
     unfolding choose kinds
-    element = split (type_at 31 s (at + 1)) _ (at_kind 4 e)
+    element = split (type_at 31 s (at + 1)) _ (at_kind TypeKind.Set e)
 
     element_wide : type_at levels s (at + 1) ≡ got element.value element.place
     element_wide = type_wider 31 levels (omega arith) s (at + 1) element.value element.place element.first
@@ -137,8 +127,8 @@ module _ (s : List ℕ) (at : ℕ) (is : is_type s at ≡ true) (k : ℕ) (op : 
         let i : type_in s at ≡ set (type_in s (at + 1)) = sym (got_value element.rest) ∙ ap set (sym (has_value never element_wide)) in
         layered_more n (rich_type (type_in s (at + 1))) ∙ sym (ap (λ (t : Declared). layered n (rich_type t)) i) ∙ inv
 
-  pub not_set : (k ≡ 4 → ⊥) → (get_or s at 0 ≡ 4 → ⊥)
-  not_set h e = h (op.kind ∙ e)
+  pub not_set : (k ≡ TypeKind.Set → ⊥) → (get_or s at 0 ≡ 4 → ⊥)
+  not_set h e = h (one_kind TypeKind.Set k (op.kind ∙ e))
 
 -- no layer yet, and the base below all of them
 pub no_layer : (t : Ty) → layered 0 t ≡ t

@@ -1,7 +1,7 @@
 -- The place behind what is accepted, by lengths and counts alone. Assumes nothing.
 use mathlib.Core.Path.{◌≡◌, refl, sym, ap, ◌∙◌}
 use mathlib.Core.Bool.{true}
-use mathlib.Core.Logic.{◌⊎◌, ⊎_elim, inl, inr}
+use mathlib.Core.Logic.{◌⊎◌, ⊎_elim}
 use mathlib.Core.List.{List, [], ◌∷◌}
 use mathlib.Core.Option.{Option, none, some}
 use Prim.Native.Nat.{ℕ, zero, suc, ◌+◌, ◌-◌, ◌≤◌, ◌<◌}
@@ -16,10 +16,11 @@ use Rattle.names.specs.Laws.Readers.{u8_view, string_view, StringView, split, ac
 use Rattle.names.specs.Laws.Rows.{Opens, opens, each_done, row_cons, row_append}
 use Rattle.names.specs.declared.Row.{Row}
 use Rattle.schema.specs.Schema.{Declared, Attributes, ascending, type_at, attributes, attributes_of, entity_type, action}
-use Rattle.schema.specs.Places.{past_word, is_type, are_fields, are_names, is_entity, entity_in, are_entities, entities_at, is_action, action_in, attribute_at, KindHere, Below, Inside}
-use Rattle.schema.specs.Laws.ByKind.{ascending_string, type_set, type_object, type_extension, type_entity, type_leaf}
+use Rattle.schema.specs.Places.{past_word, is_type, are_fields, are_names, is_entity, entity_in, are_entities, entities_at, is_action, action_in, attribute_at, KindHere, kind_number, Below, Inside}
+use Rattle.schema.specs.Laws.ByKind.{one_kind, ascending_string, type_set, type_object, type_extension, type_entity, type_leaf}
 use Rattle.schema.proofs.Levels.{type_wider, attributes_wider}
 use Rattle.schema.proofs.Ahead.{type_ahead}
+use Rattle.schema.specs.declared.kind.TypeKind.{TypeKind}
 use Rattle.schema.proofs.TypeViews.{open_type}
 use Rattle.schema.proofs.Views.{free_entity, unkeyed, names_view, names_inside, name_of, entity_there, entity_inside, ancestors_stand, action_there, type_inside, id_inside}
 use Rattle.std.specs.Prelude.{Ok}
@@ -121,22 +122,22 @@ module _ (s : List ℕ) (start at : ℕ) (b : Below s start at) where
   ends_here : ending (type_at levels s start) ≡ Ok here.place
   ends_here = b.ends ∙ ended here.read
 
-  module _ (k : ℕ) (o : KindHere s at k) where
-    pub set_below : k ≡ 4 → Below s start (at + 1)
+  module _ (k : TypeKind) (o : KindHere s at (kind_number k)) where
+    pub set_below : k ≡ TypeKind.Set → Below s start (at + 1)
     set_below e =
-        let i = type_set s at levels o.inside (λ z. omega arith) (sym o.kind ∙ e) _ refl in
+        let i = type_set s at levels o.inside (λ z. omega arith) (sym o.kind ∙ ap kind_number e) _ refl in
         let a = reads (type_at 31 s (at + 1)) (i ∙ ended here.read) in
         let w = type_wider 31 levels (omega arith) s (at + 1) a.value a.place a.read in
         record { stands = is_accepted w; ends = b.ends ∙ sym i ∙ ended a.read ∙ sym (ended w); behind = omega (arith, b.behind) }
 
-    pub below_other : (k ≡ 4 → ⊥) → (get_or s at 0 ≡ 4 → ⊥)
-    below_other h e = h (o.kind ∙ e)
+    pub below_other : (k ≡ TypeKind.Set → ⊥) → (get_or s at 0 ≡ 4 → ⊥)
+    below_other h e = h (one_kind TypeKind.Set k (o.kind ∙ e))
 
     -- a record: its attributes
-    module _ (e : k ≡ 6) where
+    module _ (e : k ≡ TypeKind.Record) where
       record_fields_lem : FieldsView s (at + 1) here.place
       record_fields_lem =
-          let i = type_object s at levels o.inside (λ z. omega arith) (sym o.kind ∙ e) _ refl in
+          let i = type_object s at levels o.inside (λ z. omega arith) (sym o.kind ∙ ap kind_number e) _ refl in
           let a = reads (attributes (type_at 31) s (at + 1)) (i ∙ ended here.read) in
           let w = attributes_wider (type_at 31) (type_at levels) (type_wider 31 levels (omega arith)) s (at + 1) a.value a.place a.read in
           let p : a.place ≡ here.place = sym (at-end _ a.read (i ∙ ended here.read)) in
@@ -169,9 +170,9 @@ module _ (s : List ℕ) (start at : ℕ) (b : Below s start at) where
           let p : m ≡ a.place = e ∙ sym name_here.place in
           none_in m (sym i ∙ ended a.read ∙ ap Ok (sym p)) (omega arith) (rw p name_here.inside)
 
-    module _ (e : k ≡ 3) where
+    module _ (e : k ≡ TypeKind.Extension) where
       extension-is : ending (string_of path_name s (at + 1)) ≡ ending (type_at levels s at)
-      extension-is = type_extension s at levels o.inside (λ z. omega arith) (sym o.kind ∙ e) _ refl
+      extension-is = type_extension s at levels o.inside (λ z. omega arith) (sym o.kind ∙ ap kind_number e) _ refl
 
       pub extension_inside : past_word s (at + 1) ≤ length s
       extension_inside = name_inside extension-is
@@ -179,9 +180,9 @@ module _ (s : List ℕ) (start at : ℕ) (b : Below s start at) where
       pub in_extension : (m : ℕ) → m ≡ past_word s (at + 1) → Inside s start (record { count = 0; at = m })
       in_extension = in_name extension-is
 
-    module _ (e : k ≡ 7) where
+    module _ (e : k ≡ TypeKind.Entity) where
       entity-is : ending (string_of path_name s (at + 1)) ≡ ending (type_at levels s at)
-      entity-is = type_entity s at levels o.inside (λ z. omega arith) (sym o.kind ∙ e) _ refl
+      entity-is = type_entity s at levels o.inside (λ z. omega arith) (sym o.kind ∙ ap kind_number e) _ refl
 
       pub entity_name_inside : past_word s (at + 1) ≤ length s
       entity_name_inside = name_inside entity-is
@@ -189,19 +190,16 @@ module _ (s : List ℕ) (start at : ℕ) (b : Below s start at) where
       pub in_entity : (m : ℕ) → m ≡ past_word s (at + 1) → Inside s start (record { count = 0; at = m })
       in_entity = in_name entity-is
 
-    pub in_leaf : (get_or s at 0 ≡ 4 → ⊥) → (k ≡ 6 → ⊥) → (k ≡ 3 → ⊥) → (k ≡ 7 → ⊥) → Inside s start (record { count = 0; at = at + 1 })
+    pub in_leaf : (get_or s at 0 ≡ 4 → ⊥) → (k ≡ TypeKind.Record → ⊥) → (k ≡ TypeKind.Extension → ⊥) → (k ≡ TypeKind.Entity → ⊥) → Inside s start (record { count = 0; at = at + 1 })
     in_leaf four six three seven =
         let v = open_type s at here.read in
         let known : get_or s at 0 ≤ 10 = omega (arith, v.known) in
-        let i = type_leaf s at levels o.inside (λ z. omega arith) known (λ q. three (o.kind ∙ q)) four (λ q. six (o.kind ∙ q)) (λ q. seven (o.kind ∙ q)) in
+        let i = type_leaf s at levels o.inside (λ z. omega arith) known (λ q. three (one_kind TypeKind.Extension k (o.kind ∙ q))) four (λ q. six (one_kind TypeKind.Record k (o.kind ∙ q))) (λ q. seven (one_kind TypeKind.Entity k (o.kind ∙ q))) in
         none_in (at + 1) (sym i) (omega arith) (omega (arith, o.inside))
 
     -- an extension and an entity have a name, of which nothing is left
-    pub in_named : (k ≡ 3) ⊎ (k ≡ 7) → (m : ℕ) → m ≡ past_word s (at + 1) → Inside s start (record { count = 0; at = m })
+    pub in_named : (k ≡ TypeKind.Extension) ⊎ (k ≡ TypeKind.Entity) → (m : ℕ) → m ≡ past_word s (at + 1) → Inside s start (record { count = 0; at = m })
     in_named e m i = ⊎_elim (λ x. in_extension x m i) (λ y. in_entity y m i) e
-
-    pub in_other : (get_or s at 0 ≡ 4 → ⊥) → (k ≡ 6 → ⊥) → ((k ≡ 3) ⊎ (k ≡ 7) → ⊥) → Inside s start (record { count = 0; at = at + 1 })
-    in_other four six named = in_leaf four six (λ e. named (inl e)) (λ e. named (inr e))
 
 pub below_start : (s : List ℕ) (at : ℕ) → is_type s at ≡ true → Below s at at
 below_start s at is = record { stands = is; ends = refl; behind = omega arith }
@@ -211,7 +209,7 @@ below_stands s start at b = b.stands
 
 pub ruleset below_sets = (rules, below_start, below_stands, set_below, below_other)
 
-pub ruleset insides = (rules, record_count, in_record, extension_inside, in_extension, entity_name_inside, in_entity, in_named, in_other)
+pub ruleset insides = (rules, record_count, in_record, extension_inside, in_extension, entity_name_inside, in_entity, in_named, in_leaf)
 
 -- ---- attributes by themselves
 

@@ -15,9 +15,7 @@ use Rattle.names.specs.Read.{word_at, row, is_row, row_in, Found}
 use Rattle.names.specs.Laws.Readers.{accept, has_value}
 use Rattle.names.specs.Laws.Rows.{Remaining, remaining_over, StringsLeft, strings_left, opens, row_empty, string_class}
 use Rattle.schema.specs.Find.{action_type}
-use Rattle.schema.specs.Places.{goes_on, place_of, is_namespace, namespace_in}
-use Rattle.names.specs.declared.Row.{Row}
-use Rattle.schema.specs.declared.Namespace.{Namespace}
+use Rattle.schema.specs.Places.{goes_on, place_of}
 use Rattle.std.specs.Prelude.{Some, None}
 
 -- a string against two parts one after another
@@ -193,17 +191,3 @@ module _ (t c : List ℕ) (o : Bool) (end i at from : ℕ) where
           rw left (record { left = opened.others; there = rw q opened.there; same = rw e at (by_first opened.others opened.same) })
 
 pub ruleset parts_left = (rules, parts_start, parts_over, parts_inside, parts_absent, parts_on, past_inside)
-
--- Either form of a namespace.
-module _ (t n : List ℕ) (k : Namespace) where
-  pub by_whole : k ≡ Namespace.Whole → (r : Bool) → r ≡ same t (action_type n) → r ≡ same t (action_type (namespace_in n k))
-  by_whole e r is = rw e is
-
-  module _ (p : Row) (e : k ≡ Namespace.Parts p) where
-    pub parts_stand : is_namespace n k ≡ true → is_row (string_of path_name) n p.count p.at ≡ true
-    parts_stand is = rw e at is
-
-    pub by_parts : (r : Bool) → r ≡ same t (action_type (joined (row_in (string_of path_name) n p.count p.at))) → r ≡ same t (action_type (namespace_in n k))
-    by_parts r is = rw e is
-
-pub ruleset forms = (rules, by_whole, parts_stand, by_parts)

@@ -13,11 +13,14 @@ use Rattle.names.specs.Fields.{got, Reader, u8, choose, string_of, levels}
 use Rattle.names.specs.Names.{path_name}
 use Rattle.names.specs.Laws.Readers.{u8_view, split, accept, Accepted, is_accepted, has_value, got_value, Each, each_below, ◌&◌}
 use Rattle.schema.specs.Schema.{Declared, Attributes, never, nothing, object, kinds, type_at, attributes}
-use Rattle.schema.specs.Places.{type_in, is_type, fields_in, are_fields, FindsFields, KindHere}
+use Rattle.schema.specs.Places.{type_in, is_type, fields_in, are_fields, FindsFields, KindHere, kind_number, Decodes}
 use Rattle.schema.specs.Find.{fields_of}
-use Rattle.schema.specs.Laws.ByKind.{choose_above}
+use Rattle.schema.specs.Laws.ByKind.{choose_above, one_kind}
 use Rattle.schema.proofs.Levels.{type_wider, attributes_wider}
-use Rattle.std.specs.Prelude.{Some, None}
+use Rattle.names.specs.declared.refusal.Refusal.{Refusal}
+use Rattle.schema.specs.declared.kind.TypeKind.{TypeKind}
+use Rattle.std.specs.Prelude.{Some, None, Result, Ok, Err}
+use Rattle.std.specs.Result.{result_unwrap_or}
 
 -- a type, accepted: its kind, and what follows it
 pub record Open (s : List ℕ) (at : ℕ) (t : Declared) (n : ℕ) : Type 0 where
@@ -97,12 +100,22 @@ module _ (s : List ℕ) (at : ℕ) (is : is_type s at ≡ true) where
         ap fields_of (has_value never (accept _ is).read ∙ record_is (type_at 31) s (at + 1) at_6 fields.read)
         ∙ ap some (sym (has_value nothing fields_wide))
 
--- The attributes of a type, by what its first byte was found to be.
-module _ (s : List ℕ) (at : ℕ) (is : is_type s at ≡ true) (k : ℕ) (op : KindHere s at k) where
-  pub a_record : k ≡ 6 → FindsFields s (fields_of (type_in s at)) (Some (at + 1))
-  a_record h = record { value = sym (object_fields s at is k op.kind h); stands = object_accepted s at is k op.kind h }
+-- The kind of the type that stands at a position, by what its first byte is decoded to.
+module _ (s : List ℕ) (at : ℕ) (is : is_type s at ≡ true) where
+  pub kind_opened : (r : Result TypeKind Refusal) → Decodes (get_or s at 0) r → (k : TypeKind) → k ≡ result_unwrap_or r TypeKind.Never → KindHere s at (kind_number k)
+  kind_opened (Ok k) d k' e = type_opened s at is (kind_number k') (ap kind_number e ∙ d)
+  kind_opened (Err r) d k e = let v = open_type s at (accept _ is).read in absurd (omega (arith, d.1, v.known))
 
-  pub no_record : (k ≡ 6 → ⊥) → FindsFields s (fields_of (type_in s at)) None
-  no_record h = record { value = sym (other_fields s at is k op.kind h); stands = refl }
+pub ruleset kinds_here = (rules, type_inside, kind_opened)
+
+-- The attributes of a type, by its kind.
+module _ (s : List ℕ) (at : ℕ) (is : is_type s at ≡ true) (k : TypeKind) (op : KindHere s at (kind_number k)) where
+  pub a_record : k ≡ TypeKind.Record → FindsFields s (fields_of (type_in s at)) (Some (at + 1))
+  a_record h =
+      let e = ap kind_number h in
+      record { value = sym (object_fields s at is (kind_number k) op.kind e); stands = object_accepted s at is (kind_number k) op.kind e }
+
+  pub no_record : (k ≡ TypeKind.Record → ⊥) → FindsFields s (fields_of (type_in s at)) None
+  no_record h = record { value = sym (other_fields s at is (kind_number k) op.kind (λ e. h (one_kind TypeKind.Record k e))); stands = refl }
 
 pub ruleset record_fields = (rules, a_record, no_record)

@@ -1,5 +1,5 @@
 -- What positions of a schema's bytes stand for, and what the answers of the lookups mean.
-use Rattle.std.specs.Prelude.{ℕ, ◌+◌, ◌≤◌, ◌<◌, ◌≡◌, Bool, true, false, cond, ◌&&◌, List, [], length, get_or, drop, eqb, Some, None}
+use Rattle.std.specs.Prelude.{ℕ, ◌+◌, ◌≤◌, ◌<◌, ◌≡◌, Bool, true, false, cond, ◌&&◌, List, [], length, get_or, drop, eqb, Some, None, Result, MatchResult}
 use Rattle.std.proofs.Math.Option.{Option, none, some}
 use Rattle.names.specs.Lists.{first}
 use Rattle.names.specs.Fields.{Reader, ◌>>=◌, levels, whole, many, counted, string_of}
@@ -8,7 +8,9 @@ use Rattle.names.specs.Read.{word_at, ending, accepted, value_or, row, is_row, r
 use Rattle.schema.specs.Schema.{Key, Declared, Attributes, EntityType, Action, Schema, never, nothing, ascending, type_at, attributes, entity_type, action, key_of, schema_record}
 use Rattle.schema.specs.Find.{action_type, find_entity}
 use Rattle.names.specs.declared.Row.{Row}
-use Rattle.schema.specs.declared.Namespace.{Namespace}
+use Rattle.names.specs.declared.refusal.Refusal.{Refusal}
+use Rattle.schema.specs.declared.namespace.Namespace.{Namespace}
+use Rattle.schema.specs.declared.kind.TypeKind.{TypeKind}
 
 -- where the byte after the string at a position stands
 abbrev pub past_word : List ℕ → ℕ → ℕ
@@ -129,6 +131,24 @@ pub record KindHere (s : List ℕ) (at k : ℕ) : Type 0 where
   pub inside : at < length s
   pub kind : k ≡ get_or s at 0
 
+-- the byte that a type of a kind begins with
+abbrev pub kind_number : TypeKind → ℕ
+kind_number TypeKind.Long = 0
+kind_number TypeKind.String = 1
+kind_number TypeKind.Bool = 2
+kind_number TypeKind.Extension = 3
+kind_number TypeKind.Set = 4
+kind_number TypeKind.AnySet = 5
+kind_number TypeKind.Record = 6
+kind_number TypeKind.Entity = 7
+kind_number TypeKind.SeveralEntities = 8
+kind_number TypeKind.AnyEntity = 9
+kind_number TypeKind.Never = 10
+
+-- what a byte stands for: a kind, or none, which is refused
+abbrev pub Decodes : ℕ → Result TypeKind Refusal → Type 0
+Decodes byte r = MatchResult r (λ kind. kind_number kind ≡ byte) (λ refusal. (refusal ≡ Refusal.UndefinedChoice) × (10 < byte))
+
 -- the actions of the schema stand in a row
 pub record ActionsOf (s : List ℕ) (r : Row) : Type 0 where
   pub stands : accepted (many key_of action r.count none s r.at) ≡ true
@@ -166,14 +186,10 @@ pub record Near (s name : List ℕ) (r : Row) : Type 0 where
   pub row : Nearby s r
   pub finds : FindsEntity s (find_entity (schema_in s) name) (found_here s name r)
 
--- the namespace of an action: the bytes given, or names that stand in them, joined by `::`
-abbrev pub namespace_in : List ℕ → Namespace → List ℕ
-namespace_in n Namespace.Whole = n
-namespace_in n (Namespace.Parts r) = joined (row_in (string_of path_name) n r.count r.at)
-
-abbrev pub is_namespace : List ℕ → Namespace → Bool
-is_namespace n Namespace.Whole = true
-is_namespace n (Namespace.Parts r) = is_row (string_of path_name) n r.count r.at
+-- the namespace of an action: the bytes given, or names that stand in bytes, joined by `::`
+abbrev pub namespace_in : Namespace → List ℕ
+namespace_in (Namespace.Whole n) = n.now
+namespace_in (Namespace.Parts names) = joined (row_in (string_of path_name) names.bytes.now names.row.count names.row.at)
 
 -- the action of a namespace and an id
 abbrev pub is_of : List ℕ → List ℕ → Action → Bool

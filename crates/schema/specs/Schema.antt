@@ -15,6 +15,7 @@ mutual
     object : Attributes → Declared
     entity : List ℕ → Declared
     several_entities any_entity never : Declared
+    deriving IsSet as Declared-set
 
   pub data Attributes : Type 0 where
     nothing : Attributes

@@ -6,11 +6,13 @@ ghost use Rattle.names.specs.Names.{same, path_name, joined};
 ghost use Rattle.names.specs.Read.{word_at, is_row, row_in};
 ghost use Rattle.names.specs.Text.{text};
 ghost use Rattle.schema.specs.Find.{find_attribute, find_action, action_type, fields_of};
-ghost use Rattle.schema.specs.Places.{are_fields, fields_in, Finds, is_schema, schema_in, is_type, type_in, is_entity, entity_in, FindsAction, FindsFields, ActionsOf, is_namespace, namespace_in, past_word, goes_on, place_of};
+ghost use Rattle.schema.specs.Places.{are_fields, fields_in, Finds, schema_in, is_type, type_in, is_entity, entity_in, FindsAction, FindsFields, ActionsOf, namespace_in, past_word, goes_on, place_of};
 
-use crate::Namespace;
+use crate::kind::TypeKind;
+use crate::namespace::{NameRow, Namespace};
 use crate::parts::{actions, ancestors};
 use crate::past::{count_at, past_action, past_type};
+use crate::record::SchemaRecord;
 use crate::rich::kind_at;
 use names::Row;
 
@@ -36,7 +38,7 @@ pub fn record_fields(s: &[u8], at: usize) -> Option<usize>
     ensures { FindsFields s.now (fields_of (type_in s.now at)) result }
 {
     match kind_at(s, at) {
-        6 => Some(at + 1),
+        TypeKind::Record => Some(at + 1),
         _ => None,
     }
 }
@@ -66,7 +68,9 @@ pub fn has_ancestor(s: &[u8], at: usize, name: &[u8]) -> bool
 }
 
 // Past a part of a type name and the `::` after it, from `from` on. `names::same` compares eight
-// bytes at once, which `strip_prefix` does not.
+// bytes at once, which `strip_prefix` does not. The type name goes with the place from which it is
+// left, and is no slice of its own, since `goes_on` tells of a place in the whole name what may
+// follow there.
 fn past_part(t: &[u8], from: usize, part: &[u8]) -> Option<usize>
     requires { from ≤ length t.now }
     ensures by_index { (rest : List ℕ) → goes_on t.now rest result ≡ same (drop from t.now) (part.now ++ (58 ∷ 58 ∷ rest)) }
@@ -112,53 +116,53 @@ fn is_type_of(t: &[u8], namespace: &[u8]) -> bool
 }
 
 // A type name is that of the actions of a namespace whose parts stand in a row.
-fn is_type_of_parts(t: &[u8], c: &[u8], row: Row) -> bool
-    requires { is_row (string_of path_name) c.now row.count row.at ≡ true }
-    ensures { result ≡ same t.now (action_type (joined (row_in (string_of path_name) c.now row.count row.at))) }
+fn is_type_of_parts(t: &[u8], parts: NameRow<'_>) -> bool
+    ensures { result ≡ same t.now (action_type (namespace_in (Namespace.Parts parts.entry))) }
 {
-    let mut at = row.at;
+    let bytes = parts.bytes;
+    let mut at = parts.row.at;
     let mut from = 0;
-    for _ in 0..row.count {
-        let Some(p) = past_part(t, from, names::word(c, at)) else {
+    for _ in 0..parts.row.count {
+        let Some(p) = past_part(t, from, names::word(bytes, at)) else {
             return false;
         };
-        at = names::past_word(c, at);
+        at = names::past_word(bytes, at);
         from = p;
     }
     ends_in_action(t, from)
 }
 
-fn is_action_type(t: &[u8], n: &[u8], namespace: Namespace) -> bool
-    requires { is_namespace n.now namespace ≡ true }
-    ensures { result ≡ same t.now (action_type (namespace_in n.now namespace)) }
+fn is_action_type(t: &[u8], namespace: Namespace<'_>) -> bool
+    ensures { result ≡ same t.now (action_type (namespace_in namespace.entry)) }
 {
     match namespace {
-        Namespace::Whole => is_type_of(t, n),
-        Namespace::Parts(row) => is_type_of_parts(t, n, row),
+        Namespace::Whole(whole) => is_type_of(t, whole),
+        Namespace::Parts(parts) => is_type_of_parts(t, parts),
     }
 }
 
-// The action at `at` is that of a namespace and an id: the id is compared first, since the actions of a namespace share their type name.
-fn is_action(s: &[u8], at: usize, n: &[u8], namespace: Namespace, id: &[u8]) -> bool
-    requires { is_namespace n.now namespace ≡ true }
-    ensures { result ≡ (same (word_at s.now at) (action_type (namespace_in n.now namespace)) && same (word_at s.now (past_word s.now at)) id.now) }
+// The action at `at` is that of a namespace and an id: the id is compared first, since the actions
+// of a namespace share their type name. The namespace and the id are two parameters: no fact binds
+// them, and each is compared alone.
+fn is_action(s: &[u8], at: usize, namespace: Namespace<'_>, id: &[u8]) -> bool
+    ensures { result ≡ (same (word_at s.now at) (action_type (namespace_in namespace.entry)) && same (word_at s.now (past_word s.now at)) id.now) }
 {
     let same_id = names::same(names::word_after(s, at), id);
     if same_id {
-        return is_action_type(names::word(s, at), n, namespace);
+        return is_action_type(names::word(s, at), namespace);
     }
     false
 }
 
-// The action of a namespace and an id, by the position of its type name, in the row of the schema's actions.
-pub fn action_among(s: &[u8], row: Row, n: &[u8], namespace: Namespace, id: &[u8]) -> Option<usize>
-    requires actions_of { ActionsOf s.now row }
-    requires namespace_value { is_namespace n.now namespace ≡ true }
-    ensures { FindsAction s.now (find_action (schema_in s.now) (namespace_in n.now namespace) id.now) result }
+// The action of a namespace and an id, by the position of its type name, in the row of the schema's
+// actions.
+pub fn action_among(s: &[u8], row: Row, namespace: Namespace<'_>, id: &[u8]) -> Option<usize>
+    requires { ActionsOf s.now row }
+    ensures { FindsAction s.now (find_action (schema_in s.now) (namespace_in namespace.entry) id.now) result }
 {
     let mut at = row.at;
     for _ in 0..row.count {
-        if is_action(s, at, n, namespace, id) {
+        if is_action(s, at, namespace, id) {
             return Some(at);
         }
         at = past_action(s, at);
@@ -167,11 +171,8 @@ pub fn action_among(s: &[u8], row: Row, n: &[u8], namespace: Namespace, id: &[u8
 }
 
 // The same, in a schema whose row of actions is not at hand.
-pub fn action(s: &[u8], n: &[u8], namespace: Namespace, id: &[u8]) -> Option<usize>
-    requires s_value { is_schema s.now ≡ true }
-    requires namespace_value { is_namespace n.now namespace ≡ true }
-    ensures { FindsAction s.now (find_action (schema_in s.now) (namespace_in n.now namespace) id.now) result }
+pub fn action(s: SchemaRecord<'_>, namespace: Namespace<'_>, id: &[u8]) -> Option<usize>
+    ensures { FindsAction s.entry.bytes.now (find_action (schema_in s.entry.bytes.now) (namespace_in namespace.entry) id.now) result }
 {
-    let row = actions(s);
-    action_among(s, row, n, namespace, id)
+    action_among(s.bytes, actions(s), namespace, id)
 }

@@ -1,27 +1,26 @@
-// Entity types looked up by names that ascend: each search goes on from where the one before ended, so that all of them together pass over each entity type once.
-ghost use Rattle.std.specs.Prelude.{◌≡◌, true};
+// Entity types looked up by names that ascend: each search goes on from where the one before ended,
+// so that all of them together pass over each entity type once.
 ghost use Rattle.schema.specs.Find.{find_entity};
-ghost use Rattle.schema.specs.Places.{is_schema, schema_in, FindsEntity, EntitiesOf, Nearby, Serving, Near};
+ghost use Rattle.schema.specs.Places.{schema_in, FindsEntity, EntitiesOf, Nearby, Serving, Near};
 
 use crate::past::past_entity;
+use crate::record::SchemaRecord;
 use names::Row;
 
 // All entity types of the schema.
-pub fn entity_row(s: &[u8]) -> Row
-    requires { is_schema s.now ≡ true }
-    ensures { EntitiesOf s.now result }
+pub fn entity_row(s: SchemaRecord<'_>) -> Row
+    ensures { EntitiesOf s.entry.bytes.now result }
 {
-    let count = names::u16_at(s, 5);
+    let count = names::u16_at(s.bytes, 5);
     Row { count, at: 7 }
 }
 
 // Where a search begins: where the last one ended, or, where that is behind the name, at the front.
-fn beginning(s: &[u8], from: Row, name: &[u8]) -> Row
-    requires s_value { is_schema s.now ≡ true }
-    requires nearby { Nearby s.now from }
-    ensures { Serving s.now name.now result }
+fn beginning(s: SchemaRecord<'_>, from: Row, name: &[u8]) -> Row
+    requires { Nearby s.bytes.now from }
+    ensures { Serving s.entry.bytes.now name.now result }
 {
-    if names::is_below(name, names::word(s, from.at)) {
+    if names::is_below(name, names::word(s.bytes, from.at)) {
         return entity_row(s);
     }
     from
@@ -29,12 +28,12 @@ fn beginning(s: &[u8], from: Row, name: &[u8]) -> Row
 
 // The entity types from the last one on whose name is not behind the one looked for. How many are
 // left is part of the answer, so the loop counts them down where a range would count beside them.
-pub fn entity_near(s: &[u8], from: Row, name: &[u8]) -> Row
-    requires s_value { is_schema s.now ≡ true }
-    requires nearby { Nearby s.now from }
-    ensures { Near s.now name.now result }
+pub fn entity_near(schema: SchemaRecord<'_>, from: Row, name: &[u8]) -> Row
+    requires { Nearby schema.bytes.now from }
+    ensures { Near schema.entry.bytes.now name.now result }
 {
-    let start = beginning(s, from, name);
+    let s = schema.bytes;
+    let start = beginning(schema, from, name);
     let mut left = start.count;
     let mut at = start.at;
     while 1 < left {

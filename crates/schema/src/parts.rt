@@ -1,13 +1,15 @@
-// Where the parts of a schema that was read stand: its actions, what an entity type and an action are made of.
+// Where the parts of a schema that was read stand: its actions, what an entity type and an action
+// are made of.
 ghost use Rattle.std.specs.Prelude.{◌≡◌, true};
 ghost use Rattle.names.specs.Fields.{counted, string_of};
 ghost use Rattle.names.specs.Names.{path_name};
 ghost use Rattle.names.specs.Read.{ending, Listed};
 ghost use Rattle.std.specs.Prelude.{Ok};
 ghost use Rattle.schema.specs.Schema.{ascending};
-ghost use Rattle.schema.specs.Places.{are_fields, fields_in, are_names, names_in, is_type, type_in, is_schema, is_entity, entity_in, is_action, action_in, Standing, ActionsOf, past_word};
+ghost use Rattle.schema.specs.Places.{are_fields, fields_in, are_names, names_in, is_type, type_in, is_entity, entity_in, is_action, action_in, Standing, ActionsOf, past_word};
 
 use crate::past::{count_at, past_entities, past_names};
+use crate::record::SchemaRecord;
 use names::{Read, Row};
 
 // The names of a list in order: how many, and from where on.
@@ -63,7 +65,8 @@ pub fn principals(s: &[u8], at: usize) -> Row
     row_at(s, p)
 }
 
-// The entity types that an action names as resources.
+// The entity types that an action names as resources. It differs from `principals` in the place
+// alone, and each of the two promises another field.
 pub fn resources(s: &[u8], at: usize) -> Row
     requires { is_action s.now at ≡ true }
     ensures { Listed (string_of path_name) s.now (action_in s.now at).resources result.count result.at }
@@ -82,12 +85,14 @@ pub fn context(s: &[u8], at: usize) -> usize
 }
 
 // The actions of the schema, after its entity types.
-pub fn actions(s: &[u8]) -> Row
-    requires { is_schema s.now ≡ true }
-    ensures { ActionsOf s.now result }
+pub fn actions(schema: SchemaRecord<'_>) -> Row
+    ensures { ActionsOf schema.entry.bytes.now result }
 {
-    let p = past_entities(s, 7, names::u16_at(s, 5));
+    let s = schema.bytes;
+    let count = names::u16_at(s, 5);
+    let p = past_entities(s, Row { count, at: 7 });
     let number = names::read_u16(s, p);
+    // A schema that was read has a count here, so that the `else` is never met.
     let Ok(at) = number else {
         return Row { count: 0, at: 0 };
     };

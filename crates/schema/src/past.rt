@@ -1,4 +1,5 @@
-// The place behind what stands in a schema that was read: lengths and counts are added up, and no string is looked at again.
+// The place behind what stands in a schema that was read: lengths and counts are added up, and no
+// string is looked at again.
 ghost use Rattle.std.specs.Prelude.{◌≡◌, true, ◌<◌, length, get_or};
 ghost use Rattle.std.proofs.Math.Option.{none};
 ghost use Rattle.names.specs.Fields.{counted, levels};
@@ -8,6 +9,7 @@ ghost use Rattle.std.specs.Prelude.{Ok};
 ghost use Rattle.schema.specs.Schema.{ascending, type_at, attributes, entity_type, action};
 ghost use Rattle.schema.specs.Places.{is_type, are_fields, are_names, is_entity, are_entities, entities_at, is_action, attribute_at, KindHere, Below, Inside};
 
+use crate::kind::TypeKind;
 use crate::rich::kind_at;
 use names::Row;
 
@@ -28,13 +30,14 @@ fn below_sets(s: &[u8], start: usize) -> usize
     ensures other { get_or s.now result 0 ≡ 4 → ⊥ }
 {
     let mut at = start;
-    while kind_at(s, at) == 4 {
+    while let TypeKind::Set = kind_at(s, at) {
         at += 1;
     }
     at
 }
 
-// What stands in a type behind its first byte: the attributes of a record, which end where it does; of another type none, from the place behind it.
+// What stands in a type behind its first byte: the attributes of a record, which end where it does;
+// of another type none, from the place behind it.
 fn inside(s: &[u8], start: usize) -> Row
     requires { is_type s.now start ≡ true }
     ensures { Inside s.now start result }
@@ -43,11 +46,11 @@ fn inside(s: &[u8], start: usize) -> Row
     let kind = kind_at(s, at);
     let next = at + 1;
     match kind {
-        6 => Row {
+        TypeKind::Record => Row {
             count: count_at(s, next),
             at: next + 1,
         },
-        3 | 7 => Row {
+        TypeKind::Extension | TypeKind::Entity => Row {
             count: 0,
             at: names::past_word(s, next),
         },
@@ -110,13 +113,13 @@ pub fn past_entity(s: &[u8], at: usize) -> usize
     past_fields(s, fields)
 }
 
-// Behind so many entity types.
-pub fn past_entities(s: &[u8], start: usize, count: usize) -> usize
-    requires { are_entities s.now count start ≡ true }
-    ensures { Ok result ≡ ending (entities_at count s.now start) }
+// Behind the entity types of a row.
+pub fn past_entities(s: &[u8], entities: Row) -> usize
+    requires { are_entities s.now entities.count entities.at ≡ true }
+    ensures { Ok result ≡ ending (entities_at entities.count s.now entities.at) }
 {
-    let mut at = start;
-    for _ in 0..count {
+    let mut at = entities.at;
+    for _ in 0..entities.count {
         at = past_entity(s, at);
     }
     at

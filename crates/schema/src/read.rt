@@ -1,4 +1,9 @@
 // Which bytes are a schema: its types, names, entity types and actions, read in full or refused.
+//
+// What has to ascend is read with the place of the one before it, or `None` for the first. The
+// place and the one before it stay two arguments beside the bytes: a struct of both would be made
+// anew for each name that is read, and no fact binds the two, since what reads them finds out
+// whether they ascend.
 ghost use Rattle.std.specs.Prelude.{◌≡◌};
 ghost use Rattle.std.proofs.Math.Option.{none};
 ghost use Rattle.names.specs.Class.{class_of};
@@ -8,7 +13,8 @@ ghost use Rattle.names.specs.Read.{ending, word_at, earlier};
 ghost use Rattle.schema.specs.Schema.{after, ascending, attributes, type_at, entity_type, key_after, action, key_of, schema_record};
 ghost use Rattle.schema.specs.Places.{key_at, earlier_key};
 
-use names::{Class, Read, Refusal};
+use crate::kind::TypeKind;
+use names::{Class, Read, Refusal, Row};
 
 // The name at `at` stands after the one before.
 fn follows(s: &[u8], before: Option<usize>, at: usize) -> bool
@@ -36,19 +42,17 @@ fn read_name(s: &[u8], at: usize, class: Class, before: Option<usize>) -> Read
 fn read_type(s: &[u8], at: usize, left: usize) -> Read
     ensures { result ≡ ending (type_at left s.now at) }
 {
-    let Some(&kind) = s.get(at) else {
+    let Some(&byte) = s.get(at) else {
         return Err(Refusal::Cut);
     };
-    if 10 < kind {
-        return Err(Refusal::UndefinedChoice);
-    }
+    let kind = TypeKind::try_from(byte)?;
     if left == 0 {
         return Err(Refusal::TooDeep);
     }
     match kind {
-        4 => read_type(s, at + 1, left - 1),
-        6 => read_attributes(s, at + 1, left - 1),
-        3 | 7 => names::read_string(s, at + 1, Class::PathName),
+        TypeKind::Set => read_type(s, at + 1, left - 1),
+        TypeKind::Record => read_attributes(s, at + 1, left - 1),
+        TypeKind::Extension | TypeKind::Entity => { names::read_string(s, at + 1, Class::PathName) }
         _ => Ok(at + 1),
     }
 }
@@ -98,12 +102,13 @@ fn read_entity(s: &[u8], at: usize, before: Option<usize>) -> Read
     read_attributes(s, m, 32)
 }
 
-fn read_entities(s: &[u8], start: usize, count: usize) -> Read
-    ensures { result ≡ ending (many (λ e. e.name) entity_type count none s.now start) }
+// The entity types of a row.
+fn read_entities(s: &[u8], row: Row) -> Read
+    ensures { result ≡ ending (many (λ e. e.name) entity_type row.count none s.now row.at) }
 {
-    let mut at = start;
+    let mut at = row.at;
     let mut before = None;
-    for _ in 0..count {
+    for _ in 0..row.count {
         let n = read_entity(s, at, before)?;
         before = Some(at);
         at = n;
@@ -150,14 +155,15 @@ fn read_action(s: &[u8], at: usize, before: Option<usize>) -> Read
 }
 
 // The same loop as that of `read_entities`, over another reader and another key. One function for
-// both would take the reader from the caller, and its contract what the reader is defined as and the
-// key besides, which is more than the six lines that it would spare.
-fn read_actions(s: &[u8], start: usize, count: usize) -> Read
-    ensures { result ≡ ending (many key_of action count none s.now start) }
+// both would take the reader as a closure, and its contract would ask of each call of the closure
+// what the reader is defined as, with its key, for each caller to prove. That is more than the six
+// lines that it would spare.
+fn read_actions(s: &[u8], row: Row) -> Read
+    ensures { result ≡ ending (many key_of action row.count none s.now row.at) }
 {
-    let mut at = start;
+    let mut at = row.at;
     let mut before = None;
-    for _ in 0..count {
+    for _ in 0..row.count {
         let n = read_action(s, at, before)?;
         before = Some(at);
         at = n;
@@ -171,8 +177,10 @@ pub fn read_schema(s: &[u8]) -> Read
 {
     let at = names::read_start(s, b"DWS", 1)?;
     let n = names::read_u16(s, at)?;
-    let m = read_entities(s, n, names::u16_at(s, at))?;
+    let count = names::u16_at(s, at);
+    let m = read_entities(s, Row { count, at: n })?;
     let p = names::read_u16(s, m)?;
-    let end = read_actions(s, p, names::u16_at(s, m))?;
+    let count = names::u16_at(s, m);
+    let end = read_actions(s, Row { count, at: p })?;
     names::read_end(s, end)
 }

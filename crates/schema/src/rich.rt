@@ -5,16 +5,18 @@ ghost use Rattle.names.specs.Read.{word_at};
 ghost use Rattle.types.specs.Types.{dated};
 ghost use Rattle.types.specs.Meaning.{scalar_of, rich_of, base_of, tag_of};
 ghost use Rattle.schema.specs.Find.{extension_type, rich_type};
-ghost use Rattle.schema.specs.Places.{is_type, type_in, KindHere};
+ghost use Rattle.schema.specs.Places.{is_type, type_in, kind_number, KindHere};
 
+use crate::kind::TypeKind;
 use types::{Base, Rich, Scalar, Source, Tag};
 
-// The first byte of a type.
-pub fn kind_at(s: &[u8], at: usize) -> u8
+// The kind of a type. Its first byte stands for one, so that the default is never met.
+#[tactic(auto, using(crate::proofs::TypeViews::kinds_here))]
+pub fn kind_at(s: &[u8], at: usize) -> TypeKind
     requires { is_type s.now at ≡ true }
-    ensures { KindHere s.now at result }
+    ensures { KindHere s.now at (kind_number result) }
 {
-    s[at]
+    TypeKind::try_from(s[at]).unwrap_or(TypeKind::Never)
 }
 
 // The tag of the entity type whose name stands at `at`: a part of the schema's bytes.
@@ -49,18 +51,18 @@ fn base_at(s: &[u8], at: usize) -> Base
     ensures { (c : List ℕ) → base_of s.now c result ≡ rich_type (type_in s.now at) }
 {
     match kind_at(s, at) {
-        0 => Base::Plain(Scalar::Long),
-        1 => Base::Plain(Scalar::String),
-        2 => Base::Plain(Scalar::Bool),
-        3 => {
+        TypeKind::Long => Base::Plain(Scalar::Long),
+        TypeKind::String => Base::Plain(Scalar::String),
+        TypeKind::Bool => Base::Plain(Scalar::Bool),
+        TypeKind::Extension => {
             let name = names::word(s, at + 1);
             Base::Plain(extension_type(names::simple_name(name)))
         }
-        5 => Base::AnyArray,
-        6 => Base::Plain(Scalar::Object),
-        7 => Base::Tagged(tag_at(s, at + 1)),
-        10 => Base::Plain(Scalar::Never),
-        _ => Base::Untagged,
+        TypeKind::AnySet => Base::AnyArray,
+        TypeKind::Record => Base::Plain(Scalar::Object),
+        TypeKind::Entity => Base::Tagged(tag_at(s, at + 1)),
+        TypeKind::Never => Base::Plain(Scalar::Never),
+        TypeKind::Set | TypeKind::SeveralEntities | TypeKind::AnyEntity => Base::Untagged,
     }
 }
 
@@ -71,7 +73,7 @@ pub fn rich_type(s: &[u8], at: usize) -> Rich
 {
     let mut t = at;
     let mut layers = 0;
-    while kind_at(s, t) == 4 {
+    while let TypeKind::Set = kind_at(s, t) {
         t += 1;
         layers += 1;
     }

@@ -1,5 +1,6 @@
 // The layout of the four records and the words for what their bytes say; the walk over an accepted record by it.
-ghost use Rattle.std.specs.Prelude.{◌<◌, length, IfSome};
+ghost use Rattle.std.specs.Prelude.{length};
+ghost use Rattle.std.specs.Iterator.{at_most};
 
 use offence::Kind;
 use std::io;
@@ -80,21 +81,46 @@ fn more(first: u8, behind: &[u8]) -> usize {
     }
 }
 
-// The item in front of a rule, and what follows it; nothing at the rule's end.
-fn next_item(rule: &[u8]) -> Option<(&[u8], &[u8])>
-    ensures { IfSome result (λ p. length p.1.now < length rule.now) }
-{
-    let (first, behind) = rule.split_first()?;
-    let long = 1 + more(*first, behind).min(behind.len());
-    Some(rule.split_at(long))
+// The items of a rule, one after another.
+#[derive(Clone, Copy)]
+struct Items<'a>(&'a [u8]);
+
+impl<'a> Iterator for Items<'a> {
+    type Item = &'a [u8];
+
+    ghost remaining = { λ items. at_most (length items.0.now) };
+
+    fn next(&mut self) -> Option<&'a [u8]> {
+        let (first, behind) = self.0.split_first()?;
+        let (item, rest) = self.0.split_at(1 + more(*first, behind).min(behind.len()));
+        self.0 = rest;
+        Some(item)
+    }
 }
 
-// An item as it was shown: the place in the record and the depth behind it, and the rule that it
-// names, with how often.
+// Where the walk stands: the place in the record, and the depth.
 #[derive(Clone, Copy)]
-struct Item {
+struct Spot {
     at: usize,
     depth: usize,
+}
+
+impl Spot {
+    // As many bytes further on.
+    fn past(self, bytes: usize) -> Spot {
+        Spot {
+            at: self.at.saturating_add(bytes),
+            ..self
+        }
+    }
+}
+
+// An item as it was shown: where the walk stands behind it, and the rule that it names, with how
+// often. An item that names no rule has the count 0, so that the loop over its turns makes none: an
+// Option would be opened in that one place.
+#[derive(Clone, Copy)]
+struct Item {
+    spot: Spot,
     rule: &'static [u8],
     count: usize,
 }
@@ -117,9 +143,9 @@ impl<'a, P: Print> Walk<'a, P> {
 
     // The front of a line: the place, whose five digits end in one column, and two blanks for each
     // depth.
-    fn line(&self, at: usize, depth: usize) -> io::Result<()> {
-        print!(self.out; "\n{at:5} ")?;
-        for _ in 0..depth {
+    fn line(&self, spot: Spot) -> io::Result<()> {
+        print!(self.out; "\n{:5} ", spot.at)?;
+        for _ in 0..spot.depth {
             self.out.write_all(b"  ")?;
         }
         Ok(())
@@ -141,10 +167,9 @@ impl<'a, P: Print> Walk<'a, P> {
 
     // A span; the place behind it.
     fn span(&self, at: usize) -> io::Result<usize> {
-        self.out.write_all(b" span ")?;
-        program::print_u32(self.out, self.record, at)?;
-        self.out.write_all(b"..")?;
-        program::print_u32(self.out, self.record, at.saturating_add(4))?;
+        let start = program::u32_at(self.record, at);
+        let end = program::u32_at(self.record, at.saturating_add(4));
+        print!(self.out; " span {start}..{end}")?;
         Ok(at.saturating_add(8))
     }
 
@@ -206,9 +231,12 @@ impl<'a, P: Print> Walk<'a, P> {
     }
 
     // What a mark that names no rule stands for; the place behind it.
-    fn value(&self, mark: u8, at: usize, depth: usize, turn: usize) -> io::Result<usize> {
+    // Marks stay bytes and no enum: they stand in the table as letters do, and an enum of them would
+    // be made from the byte and matched at once.
+    fn value(&self, mark: u8, spot: Spot, turn: usize) -> io::Result<usize> {
+        let at = spot.at;
         match mark {
-            b'@' => self.line(at, depth).map(|_| at),
+            b'@' => self.line(spot).map(|_| at),
             b':' => self.out.print(turn).map(|_| at),
             b'`' => self.name(at),
             b'~' => self.span(at),
@@ -219,14 +247,14 @@ impl<'a, P: Print> Walk<'a, P> {
     }
 
     // What a mark that names a rule shows of itself, and the choice of the rule.
-    fn refer(&self, mark: u8, letter: u8, at: usize, depth: usize) -> io::Result<Item> {
-        let b = self.byte(at);
+    fn refer(&self, mark: u8, letter: u8, spot: Spot) -> io::Result<Item> {
+        let b = self.byte(spot.at);
         let (behind, number, count) = match mark {
             b'#' => (1, 0, b),
-            b'%' => (2, 0, names::u16_at(self.record, at)),
+            b'%' => (2, 0, names::u16_at(self.record, spot.at)),
             b'?' => (1, b, 1),
             b'&' => (0, 0, 1),
-            b'*' => return self.spanned(letter, at, depth),
+            b'*' => return self.spanned(letter, spot),
             _ if b == 0 => (1, 0, 1),
             _ => (0, 1, 1),
         };
@@ -234,37 +262,34 @@ impl<'a, P: Print> Walk<'a, P> {
             print!(self.out; " ({count})")?;
         }
         Ok(Item {
-            at: at.saturating_add(behind),
-            depth,
+            spot: spot.past(behind),
             rule: choice(letter, number),
             count,
         })
     }
 
     // A span and the byte behind it, whose choice of the rule is printed first.
-    fn spanned(&self, letter: u8, at: usize, depth: usize) -> io::Result<Item> {
-        say(self.out, letter, self.byte(at.saturating_add(8)))?;
-        let behind = self.span(at)?;
+    fn spanned(&self, letter: u8, spot: Spot) -> io::Result<Item> {
+        say(self.out, letter, self.byte(spot.past(8).at))?;
+        self.span(spot.at)?;
         Ok(Item {
-            at: behind.saturating_add(1),
-            depth,
+            spot: spot.past(9),
             rule: b"",
             count: 0,
         })
     }
 
     // Shows an item: a word, or what its mark stands for.
-    fn item(&self, item: &[u8], at: usize, depth: usize, turn: usize) -> io::Result<Item> {
+    fn item(&self, item: &[u8], spot: Spot, turn: usize) -> io::Result<Item> {
         let mut shown = Item {
-            at,
-            depth,
+            spot,
             rule: b"",
             count: 0,
         };
         match item {
-            [b'+'] => shown.depth = depth.saturating_add(1),
-            [mark] if is_mark(*mark) => shown.at = self.value(*mark, at, depth, turn)?,
-            [mark, letter] if is_mark(*mark) => return self.refer(*mark, *letter, at, depth),
+            [b'+'] => shown.spot.depth = spot.depth.saturating_add(1),
+            [mark] if is_mark(*mark) => shown.spot.at = self.value(*mark, spot, turn)?,
+            [mark, letter] if is_mark(*mark) => return self.refer(*mark, *letter, spot),
             word => self.out.write_all(word)?,
         }
         Ok(shown)
@@ -274,32 +299,27 @@ impl<'a, P: Print> Walk<'a, P> {
     fn items(
         &self,
         rule: &'static [u8],
-        start: usize,
-        deep: usize,
+        start: Spot,
         turn: usize,
         left: usize,
     ) -> io::Result<usize> {
-        let mut at = start;
-        let mut depth = deep;
-        let mut rest = rule;
+        let mut spot = start;
         if left == 0 {
-            return Ok(at);
+            return Ok(spot.at);
         }
-        while let Some((item, behind)) = next_item(rest) {
-            let shown = self.item(item, at, depth, turn)?;
-            rest = behind;
-            at = shown.at;
-            depth = shown.depth;
+        for item in Items(rule) {
+            let shown = self.item(item, spot, turn)?;
+            spot = shown.spot;
             for i in 0..shown.count {
-                at = self.items(shown.rule, at, depth, i, left - 1)?;
+                spot.at = self.items(shown.rule, spot, i, left - 1)?;
             }
         }
-        Ok(at)
+        Ok(spot.at)
     }
 
     // The walk must come to the record's end.
     fn last(&self, at: usize) -> io::Result<()> {
-        self.line(at, 0)?;
+        self.line(Spot { at, depth: 0 })?;
         self.out.write_all(b"end")?;
         if at != self.record.len() {
             self.out.write_all(
@@ -312,11 +332,12 @@ impl<'a, P: Print> Walk<'a, P> {
 
 // The lines of an accepted record, whose mark and version have five bytes.
 pub fn show(out: &impl Print, record: &[u8], kind: Kind) -> io::Result<()> {
-    let number = offence::record_of(kind);
+    let number = u8::from(kind);
     let walk = Walk { out, record };
-    walk.line(0, 0)?;
+    walk.line(Spot { at: 0, depth: 0 })?;
     say(out, b'X', usize::from(number))?;
     print!(out; ", version {}, {} bytes", walk.version(), record.len())?;
-    let end = walk.items(choice(number.wrapping_add(b'@'), 0), 5, 0, 0, DEEPEST)?;
+    let start = Spot { at: 5, depth: 0 };
+    let end = walk.items(choice(number.wrapping_add(b'@'), 0), start, 0, DEEPEST)?;
     walk.last(end)
 }

@@ -3,10 +3,12 @@ use crate::layout;
 use offence::Kind;
 use std::io;
 
+// Bytes and kind come one by one, as `offence` takes them.
 pub fn show(out: &impl Print, bytes: &[u8], kind: Kind, number: u8) -> io::Result<()> {
     print!(out; "\nrefused {number}: ")?;
     layout::say(out, b'Y', usize::from(number))?;
-    // the size alone shows nowhere
+    // The number is the documents' own, by which the letter Y has its words. That of the size, 1,
+    // has no place.
     if number == 1 {
         return out.write_all(b"\n");
     }
@@ -24,7 +26,7 @@ fn shown_bytes(out: &impl Print, bytes: &[u8], kind: Kind, place: usize) -> io::
     let from = place.saturating_sub(8);
     out.write_all(b"  ")?;
     if offence::has_mark(kind, bytes) {
-        layout::say(out, b'X', usize::from(offence::record_of(kind)))?;
+        layout::say(out, b'X', usize::from(u8::from(kind)))?;
         out.write_all(b", ")?;
     }
     print!(out; "from byte {from}:")?;

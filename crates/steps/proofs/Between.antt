@@ -1,14 +1,14 @@
 -- Between steps: each exit of appending and of withdrawing. Assumes nothing.
-use mathlib.Core.Path.{◌≡◌, sym, ap, ◌∙◌}
-use mathlib.Core.Bool.{true, cond, ◌&&◌, ◌||◌}
+use mathlib.Core.Path.{◌≡◌, refl, sym, ap, ◌∙◌}
+use mathlib.Core.Bool.{Bool, true, false, cond, ◌&&◌, ◌||◌}
 use mathlib.Core.List.{List, [], ◌++◌}
-use Prim.Native.Nat.{ℕ, ◌+◌, ◌-◌, ◌≤◌, ◌<◌}
+use Prim.Native.Nat.{ℕ, ◌+◌, ◌-◌, ◌≤◌, ◌<◌, min}
 use native.Mathlib.Nat.{zero-add}
 use native.Mathlib.Numerals.{add-one}
 use native.Mathlib.Omega.{arith}
 use borrow.Author.Rules.{rules}
-use borrow.Author.Tests.{lt-ltb, le-ltb, eq-eqb, ne_eqb}
-use lib.Dec.{ltb}
+use borrow.Author.Tests.{lt-ltb, le-ltb, leb-true, leb-false, eq-eqb, ne_eqb}
+use lib.Dec.{ltb, leb}
 use lib.ListN.{length, get_or, set, take, length-append, length-set}
 use lib.Seq.{length-take-le, take_all, take-length, get_or-take, set_split, take-set-lt, drop-set-lt}
 use Rattle.names.specs.Fields.{whole, number_of}
@@ -33,11 +33,16 @@ use Rattle.names.specs.declared.refusal.Refusal.{Refusal}
 
 -- ---- the front of a buffer
 
--- a buffer that is shorter
-pub front_all : (s : List ℕ) (used : ℕ) → length s < used → take (length s) s ≡ take used s
-front_all s used h = take-length s ∙ sym (take_all used s (omega arith))
+-- the first `used` bytes of a buffer, all of it where it is shorter
+pub front_inside : (s : List ℕ) (used end : ℕ) → end ≡ min used (length s) → end ≤ length s
+front_inside s used end e = omega arith
 
-pub ruleset fronts = (rules, front_all)
+pub front_same : (s : List ℕ) (used end : ℕ) → end ≡ min used (length s) → take end s ≡ take used s
+front_same s used end e = go (leb used (length s)) refl
+  where
+    go : (b : Bool) → leb used (length s) ≡ b → take end s ≡ take used s
+    go true h = let k : used ≤ length s = leb-true _ _ h in let q : end ≡ used = omega arith in rw q
+    go false h = let k : length s < used = leb-false _ _ h in let q : end ≡ length s = omega arith in rw q (take-length s ∙ sym (take_all used s (omega arith)))
 
 -- ---- one target more
 
@@ -132,14 +137,14 @@ module _ (buffer : List ℕ) (used : ℕ) (new : List ℕ) (end : ℕ) (same : t
         let w = accept (whole target_record (take end buffer)) list_read in
         q ∙ rw (← same, w.read)
 
-pub ruleset appending = (rules, length-take-le, list_refused, list_read, list_appended)
+pub ruleset appending = (rules, front_inside, front_same, length-take-le, list_refused, list_read, list_appended)
 
 -- ---- withdrawing
 
 module _ (n : List ℕ) (st : Steps) (position : ℕ) (x : Read) (is : x ≡ ending (whole target_record n)) where
-  pub unread : (r : Refusal) → x ≡ Err r → (k : ℕ) → k ≡ number_of r → (a : Stepped) → Answered st k 3 a → stepped_of a [] ≡ withdraw st n position
+  pub unread : (r : Refusal) → x ≡ Err r → (a : Stepped) → Answered st (number_of r) 3 a → stepped_of a [] ≡ withdraw st n position
   unfolding withdraw
-  unread r e k f a i = i.is [] ∙ rw (refused_by (whole target_record n) x r is e, f)
+  unread r e a i = i.is [] ∙ rw (refused_by (whole target_record n) x r is e)
 
   module _ (p : ℕ) (e : x ≡ Ok p) where
     pub read_list : are_targets n ≡ true
@@ -159,12 +164,12 @@ module _ (n : List ℕ) (st : Steps) (position : ℕ) (x : Read) (is : x ≡ end
         within : ltb position (length (targets_in n).list) ≡ true
         within = lt-ltb position (length (targets_in n).list) (omega arith)
 
-        pub not_pending : 0 < get_or st.marks i 0 → (a : Stepped) → Answered st 19 0 a → stepped_of a [] ≡ withdraw st n position
+        pub not_pending : (get_or st.marks i 0 ≡ 0 → ⊥) → (a : Stepped) → Answered st 19 0 a → stepped_of a [] ≡ withdraw st n position
         unfolding is_pending
-        not_pending d a g = was_read st 19 a g (rw (within, ← is_i, ne_eqb (get_or st.marks i 0) 0 (λ z. omega arith)))
+        not_pending d a g = was_read st 19 a g (rw (within, ← is_i, ne_eqb (get_or st.marks i 0) 0 d))
 
-        pub taken_back : get_or st.marks i 0 ≤ 0 → (st' : Steps) → st' ≡ marked st i 2 → (a : Stepped) → Answered st' 0 0 a → stepped_of a [] ≡ withdraw st n position
+        pub taken_back : get_or st.marks i 0 ≡ 0 → (st' : Steps) → st' ≡ marked st i 2 → (a : Stepped) → Answered st' 0 0 a → stepped_of a [] ≡ withdraw st n position
         unfolding is_pending
-        taken_back d st' q a g = was_read st' 0 a g (rw (q, within, ← is_i, eq-eqb (get_or st.marks i 0) 0 (omega arith)))
+        taken_back d st' q a g = was_read st' 0 a g (rw (q, within, ← is_i, eq-eqb (get_or st.marks i 0) 0 d))
 
 pub ruleset withdrawing = (rules, unread, read_list, absent, not_pending, taken_back)

@@ -2,8 +2,7 @@
 use mathlib.Core.Path.{◌≡◌, sym, ap, ap₂, subst, ◌∙◌}
 use mathlib.Core.Bool.{cond}
 use mathlib.Core.List.{List, [], ◌++◌}
-use Prim.Native.Nat.{ℕ, ◌-◌, ◌≤◌}
-use native.Mathlib.Nat.{sub-zero}
+use Prim.Native.Nat.{ℕ, ◌≤◌}
 use native.Mathlib.Omega.{arith}
 use borrow.Author.Rules.{rules}
 use borrow.Author.Tests.{ne_eqb}
@@ -44,39 +43,39 @@ module _ (b : List ℕ) (st : Steps) (r : Resumed) (h : Resumes b st.used r) whe
   so_far_stopped e last q a t = t.is b ∙ rw (q, held-is, ne_eqb st.stopped 0 e)
 
   -- the part of it that may be used
-  before : sink (take (r.size - 0) b) r.state ≡ resumed st.used b
-  before = ap (λ (n : ℕ). sink (take n b) r.state) (sub-zero r.size) ∙ h.is
+  before : sink (take r.size b) r.state ≡ resumed st.used b
+  before = h.is
 
-  pub held_sound : Sound (sink (take (r.size - 0) b) r.state)
+  pub held_sound : Sound (sink (take r.size b) r.state)
   held_sound = subst Sound (sym before) h.sound
 
-  part_length : length (take (r.size - 0) b) ≡ r.size
-  part_length = ap (λ (n : ℕ). length (take n b)) (sub-zero r.size) ∙ length-take-le r.size b h.within
+  part_length : length (take r.size b) ≡ r.size
+  part_length = length-take-le r.size b h.within
 
   -- where something else stands in the used bytes, the reports take all that may be used
-  part_full : (r.state.used ≡ st.used → ⊥) → length (take (r.size - 0) b) ≤ r.state.used
+  part_full : (r.state.used ≡ st.used → ⊥) → length (take r.size b) ≤ r.state.used
   unfolding resumed
   part_full e =
-      let all : take (r.size - 0) b ≡ cond (eqb (standing_state (take st.used b)).used st.used) b (take (standing_state (take st.used b)).used b) = ap (λ (s : Sink). s.bytes) before in
-      let front : take (r.size - 0) b ≡ take r.state.used b = all ∙ rw (← held-is, ne_eqb r.state.used st.used e) in
+      let all : take r.size b ≡ cond (eqb (standing_state (take st.used b)).used st.used) b (take (standing_state (take st.used b)).used b) = ap (λ (s : Sink). s.bytes) before in
+      let front : take r.size b ≡ take r.state.used b = all ∙ rw (← held-is, ne_eqb r.state.used st.used e) in
       rw (front, length-take) (omega arith)
 
-  module _ (k : Choices) (s : Schema) (c : Condition) (scope : Scope) (t : Target) (bytes : List ℕ) (long : length bytes ≡ length (take (r.size - 0) b)) (after : Progress) {table : List ℕ}
-      (v : Visited (take (r.size - 0) b) r.state (visits_under k s c scope t) bytes after table) where
+  module _ (k : Choices) (s : Schema) (c : Condition) (scope : Scope) (t : Target) (bytes : List ℕ) (long : length bytes ≡ length (take r.size b)) (after : Progress) {table : List ℕ}
+      (v : Visited (take r.size b) r.state (visits_under k s c scope t) bytes after table) where
     all_put : sink bytes after.state ≡ push_all (resumed st.used b) (breaches_under k s c scope t)
     all_put = v.pushed.is ∙ ap₂ push_all before (found_under k s c scope t)
 
     used_more : r.state.used ≤ after.state.used
-    used_more = rw (ap (λ (s : Sink). s.state.used) v.pushed.is) (push_all_used (sink (take (r.size - 0) b) r.state) (found_by (visits_under k s c scope t)))
+    used_more = rw (ap (λ (s : Sink). s.state.used) v.pushed.is) (push_all_used (sink (take r.size b) r.state) (found_by (visits_under k s c scope t)))
 
     pub used_grown : Grown st.used r.state.used after.state.used
     used_grown = record { more = used_more; behind = λ e. omega (arith, part_full e, used_more, v.pushed.still.sound.within) }
 
-    bytes_kept : bytes ++ drop (r.size - 0) b ≡ bytes ++ drop (length bytes) b
-    bytes_kept = ap (λ (n : ℕ). bytes ++ drop n b) (sub-zero r.size ∙ sym (long ∙ part_length))
+    bytes_kept : bytes ++ drop r.size b ≡ bytes ++ drop (length bytes) b
+    bytes_kept = ap (λ (n : ℕ). bytes ++ drop n b) (sym (long ∙ part_length))
 
-    pub target_done : (i : ℕ) (st' : Steps) → st' ≡ (done_with st i r.state after.state after.visits []).state → (a : Stepped) → Told st' after.state a → stepped_of a (bytes ++ drop (r.size - 0) b) ≡ doing k s c scope st b (i, t)
+    pub target_done : (i : ℕ) (st' : Steps) → st' ≡ (done_with st i r.state after.state after.visits []).state → (a : Stepped) → Told st' after.state a → stepped_of a (bytes ++ drop r.size b) ≡ doing k s c scope st b (i, t)
     unfolding doing done_with
-    target_done i st' q a told = told.is (bytes ++ drop (r.size - 0) b) ∙ rw (q, bytes_kept, ← all_put, ← before, v.counted)
+    target_done i st' q a told = told.is (bytes ++ drop r.size b) ∙ rw (q, bytes_kept, ← all_put, ← before, v.counted)
 
 pub ruleset doings = (rules, so_far_open, so_far_stopped, held_sound, used_grown, target_done)

@@ -25,28 +25,28 @@ module _ (n marks : List ℕ) where
   pub search_begins : (list : List Target) (rest at : ℕ) → rest ≡ length list → rest < 256 → Listed target n list (length list) at → Searching n marks (first_pending marks 0 list) rest at 0
   search_begins list rest at e m l = record { left = record { left = list; there = rw e l; same = refl }; few = omega arith }
 
-  module _ (o : Option (ℕ × Target)) (rest at position : ℕ) (l : Searching n marks o rest at position) where
-    pub search_over : rest ≤ 0 → FindsPending n o None
+  module _ (o : Option (ℕ × Target)) (end at position : ℕ) (l : Searching n marks o (end - position) at position) where
+    pub search_over : end ≤ position → FindsPending n o None
     unfolding first_pending
-    search_over h = record { value = remaining_over target n (first_pending marks position) o rest at h l.left; stands = tt }
+    search_over h = record { value = remaining_over target n (first_pending marks position) o (end - position) at (omega arith) l.left; stands = tt }
 
-    module _ (h : 0 < rest) where
-      pub search_index : position < 256
-      search_index = omega (arith, l.few)
-
+    module _ (h : position < end) where
       pub search_stands : is_target n at ≡ true
-      search_stands = remaining_stands target n (first_pending marks position) o rest at h l.left
+      search_stands = remaining_stands target n (first_pending marks position) o (end - position) at (omega arith) l.left
 
-      pub search_found : get_or marks position 0 ≡ 0 → FindsPending n o (Some (position, at))
+      pub search_found : (i : ℕ) → i ≡ position → get_or marks i 0 ≡ 0 → FindsPending n o (Some (record { position = position; at = at }))
       unfolding first_pending is_pending
-      search_found e =
-          let f = remaining_first target n (first_pending marks position) o (record { namespace = []; id = [] }) rest at h l.left in
-          record { value = sym (rw e) ∙ f.same; stands = (search_stands, search_index) }
+      search_found i is e =
+          let z : get_or marks position 0 ≡ 0 = rw (← is) e in
+          let f = remaining_first target n (first_pending marks position) o (record { namespace = []; id = [] }) (end - position) at (omega arith) l.left in
+          record { value = sym (rw z) ∙ f.same; stands = search_stands }
 
-      pub search_on : (get_or marks position 0 ≡ 0 → ⊥) → (m : ℕ) → Ok m ≡ ending (target n at) → Searching n marks o (rest - 1) m (position + 1)
+      pub search_on : (i : ℕ) → i ≡ position → (get_or marks i 0 ≡ 0 → ⊥) → (m : ℕ) → Ok m ≡ ending (target n at) → Searching n marks o (end - (position + 1)) m (position + 1)
       unfolding first_pending is_pending
-      search_on e m d =
-          let f = remaining_first target n (first_pending marks position) o (record { namespace = []; id = [] }) rest at h l.left in
-          record { left = record { left = f.others; there = f.on m d; same = sym (rw (ne_eqb (get_or marks position 0) 0 e)) ∙ f.same }; few = omega (arith, l.few) }
+      search_on i is e m d =
+          let z : get_or marks position 0 ≡ 0 → ⊥ = rw is at e in
+          let f = remaining_first target n (first_pending marks position) o (record { namespace = []; id = [] }) (end - position) at (omega arith) l.left in
+          let left : end - (position + 1) ≡ (end - position) - 1 = omega arith in
+          record { left = record { left = f.others; there = rw left (f.on m d); same = sym (rw (ne_eqb (get_or marks position 0) 0 z)) ∙ f.same }; few = omega (arith, l.few) }
 
-pub ruleset searching = (rules, search_begins, search_over, search_index, search_stands, search_found, search_on)
+pub ruleset searching = (rules, search_begins, search_over, search_stands, search_found, search_on)

@@ -1,15 +1,19 @@
 -- The state: as it begins, after a target, and in an answer. Assumes nothing.
 use mathlib.Core.Path.{◌≡◌, refl, ap, ◌∙◌}
-use mathlib.Core.Bool.{cond}
+use mathlib.Core.Bool.{Bool, true, false, cond}
 use mathlib.Core.List.{[]}
-use Prim.Native.Nat.{ℕ, ◌+◌, ◌-◌, ◌≤◌, ◌<◌}
+use Prim.Native.Nat.{ℕ, ◌+◌, ◌-◌, ◌<◌, min}
 use native.Mathlib.Omega.{arith}
 use borrow.Author.Rules.{rules}
-use borrow.Author.Tests.{lt-ltb, le-ltb}
+use borrow.Author.Tests.{ltb-true, ltb-false}
+use lib.Dec.{ltb}
 use lib.ListN.{set, replicate}
+use Rattle.std.specs.Prelude.{Result, Ok, Err}
+use Rattle.std.specs.Result.{OkIff, result_unwrap_or}
 use Rattle.reports.specs.declared.Answer.{Answer}
 use Rattle.reports.specs.declared.State.{State}
 use Rattle.reports.specs.Reports.{Outcome}
+use Rattle.reports.specs.Sink.{sink, outcome}
 use Rattle.reports.specs.Answers.{Answers, Refuses}
 use Rattle.typecheck.specs.declared.CheckAnswer.{CheckAnswer}
 use Rattle.typecheck.specs.Answers.{WithVisits}
@@ -23,14 +27,17 @@ unfolding begins
 begun rules = refl
 
 -- the visits, up to the most that the state holds
-module _ (visits more : ℕ) where
-  pub visits_many : 4294967295 - visits < more → 4294967295 ≡ capped (visits + more)
-  unfolding capped
-  visits_many h = rw (le-ltb (visits + more) 4294967296 (omega arith))
+min_capped : (n : ℕ) → min n 4294967295 ≡ capped n
+unfolding capped
+min_capped n = go (ltb n 4294967296) refl
+  where
+    go : (b : Bool) → ltb n 4294967296 ≡ b → min n 4294967295 ≡ cond b n 4294967295
+    go true h = omega (arith, ltb-true n 4294967296 h)
+    go false h = omega (arith, ltb-false n 4294967296 h)
 
-  pub visits_few : visits < 4294967296 → more ≤ 4294967295 - visits → visits + more ≡ capped (visits + more)
-  unfolding capped
-  visits_few m h = rw (lt-ltb (visits + more) 4294967296 (omega arith))
+pub visits_sum : {E : Type 0} (visits more : ℕ) (x : Result ℕ E) → OkIff x (more < 4294967296) more → (m : ℕ) → m ≡ result_unwrap_or x 4294967295 → (sum : ℕ) → sum ≡ min (visits + m) 4294967295 → sum ≡ capped (visits + more)
+visits_sum visits more (Ok k) i m e sum g = let q : sum ≡ min (visits + more) 4294967295 = omega arith in q ∙ min_capped (visits + more)
+visits_sum visits more (Err k) i m e sum g = let q : sum ≡ min (visits + more) 4294967295 = omega arith in q ∙ min_capped (visits + more)
 
 -- the bytes that are used
 module _ (used before after : ℕ) (g : Grown used before after) where
@@ -51,8 +58,18 @@ pub is_answered : (st : Steps) (number which : ℕ) (a : Answer) → Refuses num
 unfolding stepped_of
 is_answered st number which a f r w = record { is = λ s k. record { check = (w.is s ∙ ap (λ (o : Outcome). record { outcome = o; visits = 0 }) (f.is s)) k; state = st } }
 
+-- that of a call that is done holds no report
+module _ (held : State) (none : (held.used ≡ 0) × ((held.count ≡ 0) × (held.full ≡ false))) where
+  holds_none : held ≡ record { used = 0; count = 0; full = false }
+  holds_none = λ i. record { used = none.0 i; count = none.1.0 i; full = none.1.1 i }
+
+  pub is_done : (st : Steps) (a : Answer) → Answers held a → (r : CheckAnswer) → WithVisits a 0 r → Answered st 0 0 (record { answer = r; state = st })
+  unfolding stepped_of
+  is_done st a f r w =
+      record { is = λ s k. record { check = (w.is s ∙ ap (λ (o : Outcome). record { outcome = o; visits = 0 }) (f.is s ∙ ap (λ (h : State). outcome (sink s h)) holds_none)) k; state = st } }
+
 pub is_told : (st : Steps) (held : State) (a : Answer) → Answers held a → (r : CheckAnswer) → WithVisits a st.visits r → Told st held (record { answer = r; state = st })
 unfolding stepped_of
 is_told st held a f r w = record { is = λ s k. record { check = (w.is s ∙ ap (λ (o : Outcome). record { outcome = o; visits = st.visits }) (f.is s)) k; state = st } }
 
-pub ruleset states = (rules, begun, visits_many, visits_few, used_behind, used_still, after_target, is_answered, is_told)
+pub ruleset states = (rules, begun, visits_sum, used_behind, used_still, after_target, is_answered, is_done, is_told)

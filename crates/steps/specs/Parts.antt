@@ -3,12 +3,17 @@ use Rattle.std.specs.Prelude.{ℕ, ◌≤◌, ◌<◌, ◌≡◌, true, List, So
 use Rattle.std.specs.Prelude as code
 use Rattle.std.proofs.Math.Option.{Option, none, some}
 use Rattle.targets.specs.Targets.{Target}
-use Rattle.targets.specs.Places.{is_target, target_in}
+use Rattle.targets.specs.Places.{targets_in, is_target, target_in}
+use Rattle.schema.specs.Places.{schema_in}
+use Rattle.condition.specs.Places.{record_in}
 use Rattle.reports.specs.declared.State.{State}
 use Rattle.reports.specs.Sink.{sink, outcome}
+use Rattle.typecheck.specs.declared.Records.{Records}
+use Rattle.typecheck.specs.Check.{choices_of}
+use Rattle.steps.specs.declared.Pending.{Pending}
 use Rattle.steps.specs.declared.Steps.{Steps}
 use Rattle.steps.specs.declared.Stepped.{Stepped}
-use Rattle.steps.specs.Steps.{unchanged}
+use Rattle.steps.specs.Steps.{SteppedOutcome, unchanged, doing, step_over}
 use Rattle.steps.specs.Answers.{stepped_of}
 
 -- an answer without reports and visits, whatever bytes there are
@@ -24,19 +29,24 @@ pub record Grown (used before after : ℕ) : Type 0 where
   pub more : before ≤ after
   pub behind : (before ≡ used → ⊥) → after ≡ before
 
--- what the code finds: the position of the first pending target, and where it stands
-abbrev pub Pending : Type 0
-Pending = code.Option (ℕ × ℕ)
-
--- the first pending target, by what the code found; it stands in the record, and its position has a mark
-abbrev pub pending_in : List ℕ → Pending → Option (ℕ × Target)
+-- the first pending target, by what the code found; it stands in the record
+abbrev pub pending_in : List ℕ → code.Option Pending → Option (ℕ × Target)
 pending_in n None = none
-pending_in n (Some (i, at)) = some (i, target_in n at)
+pending_in n (Some p) = some (p.position, target_in n p.at)
 
-abbrev pub PendingStands : List ℕ → Pending → Type 0
+abbrev pub PendingStands : List ℕ → code.Option Pending → Type 0
 PendingStands n None = Unit {0}
-PendingStands n (Some (i, at)) = (is_target n at ≡ true) × (i < 256)
+PendingStands n (Some p) = is_target n p.at ≡ true
 
-pub record FindsPending (n : List ℕ) (o : Option (ℕ × Target)) (r : Pending) : Type 0 where
+pub record FindsPending (n : List ℕ) (o : Option (ℕ × Target)) (r : code.Option Pending) : Type 0 where
   pub value : pending_in n r ≡ o
   pub stands : PendingStands n r
+
+-- a step over records that were read, by the rules of the state
+abbrev pub step_over_of : Records → Steps → List ℕ → SteppedOutcome
+step_over_of r st = step_over (choices_of st.rules) (schema_in r.schema.bytes.now) (record_in r.condition.bytes.now) (targets_in r.targets.bytes.now) st
+
+-- a pending target of them done
+abbrev pub doing_of : Records → Steps → List ℕ → Pending → SteppedOutcome
+doing_of r st buffer p =
+    doing (choices_of st.rules) (schema_in r.schema.bytes.now) (record_in r.condition.bytes.now) (targets_in r.targets.bytes.now).scope st buffer (p.position, target_in r.targets.bytes.now p.at)

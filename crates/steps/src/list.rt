@@ -6,21 +6,11 @@ ghost use Rattle.targets.specs.Places.{are_targets, targets_in};
 ghost use Rattle.steps.specs.Steps.{append_to, append, withdraw};
 ghost use Rattle.steps.specs.Answers.{stepped_of};
 
-use crate::state::{answered, marked};
-use crate::{Stepped, Steps};
+use crate::state::{answered, marked, refused};
+use crate::{PENDING, Stepped, Steps, WITHDRAWN};
 use names::Refusal;
 use reports::{Answer, refuse, written};
-
-// How many bytes the first `used` of some are: all of them where there are fewer.
-fn front(s: &[u8], used: usize) -> usize
-    ensures upper_bound { result ≤ length s.now }
-    ensures s_value { take result s.now ≡ take used s.now }
-{
-    if s.len() < used {
-        return s.len();
-    }
-    used
-}
+use targets::TargetsRecord;
 
 // One target more, its bytes behind the first `end` ones and the count at `at` one more; returns where they end.
 fn put_target(list: &mut [u8], at: usize, end: usize, new: &[u8]) -> usize
@@ -42,7 +32,9 @@ fn append_to(list: &mut [u8], end: usize, new: &[u8]) -> Answer
     if let Err(refusal) = targets::read_alone(new) {
         return refuse(refusal, 3);
     }
-    let at = targets::count_at(&list[..end]);
+    let at = targets::count_at(TargetsRecord {
+        bytes: &list[..end],
+    });
     if 254 < list[at] {
         return refuse(Refusal::ListFull, 0);
     }
@@ -56,10 +48,14 @@ fn append_to(list: &mut [u8], end: usize, new: &[u8]) -> Answer
 }
 
 // A target appended to the list: the first `used` bytes of a buffer (all of it where it is shorter) are record 3.
+// The buffer and its number of used bytes come from the C interface, which lends more than the list
+// takes, and the caller may count wrongly, so they are no slice before this.
+// The number stays beside the buffer up to `put_target`, since the target is put behind the first
+// `end` bytes.
 pub fn append(list: &mut [u8], used: usize, new: &[u8]) -> Answer
     ensures { outcome_of result list.new ≡ append list.old used new.now }
 {
-    let end = front(list, used);
+    let end = used.min(list.len());
     if let Err(refusal) = targets::read_targets(&list[..end]) {
         return refuse(refusal, 3);
     }
@@ -71,15 +67,14 @@ pub fn withdraw(targets: &[u8], state: Steps, position: u8) -> Stepped
     ensures { stepped_of result [] ≡ withdraw state targets.now position }
 {
     if let Err(refusal) = targets::read_targets(targets) {
-        return answered(state, u8::from(refusal), 3);
+        return refused(state, refusal, 3);
     }
-    let i = names::wide(position);
-    if targets::count(targets) <= i {
-        return answered(state, u8::from(Refusal::NotPending), 0);
+    let i = usize::from(position);
+    if targets::count(TargetsRecord { bytes: targets }) <= i {
+        return refused(state, Refusal::NotPending, 0);
     }
-    let marks = state.marks;
-    if 0 < marks[i] {
-        return answered(state, u8::from(Refusal::NotPending), 0);
+    if state.marks[i] != PENDING {
+        return refused(state, Refusal::NotPending, 0);
     }
-    answered(marked(state, i, 2), 0, 0)
+    answered(marked(state, position, WITHDRAWN))
 }

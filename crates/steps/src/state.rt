@@ -1,9 +1,11 @@
 // The state of a stepping check: as it begins, with a mark changed, after a target, and in an answer.
-ghost use Rattle.std.specs.Prelude.{◌≡◌, cond, [], ◌+◌, ◌-◌, ◌<◌};
+ghost use Rattle.std.specs.Prelude.{◌≡◌, [], ◌+◌, ◌-◌};
+ghost use Rattle.names.specs.Fields.{number_of};
 ghost use Rattle.steps.specs.Steps.{begins, marked, capped, done_with};
 ghost use Rattle.steps.specs.Parts.{Answered, Told, Grown};
 
-use crate::{Stepped, Steps};
+use crate::{DONE, Stepped, Steps};
+use names::Refusal;
 use reports::State;
 use typecheck::Progress;
 
@@ -11,51 +13,29 @@ use typecheck::Progress;
 pub fn begins(rules: u8) -> Steps
     ensures { result ≡ begins rules }
 {
-    let marks = [0u8; 256];
     Steps {
         rules,
         stopped: 0,
-        marks,
+        marks: [0; 256],
         used: 0,
         visits: 0,
     }
 }
 
 // The state with another mark at a position.
-pub fn marked(state: Steps, position: usize, mark: u8) -> Steps
-    requires { position < 256 }
+pub fn marked(state: Steps, position: u8, mark: u8) -> Steps
     ensures { result ≡ marked state position mark }
 {
     let mut marks = state.marks;
-    marks[position] = mark;
-    Steps {
-        rules: state.rules,
-        stopped: state.stopped,
-        marks,
-        used: state.used,
-        visits: state.visits,
-    }
-}
-
-// 1 where a report did not fit.
-fn flag(full: bool) -> u8
-    ensures { result ≡ cond full 1 0 }
-{
-    if full {
-        return 1;
-    }
-    0
+    marks[usize::from(position)] = mark;
+    Steps { marks, ..state }
 }
 
 // So many visits and some more, up to the most that the state holds.
 fn add_visits(visits: u32, more: usize) -> u32
     ensures { result ≡ capped (visits + more) }
 {
-    let left = (4294967295 - visits) as usize;
-    if left < more {
-        return 4294967295;
-    }
-    visits + more as u32
+    visits.saturating_add(u32::try_from(more).unwrap_or(u32::MAX))
 }
 
 // How many bytes of the buffer are used after a target, by what the reports of these bytes took before it and take after it.
@@ -70,31 +50,33 @@ fn used_after(used: usize, before: usize, after: usize) -> usize
 }
 
 // The state after the target at a position, from the reports before it on.
-pub fn done(state: Steps, position: usize, before: State, after: Progress) -> Steps
-    requires position_bound { position < 256 }
-    requires grown { Grown state.used before.used after.state.used }
+pub fn done(state: Steps, position: u8, before: State, after: Progress) -> Steps
+    requires { Grown state.used before.used after.state.used }
     ensures { result ≡ (done_with state position before after.state after.visits []).state }
 {
     let end = after.state;
-    let stopped = flag(end.full);
-    let used = used_after(state.used, before.used, end.used);
-    let visits = add_visits(state.visits, after.visits);
-    let mut marks = state.marks;
-    marks[position] = 1;
     Steps {
-        rules: state.rules,
-        stopped,
-        marks,
-        used,
-        visits,
+        stopped: u8::from(end.full),
+        used: used_after(state.used, before.used, end.used),
+        visits: add_visits(state.visits, after.visits),
+        ..marked(state, position, DONE)
     }
 }
 
-// An answer without reports and visits, by its number and record, with the state to hand in next.
-pub fn answered(state: Steps, number: u8, which: u8) -> Stepped
-    ensures { Answered state number which result }
+// An answer without reports and visits, with the state to hand in next: that the call was done.
+pub fn answered(state: Steps) -> Stepped
+    ensures { Answered state 0 0 result }
 {
-    let answer = typecheck::with_visits(reports::refused(number, which), 0);
+    let answer = typecheck::with_visits(reports::answer_of(State::default()), 0);
+    Stepped { answer, state }
+}
+
+// The same where the call is refused, by the record that this is about, 0 for none.
+// The record is a number, as the answer at the C interface has it.
+pub fn refused(state: Steps, refusal: Refusal, record: u8) -> Stepped
+    ensures { Answered state (number_of refusal) «record» result }
+{
+    let answer = typecheck::with_visits(reports::refuse(refusal, record), 0);
     Stepped { answer, state }
 }
 

@@ -34,6 +34,7 @@ fn own_bodies(env: &impl Env) -> bool {
     matches!(&space[..n], b"--own-bodies")
 }
 
+// The rules are a bit and no enum, since `dogwood_sums_with` takes them so.
 fn run(out: &impl Print, own: bool, condition: &[u8]) -> io::Result<()> {
     let rules = if own { 2 } else { 0 };
     let mut space = [0; 65536];

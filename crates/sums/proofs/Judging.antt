@@ -173,11 +173,19 @@ module _ (s : List ℕ) (at p : ℕ) (here : BindersHere s at p) (name : List �
   listed : last_named name (bs ++ declared_by (aggregate_in s at)) ≡ maybe (last_named name bs) some (bound_in s x)
   listed = last_append name bs (declared_by (aggregate_in s at)) ∙ ap (λ (o : Option Annotation). maybe (last_named name bs) some o) (ap (last_named name) here.value ∙ sym says.value)
 
-  pub listed_path : (q : ℕ) → x ≡ Segments q → BoundBy s (last_named name (bs ++ declared_by (aggregate_in s at))) x
+  listed_path : (q : ℕ) → x ≡ Segments q → BoundBy s (last_named name (bs ++ declared_by (aggregate_in s at))) x
   listed_path q e = record { stands = says.stands; value = rw listed (rw e) }
 
-  pub listed_timepoint : x ≡ Timepoint → BoundBy s (last_named name (bs ++ declared_by (aggregate_in s at))) x
+  listed_timepoint : x ≡ Timepoint → BoundBy s (last_named name (bs ++ declared_by (aggregate_in s at))) x
   listed_timepoint e = record { stands = says.stands; value = rw listed (rw e) }
+
+  pub listed_here : (x ≡ Nothing → ⊥) → BoundBy s (last_named name (bs ++ declared_by (aggregate_in s at))) x
+  listed_here h = go x refl
+    where
+      go : (y : Bound) → x ≡ y → BoundBy s (last_named name (bs ++ declared_by (aggregate_in s at))) x
+      go (Segments q) e = listed_path q e
+      go Timepoint e = listed_timepoint e
+      go Nothing e = absurd (h e)
 
   pub listed_nowhere : x ≡ Nothing → (r : Bound) → BoundBy s (last_named name bs) r → BoundBy s (last_named name (bs ++ declared_by (aggregate_in s at))) r
   listed_nowhere e r h = record { stands = h.stands; value = h.value ∙ sym (listed ∙ rw e) }
@@ -185,4 +193,4 @@ module _ (s : List ℕ) (at p : ℕ) (here : BindersHere s at p) (name : List �
   pub listed_stands : is_binders s p ≡ true
   listed_stands = here.stands
 
-pub ruleset own_first = (rules, listed_stands, listed_path, listed_timepoint, listed_nowhere)
+pub ruleset own_first = (rules, listed_stands, listed_here, listed_nowhere)

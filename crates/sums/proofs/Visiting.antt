@@ -28,10 +28,8 @@ use Rattle.nodes.specs.Parts.{ComparisonHere, PredicateHere, ArgumentHere, is_te
 use Rattle.nodes.specs.Laws.Leaves.{leaves_gather, one_term, one_leaves, leaf_next, leaf_stands, leaf_plain, fewer_leaves}
 use Rattle.walk.specs.Index.{Index, Reached}
 use Rattle.walk.specs.Scopes.{Scoped, Binding, nodes_by}
-use Rattle.walk.specs.Enclosing.{around_at, binding_in, Names}
+use Rattle.walk.specs.Enclosing.{around_at}
 use Rattle.walk.specs.Laws.Nodes.{length_by, reached_index, reached_by}
-use Rattle.walk.specs.declared.Binding as walk
-use Rattle.sums.specs.Summands.{Looked}
 use Rattle.nodes.specs.Laws.Choices.{by_kind, no_value}
 use Rattle.nodes.specs.Laws.Views.{array_view}
 use Rattle.nodes.specs.Laws.Opens.{term_stands, raw_term}
@@ -40,7 +38,7 @@ use Rattle.reports.specs.Reports.{Breach}
 use Rattle.reports.specs.declared.State.{State}
 use Rattle.reports.specs.Kept.{fold}
 use Rattle.reports.specs.Sink.{Sink, sink, Sound, append, append_all, Appended}
-use Rattle.reports.specs.Laws.Sinks.{recorded_none, recorded_more, recorded_then, Reporting, reporting_begins, reporting_next, reporting_over}
+use Rattle.reports.specs.Laws.Sinks.{sound_start, recorded_none, recorded_more, recorded_then, Reporting, reporting_begins, reporting_next, reporting_over}
 use Rattle.sums.specs.Sums.{aggregate_breaches, term_breaches, terms_breaches, arguments_breaches, condition_breaches, breaches}
 use Rattle.names.specs.declared.refusal.Refusal.TheVariants.{UndefinedChoice, TooDeep}
 use Rattle.std.specs.Prelude.{Some, None}
@@ -202,18 +200,21 @@ pub record ArgumentsLeft (d : Binding) (bs : List Binder) (s : List ℕ) (whole 
   pub same : append_all now (arguments_breaches d bs (arguments_in s n at)) ≡ whole
 
 module _ (d : Binding) (bs : List Binder) (s : List ℕ) where
-  pub arguments_begin : (n at : ℕ) (a : Sink) → is_arguments s n at ≡ true → Sound a → ArgumentsLeft d bs s (append_all a (arguments_breaches d bs (arguments_in s n at))) a n at
-  arguments_begin n at a h k = record { stands = h; sound = k; same = refl }
+  pub arguments_begin : (n at : ℕ) (a : Sink) → is_arguments s n at ≡ true → Sound a → ArgumentsLeft d bs s (append_all a (arguments_breaches d bs (arguments_in s n at))) a (n - 0) at
+  arguments_begin n at a h k = let all : n - 0 ≡ n = omega arith in rw all (record { stands = h; sound = k; same = refl })
 
-  module _ (n at : ℕ) where
-    pub arguments_done : {old now : List ℕ} {st₀ st : State} {found : List Breach} → ArgumentsLeft d bs s (append_all (sink old st₀) found) (sink now st) n at → n ≤ 0 → Appended old st₀ found now st
+  -- the i-th of `end` comes next
+  module _ (end i at : ℕ) where
+    pub arguments_done : {old now : List ℕ} {st₀ st : State} {found : List Breach} → ArgumentsLeft d bs s (append_all (sink old st₀) found) (sink now st) (end - i) at → end ≤ i → Appended old st₀ found now st
     unfolding arguments_breaches fold
-    arguments_done l h = record { still = l.sound; is = rw (arguments_over s n at h) at l.same }
+    arguments_done l h = record { still = l.sound; is = rw (arguments_over s (end - i) at (omega arith)) at l.same }
 
-    pub arguments_turn : {whole : Sink} {now next : List ℕ} {st r : State} → ArgumentsLeft d bs s whole (sink now st) n at → (p : ArgumentAt) → ArgumentHere s n at p
-        → Appended now st (term_breaches d bs (term_in s p.term)) next r → ArgumentsLeft d bs s whole (sink next r) (n - 1) p.next
+    pub arguments_turn : {whole : Sink} {now next : List ℕ} {st r : State} → ArgumentsLeft d bs s whole (sink now st) (end - i) at → (p : ArgumentAt) → ArgumentHere s (end - i) at p
+        → Appended now st (term_breaches d bs (term_in s p.term)) next r → ArgumentsLeft d bs s whole (sink next r) (end - (i + 1)) p.next
     unfolding arguments_breaches
-    arguments_turn l p h e = record { stands = h.rest; sound = e.still; same = recorded_more e _ ∙ (rw h.value at l.same) }
+    arguments_turn l p h e =
+        let left : end - (i + 1) ≡ end - i - 1 = omega arith in
+        rw left (record { stands = h.rest; sound = e.still; same = recorded_more e _ ∙ (rw h.value at l.same) })
 
 pub ruleset arguing = (rules, arguments_begin, arguments_done, arguments_turn)
 
@@ -260,8 +261,4 @@ module _ (d : Binding) (s : List ℕ) where
   pub places_turn : {whole : Sink} {now next : List ℕ} {st r : State} (i : ℕ) → PlacesLeft d s whole (sink now st) i → (at : ℕ) → Reached s i at → Appended now st (condition_breaches d (around_at d s i) (condition_in s at)) next r → PlacesLeft d s whole (sink next r) (i + 1)
   places_turn i l at h e = reporting_next append (of_node d) (rw (reached_by s i at h d) at l) e
 
--- a place of the loop
-pub looked_at : (s env : List ℕ) (b : walk.Binding) → Names s (binding_in b) env → (i at : ℕ) → Reached s i at → Looked s env (record { binding = b; node = i })
-looked_at s env b e i at h = record { names = e; node = reached_index s i at h }
-
-pub ruleset placing = (rules, places_begin, places_done, places_turn, looked_at)
+pub ruleset placing = (rules, sound_start, reached_index, places_begin, places_done, places_turn)

@@ -75,8 +75,8 @@ abbrev pub PlacesLeft : List ℕ → ℕ → Sink → Sink → ℕ → Type 0
 PlacesLeft s period whole now i = Reporting enter Fit (each period) whole now (drop i (nodes_of s))
 
 module _ (s : List ℕ) (period : ℕ) where
-  pub places_begin : (old : List ℕ) → PlacesLeft s period (fold enter (sink old none) (entries period (record_in s))) (sink old none) 0
-  places_begin old = rw entries_gathered (reporting_begins enter (each period) (sink old none) (nodes_of s) (fit_start old))
+  pub places_begin : (a : Sink) → Fit a → PlacesLeft s period (fold enter a (entries period (record_in s))) a 0
+  places_begin a k = rw entries_gathered (reporting_begins enter (each period) a (nodes_of s) k)
 
   pub places_done : {old now : List ℕ} {st₀ st : State} {es : List Entry} (i : ℕ) → PlacesLeft s period (fold enter (sink old st₀) es) (sink now st) i → (places : List ℕ) → Index s places → length places ≤ i → Entered old st₀ es now st
   places_done i l places h k =
@@ -87,7 +87,7 @@ module _ (s : List ℕ) (period : ℕ) where
   pub places_turn : {whole : Sink} {now next : List ℕ} {st r : State} (i : ℕ) → PlacesLeft s period whole (sink now st) i → (at : ℕ) → Reached s i at → Entered now st (map (in_sweeps period) (concrete_in (condition_in s at))) next r → PlacesLeft s period whole (sink next r) (i + 1)
   places_turn i l at h e = reporting_next enter (each period) (rw h.rest at l) e
 
-pub ruleset placing = (rules, places_begin, places_done, places_turn)
+pub ruleset placing = (rules, fit_start, places_begin, places_done, places_turn)
 
 -- ---- the record
 
@@ -101,14 +101,11 @@ module _ (period : ℕ) (old : List ℕ) (c : Condition) (r : Answer) where
   unfolding swept
   no_period e h = rw (eq-eqb period 0 e) (h.is old)
 
-  pub with_period : (period ≡ 0 → ⊥) → (new : List ℕ) → outcome_of r new ≡ listed (entries period c) old → outcome_of r new ≡ swept period old c
+  pub with_period : (n : ℕ) → n ≡ period → 0 < n → (new : List ℕ) → outcome_of r new ≡ listed (entries n c) old → outcome_of r new ≡ swept period old c
   unfolding swept
-  with_period e new h = rw (ne_eqb period 0 e) h
+  with_period n e some new h = rw (ne_eqb period 0 (λ z. omega arith)) (rw e at h)
 
-pub some_period : (period : ℕ) → (period ≡ 0 → ⊥) → 0 < period
-some_period period e = omega arith
-
-pub ruleset sweeping = (rules, no_period, with_period, some_period)
+pub ruleset sweeping = (rules, no_period, with_period)
 
 read_value : {A B : Type 0} (d : A) (f : ℕ → B) (k : A → B) (g : Got A) → accepted g ≡ true → k (value_or d g) ≡ either f k g
 unfolding accepted value_or

@@ -8,6 +8,8 @@ ghost use Rattle.targets.specs.Appending.{alone_target};
 
 use names::{Class, Read, Refusal};
 
+// The byte is matched and not decoded first: an enum of the bare kinds would be matched a second
+// time, to read what stands behind the byte.
 fn read_narrowing(s: &[u8], at: usize) -> Read
     ensures { result ≡ ending (narrowing s.now at) }
 {
@@ -36,7 +38,8 @@ pub fn read_alone(s: &[u8]) -> Read
     names::read_end(s, end)
 }
 
-// A count of targets and the targets.
+// A count of targets and the targets. The loop is that of condition's `read_binders` over another
+// reader; why no closure stands in its place is said there.
 fn read_list(s: &[u8], start: usize) -> Read
     ensures { result ≡ ending (counted (each target) s.now start) }
 {
@@ -44,7 +47,7 @@ fn read_list(s: &[u8], start: usize) -> Read
         return Err(Refusal::Cut);
     };
     let mut at = start + 1;
-    for _ in 0..names::wide(count) {
+    for _ in 0..count {
         at = read_target(s, at)?;
     }
     Ok(at)
@@ -61,6 +64,8 @@ pub fn read_targets(s: &[u8]) -> Read
     names::read_end(s, end)
 }
 
+// It is condition's `read_choice` with 1 for the last; this crate stands beside that one and not
+// above it. The byte is tested and not decoded: a `Side` would be made and thrown away.
 fn read_side(s: &[u8], at: usize) -> Read
     ensures { result ≡ ending (scope_side s.now at) }
 {

@@ -16,7 +16,9 @@ use Rattle.types.specs.Meaning.{rich_of, layered}
 use Rattle.types.specs.declared.Rich.{Rich}
 use Rattle.condition.specs.Condition.{Condition, Term, Terms, nil, cons, elements, element_list, term_kinds, condition_at, term_at}
 use Rattle.condition.specs.Condition as tree
-use Rattle.nodes.specs.Kinds.{term_kind_of}
+use Rattle.nodes.specs.Kinds.{term_kind_of, term_kind_number}
+use Rattle.nodes.specs.Laws.Numbers.{not_array}
+use Rattle.nodes.specs.declared.TermKind.{TermKind}
 use Rattle.condition.specs.Places.{version_in, term_here, is_term, term_in}
 use Rattle.nodes.specs.Looked.{TermKindHere, Skipped}
 use Rattle.condition.specs.Laws.Levels.{none_left, term_wider, term_anywhere}
@@ -166,9 +168,9 @@ module _ (c : List ℕ) (at left : ℕ) (h : left ≤ 32) (acc : accepted (term_
   any_level = is_accepted (widened (accept _ acc).read)
 
   -- An array: its list stands behind the kind byte, with one level less.
-  module _ (k : ℕ) (o : TermKindHere c at k) (e : k ≡ 10) where
+  module _ (kind : TermKind) (o : TermKindHere c at (term_kind_number kind)) (e : kind ≡ TermKind.Array) where
     parts : ArrayParts c at left (accept _ acc).value (accept _ acc).place
-    parts = array_parts c at left (accept _ acc).read (raw_term c at any_level 10 (λ i. omega arith) (sym o.kind ∙ e))
+    parts = array_parts c at left (accept _ acc).read (raw_term c at any_level 10 (λ i. omega arith) (sym o.kind ∙ ap term_kind_number e))
 
     pub array_level : 1 ≤ left
     array_level = parts.deeper
@@ -202,10 +204,10 @@ module _ (c : List ℕ) (at left : ℕ) (h : left ≤ 32) (acc : accepted (term_
   pub leaf_typed : (s : List ℕ) (r : Typed) (n : ℕ) → LeafTyped c at r → Skipped (term_here c at) at n → TypedAt s c (term_here c at) (term_type none (term_in c at)) left (record { typed = r; next = n })
   leaf_typed s r n h z = record { value = h.value s; ends = z.ends; within = record { layers = omega (arith, h.within.layers); tag = h.within.tag } }
 
-  pub not_array : (k : ℕ) → TermKindHere c at k → (k ≡ 10 → ⊥) → (term_kind_of (term_in c at) ≡ 10 → ⊥)
-  not_array k o h e = h (o.kind ∙ e)
+  pub no_array : (kind : TermKind) → TermKindHere c at (term_kind_number kind) → (kind ≡ TermKind.Array → ⊥) → (term_kind_of (term_in c at) ≡ 10 → ⊥)
+  no_array kind o h e = not_array kind h (o.kind ∙ e)
 
-pub ruleset of_elements = (rules, any_level, array_level, array_falls, array_inside, array_list, array_typed, leaf_typed, not_array)
+pub ruleset of_elements = (rules, any_level, array_level, array_falls, array_inside, array_list, array_typed, leaf_typed, no_array)
 
 -- A loop over the elements of a list: what was seen and what is left make the array's type.
 module _ (s c : List ℕ) (left start : ℕ) where
@@ -218,29 +220,33 @@ module _ (s c : List ℕ) (left start : ℕ) where
     pub within : Within left (seen_type seen)
 
   module _ (acc : accepted (list_at left c start) ≡ true) where
-    pub left_all : (n : ℕ) → n ≡ get_or c start 0 → Left n (start + 1) Seen.Empty
+    pub left_all : (n : ℕ) → n ≡ get_or c start 0 → Left (n - 0) (start + 1) Seen.Empty
     unfolding element_list list_in ending
     left_all n e =
         let a = accept _ acc in
         let b = split (u8 c start) _ a.read in
         let v = u8_view c start b.first in
         let r = b.rest in
+        let all : n - 0 ≡ n = omega arith in
         record {
           things = a.value;
           end = a.place;
-          read = rw (e, ← v.1, ← v.2) r;
+          read = rw (all, e, ← v.1, ← v.2) r;
           ends = ap ending a.read;
           same = ap (λ (x : Terms). array_of (element_types x)) (sym (has_value nil a.read));
           within = record { layers = omega arith; tag = omega arith };
         }
 
-  module _ (rest at : ℕ) (seen : Seen) (l : Left rest at seen) where
+  module _ (stop i at : ℕ) (seen : Seen) (l : Left (stop - i) at seen) where
     pub seen-fits : left < 32 → layers_of (seen_type seen) < 32
     seen-fits h = omega (arith, l.within.layers)
 
-    module _ (h : 0 < rest) where
-      own : ElementsView (version_in c) (condition_at (version_in c) left) (term_at (version_in c) left) c rest at l.things l.end
-      own = elements_view (version_in c) (condition_at (version_in c) left) (term_at (version_in c) left) c rest at h l.read
+    module _ (h : i < stop) where
+      own : ElementsView (version_in c) (condition_at (version_in c) left) (term_at (version_in c) left) c (stop - i) at l.things l.end
+      own = elements_view (version_in c) (condition_at (version_in c) left) (term_at (version_in c) left) c (stop - i) at (omega (arith, h)) l.read
+
+      less : stop - (i + 1) ≡ (stop - i) - 1
+      less = omega arith
 
       here : term_at (version_in c) left false c at ≡ got own.first own.p
       here = term_anywhere (version_in c) left c at own.first own.p own.reads
@@ -248,25 +254,25 @@ module _ (s c : List ℕ) (left start : ℕ) where
       pub next_stands : accepted (term_at (version_in c) left false c at) ≡ true
       next_stands = is_accepted here
 
-      pub left_turn : left < 32 → (e : Element) → TypedAt s c (term_here c at) (term_type none (term_in c at)) left e → (also : Seen) → also ≡ seen_with s c seen e.typed → Left (rest - 1) e.next also
+      pub left_turn : left < 32 → (e : Element) → TypedAt s c (term_here c at) (term_type none (term_in c at)) left e → (also : Seen) → also ≡ seen_with s c seen e.typed → Left (stop - (i + 1)) e.next also
       unfolding term_in element_types
       left_turn k e t also is =
           let w = term_wider (version_in c) false left 32 (omega arith) c at own.first own.p here in
-          let i : e.next ≡ own.p = ends_at w t.ends in
+          let place : e.next ≡ own.p = ends_at w t.ends in
           let v : typed_of s c e.typed ≡ term_type none own.first = t.value ∙ ap (term_type none) (has_value _ w) in
           record {
             things = own.others;
             end = l.end;
-            read = rw i own.further;
+            read = rw (less, place) own.further;
             ends = l.ends;
             same = ap (λ (x : Seen). array_after s c x (element_types own.others)) is ∙ seen_more s c seen e.typed (element_types own.others) ∙ ap (λ (o : Option Ty). array_after s c seen (o ∷ element_types own.others)) v ∙ ap (λ (x : Terms). array_after s c seen (element_types x)) (sym own.whole) ∙ l.same;
             within = rw is (seen_within s c left seen e.typed l.within t.within);
           }
 
-    pub left_over : rest ≤ 0 → (r : Rich) → r ≡ array_rich seen → TypedAt s c (list_at left c start) (some (array_of (element_types (list_in left c start)))) (left + 1) (record { typed = Some r; next = at })
+    pub left_over : stop ≤ i → (r : Rich) → r ≡ array_rich seen → TypedAt s c (list_at left c start) (some (array_of (element_types (list_in left c start)))) (left + 1) (record { typed = Some r; next = at })
     unfolding element_types
     left_over h r e =
-        let v = elements_over (version_in c) (condition_at (version_in c) left) (term_at (version_in c) left) c rest at h l.read in
+        let v = elements_over (version_in c) (condition_at (version_in c) left) (term_at (version_in c) left) c (stop - i) at (omega (arith, h)) l.read in
         record {
           value = ap some (ap (rich_of s c) e ∙ array_value s c seen ∙ ap (λ (x : Terms). array_after s c seen (element_types x)) (sym v.0) ∙ l.same);
           ends = l.ends ∙ ap Ok v.1;

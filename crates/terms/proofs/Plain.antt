@@ -18,7 +18,9 @@ use Rattle.types.specs.declared.Base.TheVariants as Base
 use Rattle.types.specs.declared.Rich.{Rich}
 use Rattle.condition.specs.Condition.{Term, entity, literal, integer, decimal, string, bool, context_field, scope_field, var, wildcard, array, aggregate, sigil, entity_fields}
 use Rattle.condition.specs.Condition as tree
-use Rattle.nodes.specs.Kinds.{term_kind_of}
+use Rattle.nodes.specs.Kinds.{term_kind_of, term_kind_number}
+use Rattle.nodes.specs.Laws.Numbers.{not_entity}
+use Rattle.nodes.specs.declared.TermKind.{TermKind}
 use Rattle.condition.specs.Places.{version_in, is_term, term_in}
 use Rattle.nodes.specs.Looked.{TermKindHere}
 use Rattle.nodes.specs.Offsets.{term_part}
@@ -77,10 +79,10 @@ kind_within (tree.arith op l r) = record { layers = omega arith; tag = omega ari
 kind_within sigil = record { layers = omega arith; tag = omega arith }
 
 -- A term that stands at a place.
-module _ (c : List ℕ) (at : ℕ) (acc : is_term c at ≡ true) (k : ℕ) (o : TermKindHere c at k) where
-  module _ (e : k ≡ 1) where
+module _ (c : List ℕ) (at : ℕ) (acc : is_term c at ≡ true) (kind : TermKind) (o : TermKindHere c at (term_kind_number kind)) where
+  module _ (e : kind ≡ TermKind.Entity) where
     named : PartView (entity_fields (version_in c)) entity c at (term_in c at) (term_stands c at acc).end
-    named = entity_view (version_in c) c at (term_stands c at acc).read (raw_term c at acc 1 (λ i. omega arith) (sym o.kind ∙ e))
+    named = entity_view (version_in c) c at (term_stands c at acc).read (raw_term c at acc 1 (λ i. omega arith) (sym o.kind ∙ ap term_kind_number e))
 
     module _ (p : ℕ) (place : p ≡ term_part c at) where
       parts : EntityView (version_in c) c p named.part (term_stands c at acc).end
@@ -103,9 +105,9 @@ module _ (c : List ℕ) (at : ℕ) (acc : is_term c at ≡ true) (k : ℕ) (o : 
         within = record { layers = omega arith; tag = is.short };
       })
 
-  pub leaf_kind : (term_kind_of (term_in c at) ≡ 10 → ⊥) → (k ≡ 1 → ⊥) → (r : Typed) → r ≡ kind_type k → LeafTyped c at r
+  pub leaf_kind : (term_kind_of (term_in c at) ≡ 10 → ⊥) → (kind ≡ TermKind.Entity → ⊥) → (r : Typed) → r ≡ kind_type (term_kind_number kind) → LeafTyped c at r
   leaf_kind h i r e =
       let q : r ≡ kind_type (term_kind_of (term_in c at)) = e ∙ ap kind_type o.kind in
-      rw q (record { value = λ s. kind_value s c (term_in c at) (λ j. i (o.kind ∙ j)) h; within = kind_within (term_in c at) })
+      rw q (record { value = λ s. kind_value s c (term_in c at) (λ j. not_entity kind i (o.kind ∙ j)) h; within = kind_within (term_in c at) })
 
 pub ruleset leaves = (rules, own_tag, name_inside, name_byte, leaf_entity, leaf_kind)

@@ -19,8 +19,11 @@ use Rattle.targets.specs.Places.{narrowed}
 use Rattle.resolution.specs.Resolution as Resolution
 use Rattle.resolution.specs.Resolution.{scope_type, scope_path}
 use Rattle.resolution.specs.Passes.{scope_of, briefly}
-use Rattle.resolution.specs.Places.{types_in, are_segments, segments_in, Behind, typed_of, small_type, small_path}
-use Rattle.resolution.specs.Laws.Segments.{no_segments, first_segment}
+use Rattle.resolution.specs.Places.{types_in, are_segments, segments_in, typed_of, small_type, small_path}
+use Rattle.resolution.specs.Laws.Segments.{no_segments, first_segment, unsplit}
+use Rattle.resolution.specs.Paths.{path_of, Split, Splits}
+use Rattle.resolution.specs.declared.path.Headed.{Headed}
+use Rattle.std.specs.Prelude as code
 use Rattle.resolution.specs.declared.ScopePath.{ScopePath}
 use Rattle.terms.specs.Terms.{if_resolved, side_type_by, side_type, root_type}
 use Rattle.terms.specs.Facts.{facts_in}
@@ -77,32 +80,41 @@ module _ (s c : List ℕ) where
 
 pub ruleset one_side = (rules, side_bare, side_path)
 
--- The root of a path.
-module _ (s c n : List ℕ) (facts : Facts) (a : ℕ) (path : Row) (are : are_segments c path ≡ true) where
-  pub root_none : path.count ≡ 0 → TypeOf s c (root_type (facts_in s c n facts) (action_in s a) (segments_in c path)) None
+-- The root of a path, whose bytes are c; those of the condition are d.
+module _ (s d n : List ℕ) (facts : Facts) (a : ℕ) (c : List ℕ) (path : Row) (x : code.Option Headed) (splits : Splits c path x) where
+  pub root_none : x ≡ None → TypeOf s c (root_type (facts_in s d n facts) (action_in s a) (segments_in c path)) None
   unfolding root_type
-  root_none e = nothing_typed s c (ap (root_type (facts_in s c n facts) (action_in s a)) (sym (no_segments c path are (omega arith))))
+  root_none e = nothing_typed s c (ap (root_type (facts_in s d n facts) (action_in s a)) (unsplit c path x splits e))
 
-  module _ (tail : Row) (b : Behind c path tail) (w : List ℕ) (is_w : w ≡ word_at c path.at) where
-    rooted : root_type (facts_in s c n facts) (action_in s a) (segments_in c path) ≡ root_type (facts_in s c n facts) (action_in s a) (w ∷ segments_in c tail)
-    rooted = ap (root_type (facts_in s c n facts) (action_in s a)) (sym b.value ∙ ap (λ (v : List ℕ). v ∷ segments_in c tail) (sym is_w))
+  module _ (headed : Headed) (is : x ≡ Some headed) (w : List ℕ) (is_w : w ≡ word_at c headed.head) where
+    split : Split c path headed
+    split = rw is at splits
+
+    rooted : root_type (facts_in s d n facts) (action_in s a) (segments_in c path) ≡ root_type (facts_in s d n facts) (action_in s a) (w ∷ segments_in c headed.rest.segments)
+    rooted = ap (root_type (facts_in s d n facts) (action_in s a)) (sym split.value ∙ ap (λ (v : List ℕ). v ∷ segments_in c headed.rest.segments) (sym is_w))
+
+    -- what is said of the others in their own bytes
+    own : (o : List (List ℕ) → Option Ty) (r : Typed) → TypeOf s headed.rest.bytes.now (o (path_of headed.rest)) r → TypeOf s c (o (segments_in c headed.rest.segments)) r
+    own o r h = rw split.bytes at h
 
     module _ (b₁ : Bool) (e₁ : b₁ ≡ same w (112 ∷ 114 ∷ 105 ∷ 110 ∷ 99 ∷ 105 ∷ 112 ∷ 97 ∷ 108 ∷ [])) where
-      pub root_principal : b₁ ≡ true → (row : Row) → Listed (string_of path_name) s (action_in s a).principals row.count row.at → (r : Typed) → TypeOf s c (side_type (schema_in s) (narrowed n facts.principal) (types_in s row) (segments_in c tail)) r → TypeOf s c (root_type (facts_in s c n facts) (action_in s a) (segments_in c path)) r
+      pub root_principal : b₁ ≡ true → (row : Row) → Listed (string_of path_name) s (action_in s a).principals row.count row.at → (r : Typed) → TypeOf s headed.rest.bytes.now (side_type (schema_in s) (narrowed n facts.principal) (types_in s row) (path_of headed.rest)) r → TypeOf s c (root_type (facts_in s d n facts) (action_in s a) (segments_in c path)) r
       unfolding root_type text
-      root_principal t row l r h =
-          record { value = h.value ∙ ap (λ (ws : List (List ℕ)). side_type (schema_in s) (narrowed n facts.principal) ws (segments_in c tail)) l.value ∙ rw (← e₁, t) refl ∙ sym rooted; small = h.small }
+      root_principal t row l r k =
+          let h = own (side_type (schema_in s) (narrowed n facts.principal) (types_in s row)) r k in
+          record { value = h.value ∙ ap (λ (ws : List (List ℕ)). side_type (schema_in s) (narrowed n facts.principal) ws (segments_in c headed.rest.segments)) l.value ∙ rw (← e₁, t) refl ∙ sym rooted; small = h.small }
 
       module _ (f : b₁ ≡ false) (b₂ : Bool) (e₂ : b₂ ≡ same w (114 ∷ 101 ∷ 115 ∷ 111 ∷ 117 ∷ 114 ∷ 99 ∷ 101 ∷ [])) where
-        pub root_resource : b₂ ≡ true → (row : Row) → Listed (string_of path_name) s (action_in s a).resources row.count row.at → (r : Typed) → TypeOf s c (side_type (schema_in s) (narrowed n facts.resource) (types_in s row) (segments_in c tail)) r → TypeOf s c (root_type (facts_in s c n facts) (action_in s a) (segments_in c path)) r
+        pub root_resource : b₂ ≡ true → (row : Row) → Listed (string_of path_name) s (action_in s a).resources row.count row.at → (r : Typed) → TypeOf s headed.rest.bytes.now (side_type (schema_in s) (narrowed n facts.resource) (types_in s row) (path_of headed.rest)) r → TypeOf s c (root_type (facts_in s d n facts) (action_in s a) (segments_in c path)) r
         unfolding root_type text
-        root_resource t row l r h =
-            record { value = h.value ∙ ap (λ (ws : List (List ℕ)). side_type (schema_in s) (narrowed n facts.resource) ws (segments_in c tail)) l.value ∙ rw (← e₁, f, ← e₂, t) refl ∙ sym rooted; small = h.small }
+        root_resource t row l r k =
+            let h = own (side_type (schema_in s) (narrowed n facts.resource) (types_in s row)) r k in
+            record { value = h.value ∙ ap (λ (ws : List (List ℕ)). side_type (schema_in s) (narrowed n facts.resource) ws (segments_in c headed.rest.segments)) l.value ∙ rw (← e₁, f, ← e₂, t) refl ∙ sym rooted; small = h.small }
 
-        pub root_other : b₂ ≡ false → TypeOf s c (root_type (facts_in s c n facts) (action_in s a) (segments_in c path)) None
+        pub root_other : b₂ ≡ false → TypeOf s c (root_type (facts_in s d n facts) (action_in s a) (segments_in c path)) None
         unfolding root_type text
         root_other g =
-            let i : root_type (facts_in s c n facts) (action_in s a) (w ∷ segments_in c tail) ≡ none = rw (← e₁, f, ← e₂, g) in
+            let i : root_type (facts_in s d n facts) (action_in s a) (w ∷ segments_in c headed.rest.segments) ≡ none = rw (← e₁, f, ← e₂, g) in
             nothing_typed s c (rooted ∙ i)
 
 pub ruleset roots = (rules, root_none, root_principal, root_resource, root_other)

@@ -11,22 +11,25 @@ use Rattle.types.specs.Meaning.{layered}
 use Rattle.types.specs.declared.Scalar.TheVariants as Scalar
 use Rattle.types.specs.declared.Rich.{Rich}
 use Rattle.schema.specs.Places.{action_in, found_in}
-use Rattle.names.specs.declared.Row.{Row}
 use Rattle.targets.specs.Places.{narrowed, targets_in}
 use Rattle.targets.specs.declared.Narrowed.{Narrowed}
 use Rattle.condition.specs.Condition.{Term, entity, literal, context_field, scope_field, var, wildcard, array, aggregate, sigil, timepoint, path}
 use Rattle.condition.specs.Condition as tree
 use Rattle.condition.specs.Walk.{last_named}
 use Rattle.walk.specs.Enclosing.{around_at, binding_in}
-use Rattle.nodes.specs.Kinds.{term_kind_of}
-use Rattle.condition.specs.Places.{term_here, term_in, path_in}
+use Rattle.nodes.specs.Kinds.{term_kind_of, term_kind_number}
+use Rattle.nodes.specs.Laws.Numbers.{not_context_field, not_scope_field, not_var}
+use Rattle.nodes.specs.Offsets.{term_part}
+use Rattle.nodes.specs.declared.TermKind.{TermKind}
+use Rattle.condition.specs.Places.{term_here, is_term, term_in, path_in}
 use Rattle.nodes.specs.Laws.Pieces.{context_path, scope_path, context_inside, scope_inside, var_inside}
 use Rattle.nodes.specs.Looked.{TermKindHere}
-use Rattle.nodes.specs.Parts.{PathHere, segments_in, SegmentsHere, BoundBy}
+use Rattle.nodes.specs.Parts.{segments_in, SegmentsHere, BoundBy}
 use Rattle.nodes.specs.declared.Bound.{Bound}
 use Rattle.resolution.specs.Resolution.{context_type_by, context_type}
 use Rattle.resolution.specs.Places.{typed_of, small_type}
-use Rattle.resolution.specs.Places as resolution
+use Rattle.resolution.specs.Paths.{path_of}
+use Rattle.resolution.specs.declared.path.Path.{Path}
 use Rattle.terms.specs.Terms.{facts_of, annotation_type_by, input_type, var_type, term_type, root_type, scope_field_type}
 use Rattle.terms.specs.Terms as Terms
 use Rattle.terms.specs.Bounds.{Within}
@@ -38,7 +41,7 @@ use Rattle.terms.specs.declared.Facts.{Facts}
 use Rattle.terms.specs.declared.Element.{Element}
 use Rattle.terms.proofs.Fields.{action_stands}
 use Rattle.terms.proofs.Roots.{nothing_typed}
-use Rattle.std.specs.Prelude.{Some, None}
+use Rattle.std.specs.Prelude.{true, Some, None}
 use Rattle.resolution.specs.Coded.{Typed}
 
 -- the facts of a target
@@ -57,13 +60,13 @@ module _ (s c : List ℕ) (at : ℕ) where
   unfolding scope_field_type
   scope_undeclared facts n e = nothing_typed s c (rw e)
 
-  module _ (p : ℕ) (row : Row) (l : SegmentsOf c at row) (r : Typed) where
-    pub context_declared : (action : Found) → action ≡ Some p → typed_of s c r ≡ context_type (some (action_in s p)) (resolution.segments_in c row) → small_type (typed_of s c r) → TypeOf s c (context_type (found_in (action_in s) action) (path_in c at)) r
-    context_declared action e h small = record { value = rw (e, ← l.value) h; small = small }
+  module _ (p : ℕ) (there : Path) (l : SegmentsOf c at there) (r : Typed) where
+    pub context_declared : (action : Found) → action ≡ Some p → typed_of s there.bytes.now r ≡ context_type (some (action_in s p)) (path_of there) → small_type (typed_of s there.bytes.now r) → TypeOf s c (context_type (found_in (action_in s) action) (path_in c at)) r
+    context_declared action e h small = let own = rw l.bytes at h in record { value = rw (e, ← l.value) own; small = rw l.bytes at small }
 
-    pub scope_declared : (facts : Facts) → facts.action ≡ Some p → (n : List ℕ) → TypeOf s c (root_type (facts_in s c n facts) (action_in s p) (resolution.segments_in c row)) r → TypeOf s c (scope_field_type (facts_in s c n facts) (path_in c at)) r
+    pub scope_declared : (facts : Facts) → facts.action ≡ Some p → (n : List ℕ) → TypeOf s there.bytes.now (root_type (facts_in s c n facts) (action_in s p) (path_of there)) r → TypeOf s c (scope_field_type (facts_in s c n facts) (path_in c at)) r
     unfolding scope_field_type
-    scope_declared facts e n h = record { value = h.value ∙ ap (root_type (facts_in s c n facts) (action_in s p)) l.value ∙ rw e; small = h.small }
+    scope_declared facts e n h = let own = rw l.bytes at h in record { value = own.value ∙ ap (root_type (facts_in s c n facts) (action_in s p)) l.value ∙ rw e; small = own.small }
 
 pub ruleset paths = (rules, context_undeclared, scope_undeclared, action_stands, context_declared, scope_declared)
 
@@ -123,24 +126,30 @@ module _ (s c : List ℕ) (facts : Facts) (name : List ℕ) (b : Bound) (says : 
 pub ruleset bindings = (rules, bound_stands, name_annotated, name_timepoint, name_free)
 
 -- A term by its kind.
-module _ (s c n : List ℕ) (facts : Facts) (at k : ℕ) (o : TermKindHere c at k) where
-  pub kind_here : (j : ℕ) → k ≡ j → term_kind_of (term_in c at) ≡ j
-  kind_here j e = sym o.kind ∙ e
-
-  module _ (r : Typed) where
-    pub term_context : (p : ℕ) → PathHere context_field c at p → TypeOf s c (context_type (found_in (action_in s) facts.action) (path_in c p)) r → TypeOf s c (term_type (some (facts_in s c n facts)) (term_in c at)) r
+module _ (s c n : List ℕ) (facts : Facts) (at : ℕ) (kind : TermKind) (o : TermKindHere c at (term_kind_number kind)) (r : Typed) where
+  module _ (acc : is_term c at ≡ true) (p : ℕ) (place : p ≡ term_part c at) where
+    pub term_context : kind ≡ TermKind.ContextField → TypeOf s c (context_type (found_in (action_in s) facts.action) (path_in c p)) r → TypeOf s c (term_type (some (facts_in s c n facts)) (term_in c at)) r
     unfolding term_type
-    term_context p h t = record { value = t.value ∙ rw h.value; small = t.small }
+    term_context e t =
+        let h = context_inside c at acc p place (term_kind_number kind) o (ap term_kind_number e) in
+        record { value = t.value ∙ rw h.value; small = t.small }
 
-    pub term_scope : (p : ℕ) → PathHere scope_field c at p → TypeOf s c (scope_field_type (facts_in s c n facts) (path_in c p)) r → TypeOf s c (term_type (some (facts_in s c n facts)) (term_in c at)) r
+    pub term_scope : kind ≡ TermKind.ScopeField → TypeOf s c (scope_field_type (facts_in s c n facts) (path_in c p)) r → TypeOf s c (term_type (some (facts_in s c n facts)) (term_in c at)) r
     unfolding term_type
-    term_scope p h t = record { value = t.value ∙ rw h.value; small = t.small }
+    term_scope e t =
+        let h = scope_inside c at acc p place (term_kind_number kind) o (ap term_kind_number e) in
+        record { value = t.value ∙ rw h.value; small = t.small }
 
-    pub term_var : (p : ℕ) → term_in c at ≡ var (word_at c p) → (w : List ℕ) → w ≡ word_at c p → NameTyped s c facts w r → TypeOf s c (term_type (some (facts_in s c n facts)) (term_in c at)) r
+    pub term_var : kind ≡ TermKind.Var → (w : List ℕ) → w ≡ word_at c p → NameTyped s c facts w r → TypeOf s c (term_type (some (facts_in s c n facts)) (term_in c at)) r
     unfolding term_type
-    term_var p e w is t = record { value = t.value n ∙ rw (e, is); small = t.small }
+    term_var e w is t =
+        let h = var_inside c at acc p place (term_kind_number kind) o (ap term_kind_number e) in
+        record { value = t.value n ∙ rw (h, is); small = t.small }
 
-    pub term_plain : (k ≡ 6 → ⊥) → (k ≡ 7 → ⊥) → (k ≡ 8 → ⊥) → TypeOf s c (term_type none (term_in c at)) r → TypeOf s c (term_type (some (facts_in s c n facts)) (term_in c at)) r
-    term_plain a b d t = record { value = t.value ∙ plain_same (some (facts_in s c n facts)) (term_in c at) (λ e. a (o.kind ∙ e)) (λ e. b (o.kind ∙ e)) (λ e. d (o.kind ∙ e)); small = t.small }
+  pub term_plain : (kind ≡ TermKind.ContextField → ⊥) → (kind ≡ TermKind.ScopeField → ⊥) → (kind ≡ TermKind.Var → ⊥) → TypeOf s c (term_type none (term_in c at)) r → TypeOf s c (term_type (some (facts_in s c n facts)) (term_in c at)) r
+  term_plain a b d t = record {
+    value = t.value ∙ plain_same (some (facts_in s c n facts)) (term_in c at) (λ e. not_context_field kind a (o.kind ∙ e)) (λ e. not_scope_field kind b (o.kind ∙ e)) (λ e. not_var kind d (o.kind ∙ e));
+    small = t.small;
+  }
 
-pub ruleset by_kind = (rules, kind_here, context_path, scope_path, context_inside, scope_inside, var_inside, term_context, term_scope, term_var, term_plain)
+pub ruleset by_kind = (rules, context_path, scope_path, term_context, term_scope, term_var, term_plain)

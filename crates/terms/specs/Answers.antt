@@ -1,15 +1,15 @@
 -- What the answers of the environment and of terms say.
-use Rattle.std.specs.Prelude.{ℕ, ◌≤◌, ◌≡◌, true, List, Some, None}
+use Rattle.std.specs.Prelude.{ℕ, ◌≤◌, ◌≡◌, List, Some, None}
 use Rattle.std.proofs.Math.Option.{Option}
 use Rattle.names.specs.Read.{word_at}
 use Rattle.types.specs.Types.{Ty, dated}
 use Rattle.types.specs.Meaning.{tag_of, rich_of}
 use Rattle.types.specs.declared.Tag.{Tag}
 use Rattle.types.specs.declared.Rich.{Rich}
-use Rattle.names.specs.declared.Row.{Row}
+use Rattle.resolution.specs.declared.path.Path.{Path}
 use Rattle.condition.specs.Condition.{Annotation}
 use Rattle.condition.specs.Places.{path_in}
-use Rattle.resolution.specs.Places.{are_segments, segments_in, typed_of, small_type}
+use Rattle.resolution.specs.Places.{segments_in, typed_of, small_type}
 use Rattle.resolution.specs.declared.ScopePath.{ScopePath}
 use Rattle.terms.specs.Terms.{other_type, word_type, annotation_type}
 use Rattle.terms.specs.Bounds.{Within}
@@ -54,6 +54,6 @@ resolved_of ScopePath.Ambiguous = None
 resolved_of ScopePath.Unknown = None
 
 -- the segments of the path at a place
-pub record SegmentsOf (c : List ℕ) (at : ℕ) (r : Row) : Type 0 where
-  pub stands : are_segments c r ≡ true
-  pub value : segments_in c r ≡ path_in c at
+pub record SegmentsOf (c : List ℕ) (at : ℕ) (r : Path) : Type 0 where
+  pub bytes : r.bytes.now ≡ c
+  pub value : segments_in c r.segments ≡ path_in c at

@@ -1,2 +1,3 @@
 -- Laws of the definitions, for the proofs of this crate and of those above it. They are proved: whoever reads what is promised may pass over them.
 pub mod Facts
+pub mod Known

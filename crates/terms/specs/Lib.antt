@@ -1,5 +1,6 @@
 pub mod Terms
 pub mod Facts
+pub mod Settings
 pub mod Bounds
 pub mod Literals
 pub mod Answers

@@ -4,9 +4,9 @@ ghost use Rattle.std.proofs.Math.Option.{some};
 ghost use Rattle.schema.specs.Places.{is_type, type_in, is_action, action_in, found_in, found_stands};
 ghost use Rattle.condition.specs.Condition.{path};
 ghost use Rattle.nodes.specs.Parts.{segments_in, SegmentsHere};
+ghost use Rattle.terms.specs.Terms.{field_type, input_type};
 ghost use Rattle.walk.specs.Index.{nodes_of};
 ghost use Rattle.walk.specs.Enclosing.{Names, binding_in};
-ghost use Rattle.terms.specs.Terms.{field_type, input_type};
 ghost use Rattle.terms.specs.Facts.{NameTyped};
 ghost use Rattle.terms.specs.Answers.{WordTag, OtherTyped, WordTyped, AnnotationTyped, TypedBy};
 
@@ -16,21 +16,23 @@ use resolution::Typed;
 use types::{Base, Rich, Scalar, Source, Tag};
 
 // The string at `at` as a tag.
+// It reads as `names::word` does, also where no length byte stands; `entity_tag` asks for one.
+#[tactic(auto, using(crate::proofs::Fields::word_tags))]
 fn word_tag(condition: &[u8], at: usize) -> Tag
     ensures { WordTag condition.now at result }
 {
-    if condition.len() <= at {
+    let source = Source::Condition;
+    let Some(&len) = condition.get(at) else {
         return Tag {
-            source: Source::Condition,
+            source,
             at: 0,
             len: 0,
         };
-    }
-    let len = names::wide(condition[at]);
+    };
     Tag {
-        source: Source::Condition,
+        source,
         at: at + 1,
-        len,
+        len: usize::from(len),
     }
 }
 
@@ -103,6 +105,7 @@ fn free_type(s: &[u8], facts: Facts, name: &[u8]) -> Typed
 }
 
 // The type of an annotation, whose count of segments stands at `at`: its last segment's.
+#[tactic(auto, using(crate::proofs::Fields::annotations))]
 fn segments_type(condition: &[u8], at: usize) -> Rich
     requires { SegmentsHere condition.now at }
     ensures { AnnotationTyped condition.now (path (segments_in condition.now at)) result }
@@ -112,16 +115,15 @@ fn segments_type(condition: &[u8], at: usize) -> Rich
 }
 
 // A name's type: by the binder that binds it at the reached condition of the facts, else by the input field.
+// It takes no setting, since it asks for less than is known of one.
 pub fn var_type(schema: &[u8], condition: &[u8], env: &[u16], facts: Facts, name: &[u8]) -> Typed
     requires names { Names condition.now (binding_in facts.common.binding) env.now }
     requires node_in_bounds { facts.node < length (nodes_of condition.now) }
     requires action_value { found_stands (is_action schema.now) facts.action ≡ true }
     ensures { NameTyped schema.now condition.now facts name.now result }
 {
-    let common = facts.common;
-    let binding = common.binding;
-    let bound = walk::bound_by(binding, condition, env, facts.node, name);
-    match bound {
+    let binding = facts.common.binding;
+    match walk::bound_by(binding, condition, env, facts.node, name) {
         Bound::Segments(p) => Some(segments_type(condition, p)),
         Bound::Timepoint => Some(Rich::from(Scalar::Timepoint)),
         Bound::Nothing => free_type(schema, facts, name),

@@ -1,15 +1,20 @@
 // The facts of a target, and the types that terms have under them.
+//
+// What stands at a place (`is_term`, `is_path`, `found_stands` of an action) is asked as in
+// `nodes`, whose heading says why.
 #![tactic(auto)]
 
 mod env;
 mod literals;
 mod scope;
+mod setting;
 mod target;
 mod term;
 
 pub use env::var_type;
 use names::Row;
 use resolution::Typed;
+pub use setting::Setting;
 pub use target::{at_node, facts_of};
 use targets::Narrowed;
 pub use term::{context_field_type, term_type};

@@ -1,33 +1,38 @@
 // Array literals. An element is typed without environment and action, once, together with the place behind it.
+//
+// The bytes of the two records stay two parameters, as `types` takes them: nothing is asked of the
+// two together that a struct would keep.
 ghost use Rattle.std.specs.Prelude.{◌≡◌, true, false, ◌+◌, ◌≤◌, ◌<◌, length, get_or};
 ghost use Rattle.std.proofs.Math.Option.{none, some};
 ghost use Rattle.names.specs.Fields.{levels};
 ghost use Rattle.names.specs.Read.{accepted};
 ghost use Rattle.condition.specs.Condition.{term_at};
-ghost use Rattle.nodes.specs.Kinds.{term_kind_of};
+ghost use Rattle.nodes.specs.Kinds.{term_kind_of, term_kind_number};
 ghost use Rattle.condition.specs.Places.{version_in, term_here, is_term, term_in};
 ghost use Rattle.terms.specs.Terms.{term_type, element_types, array_of};
 ghost use Rattle.terms.specs.Bounds.{layers_of};
 ghost use Rattle.terms.specs.Literals.{kind_type, seen_with, seen_type, array_rich, EntityTag, LeafTyped, TypedAt, list_at, list_in};
 
 use crate::{Element, Seen};
+use nodes::TermKind;
 use resolution::Typed;
 use types::{Base, Rich, Scalar, Source, Tag};
 
 // The type of a term by its kind alone.
-fn kind_type(kind: u8) -> Typed
-    ensures { result ≡ kind_type kind }
+fn kind_type(kind: TermKind) -> Typed
+    ensures { result ≡ kind_type (term_kind_number kind) }
 {
     match kind {
-        2 | 11 | 12 => Some(Rich::from(Scalar::Long)),
-        3 => Some(Rich::from(Scalar::Decimal)),
-        4 => Some(Rich::from(Scalar::String)),
-        5 => Some(Rich::from(Scalar::Bool)),
+        TermKind::Integer | TermKind::Aggregate | TermKind::Arith => Some(Rich::from(Scalar::Long)),
+        TermKind::Decimal => Some(Rich::from(Scalar::Decimal)),
+        TermKind::String => Some(Rich::from(Scalar::String)),
+        TermKind::Bool => Some(Rich::from(Scalar::Bool)),
         _ => None,
     }
 }
 
 // One element more: the first decides, and an element without a type or of another one makes the array mixed.
+#[tactic(auto, using(crate::proofs::Arrays::joining))]
 fn seen_with<'a>(schema: &'a [u8], condition: &'a [u8], seen: Seen, typed: Typed) -> Seen
     ensures { result ≡ seen_with schema.now condition.now seen typed }
 {
@@ -41,6 +46,7 @@ fn seen_with<'a>(schema: &'a [u8], condition: &'a [u8], seen: Seen, typed: Typed
     }
 }
 
+#[tactic(auto, using(crate::proofs::Arrays::joining))]
 fn alike<'a>(schema: &'a [u8], condition: &'a [u8], first: Rich, other: Rich) -> Seen
     ensures { result ≡ seen_with schema.now condition.now (Seen.Like first) (Some other) }
 {
@@ -66,10 +72,9 @@ fn one_layer(t: Rich) -> Rich
     requires { t.layers < 32 }
     ensures { result ≡ array_rich (Seen.Like t) }
 {
-    let base = t.base;
     Rich {
         layers: t.layers + 1,
-        base,
+        ..t
     }
 }
 
@@ -93,12 +98,13 @@ fn leaf_type(condition: &[u8], at: usize) -> Typed
     requires fact { term_kind_of (term_in condition.now at) ≡ 10 → ⊥ }
     ensures { LeafTyped condition.now at result }
 {
-    let kind = nodes::term_kind_at(condition, at);
-    if kind == 1 {
-        let tag = entity_tag(condition, nodes::term_part(condition, at));
-        return Some(Rich::from(Base::Tagged(tag)));
+    match nodes::term_kind_at(condition, at) {
+        TermKind::Entity => {
+            let tag = entity_tag(condition, nodes::term_part(condition, at));
+            Some(Rich::from(Base::Tagged(tag)))
+        }
+        kind => kind_type(kind),
     }
-    kind_type(kind)
 }
 
 // The type that the term at `at` has without facts, and the place behind it, with so many levels left.
@@ -108,12 +114,16 @@ pub fn element_type<'a>(schema: &'a [u8], condition: &'a [u8], at: usize, left: 
     requires at_value { accepted (term_at (version_in condition.now) left false condition.now at) ≡ true }
     ensures { TypedAt schema.now condition.now (term_here condition.now at) (term_type none (term_in condition.now at)) left result }
 {
-    if nodes::term_kind_at(condition, at) == 10 {
-        return array_type(schema, condition, nodes::term_part(condition, at), left - 1);
+    match nodes::term_kind_at(condition, at) {
+        TermKind::Array => {
+            let elements = nodes::term_part(condition, at);
+            array_type(schema, condition, elements, left - 1)
+        }
+        _ => Element {
+            typed: leaf_type(condition, at),
+            next: nodes::past_term(condition, at),
+        },
     }
-    let typed = leaf_type(condition, at);
-    let next = nodes::past_term(condition, at);
-    Element { typed, next }
 }
 
 // The array whose count of elements stands at `start`.
@@ -124,19 +134,15 @@ fn array_type<'a>(schema: &'a [u8], condition: &'a [u8], start: usize, left: usi
     requires start_value { accepted (list_at left condition.now start) ≡ true }
     ensures { TypedAt schema.now condition.now (list_at left condition.now start) (some (array_of (element_types (list_in left condition.now start)))) (left + 1) result }
 {
-    let mut rest = names::byte_at(condition, start);
     let mut at = start + 1;
     let mut seen = Seen::Empty;
-    // Counted down by hand: the loop stands in a cycle of two functions, whose proof is one list by
-    // position, and a `for` asks for all of that list anew.
-    while 0 < rest {
+    for _ in 0..names::byte_at(condition, start) {
         let element = element_type(schema, condition, at, left);
-        let typed = element.typed;
-        seen = seen_with(schema, condition, seen, typed);
+        seen = seen_with(schema, condition, seen, element.typed);
         at = element.next;
-        rest -= 1;
     }
-    let rich = array_of(seen);
-    let typed = Some(rich);
-    Element { typed, next: at }
+    Element {
+        typed: Some(array_of(seen)),
+        next: at,
+    }
 }

@@ -1,18 +1,18 @@
 // `principal` and `resource` under the rule's scope, and paths of their attributes.
 ghost use Rattle.std.specs.Prelude.{◌≡◌, true};
-ghost use Rattle.schema.specs.Places.{is_schema, schema_in, is_action, action_in};
-ghost use Rattle.targets.specs.Places.{narrowed};
-ghost use Rattle.resolution.specs.Places.{are_types, types_in, are_segments, segments_in};
+ghost use Rattle.schema.specs.Places.{is_action, action_in};
+ghost use Rattle.resolution.specs.Paths.{path_of};
+ghost use Rattle.resolution.specs.Scopes.{schema_of, narrowing_of, types_of};
 ghost use Rattle.terms.specs.Terms.{side_type, root_type};
-ghost use Rattle.terms.specs.Facts.{facts_in};
+ghost use Rattle.terms.specs.Settings.{facts_at};
 ghost use Rattle.terms.specs.Answers.{TypeOf, resolved_of};
 
-use crate::Facts;
-use names::Row;
-use resolution::{ScopePath, Typed};
-use targets::Narrowed;
+use crate::Setting;
+use resolution::{Candidates, Path, Scope, ScopePath, Typed};
 
-// The type at the end of a path, where there is one.
+// The type at the end of a path, where there is one. A `ScopePath` is one of document 01's five
+// answers, and no Result whose method would give it: one answer alone holds a type, and two of the
+// others hold no reason.
 fn if_resolved(end: ScopePath) -> Typed
     ensures { result ≡ resolved_of end }
 {
@@ -22,58 +22,52 @@ fn if_resolved(end: ScopePath) -> Typed
     }
 }
 
-// One side of the scope, whose entity types stand in a row of the schema: bare, or a path of its attributes.
-fn side_type<'a>(
-    schema: &'a [u8],
-    condition: &'a [u8],
-    targets: &[u8],
-    narrowing: Narrowed,
-    row: Row,
-    tail: Row,
-) -> Typed
-    requires schema_value { is_schema schema.now ≡ true }
-    requires row_value { are_types schema.now row ≡ true }
-    requires tail_value { are_segments condition.now tail ≡ true }
-    ensures { TypeOf schema.now condition.now (side_type (schema_in schema.now) (narrowed targets.now narrowing) (types_in schema.now row) (segments_in condition.now tail)) result }
+// One side of the scope: bare, or a path of its attributes.
+#[tactic(auto, using(crate::proofs::Roots::one_side))]
+fn side_type<'a>(candidates: Candidates<'a>, tail: Path<'a>) -> Typed
+    ensures { TypeOf candidates.entry.scope.schema.bytes.now tail.entry.bytes.now
+        (side_type (schema_of candidates.entry.scope) (narrowing_of candidates.entry.scope)
+        (types_of candidates.entry) (path_of tail.entry)) result }
 {
-    let count = tail.count;
-    if count == 0 {
-        return resolution::scope_type(schema, targets, narrowing, row);
+    if tail.segments.count == 0 {
+        return resolution::scope_type(candidates);
     }
-    let end = resolution::resolve_scope_path(schema, targets, narrowing, row, condition, tail);
-    if_resolved(end)
+    if_resolved(resolution::resolve_scope_path(candidates, tail))
 }
 
 // A path whose first segment is the root, under the action at `action`; any other root, and none, has no type.
-pub fn root_type<'a>(
-    schema: &'a [u8],
-    condition: &'a [u8],
-    targets: &[u8],
-    facts: Facts,
-    action: usize,
-    path: Row,
-) -> Typed
-    requires schema_value { is_schema schema.now ≡ true }
-    requires action_value { is_action schema.now action ≡ true }
-    requires path_value { are_segments condition.now path ≡ true }
-    ensures { TypeOf schema.now condition.now (root_type (facts_in schema.now condition.now targets.now facts) (action_in schema.now action) (segments_in condition.now path)) result }
+// The two sides differ in a field of the facts and in a function of `schema`, so that no call for
+// both is shorter.
+#[tactic(auto, using(crate::proofs::Roots::roots))]
+pub fn root_type<'a>(setting: Setting<'a>, action: usize, path: Path<'a>) -> Typed
+    requires { is_action setting.schema.bytes.now action ≡ true }
+    ensures { TypeOf setting.entry.schema.bytes.now path.entry.bytes.now
+        (root_type (facts_at setting.entry) (action_in setting.entry.schema.bytes.now action)
+        (path_of path.entry)) result }
 {
-    let count = path.count;
-    if count == 0 {
-        return None;
-    }
-    let head = path.at;
-    let tail = resolution::behind(condition, path);
-    let root = names::word(condition, head);
+    let schema = setting.schema;
+    let targets = setting.targets;
+    let headed = resolution::split_first(path)?;
+    let root = names::word(path.bytes, headed.head);
     if names::same(root, b"principal") {
-        let row = schema::principals(schema, action);
-        let narrowing = facts.principal;
-        return side_type(schema, condition, targets, narrowing, row, tail);
+        let narrowing = setting.facts.principal;
+        let types = schema::principals(schema.bytes, action);
+        let scope = Scope {
+            schema,
+            targets,
+            narrowing,
+        };
+        return side_type(Candidates { scope, types }, headed.rest);
     }
     if names::same(root, b"resource") {
-        let row = schema::resources(schema, action);
-        let narrowing = facts.resource;
-        return side_type(schema, condition, targets, narrowing, row, tail);
+        let narrowing = setting.facts.resource;
+        let types = schema::resources(schema.bytes, action);
+        let scope = Scope {
+            schema,
+            targets,
+            narrowing,
+        };
+        return side_type(Candidates { scope, types }, headed.rest);
     }
     None
 }

@@ -1,14 +1,14 @@
 // The facts of a target.
-ghost use Rattle.std.specs.Prelude.{◌≡◌, true};
-ghost use Rattle.targets.specs.Places.{are_targets};
+ghost use Rattle.std.specs.Prelude.{◌≡◌};
 ghost use Rattle.terms.specs.Facts.{at_node, FactsOf};
 
 use crate::{Common, Facts};
+use targets::TargetsRecord;
 
 // The facts of a target whose action was looked up: the scope is the target record's, and the reached condition is the first.
-pub fn facts_of(targets: &[u8], action: Option<usize>, common: Common) -> Facts
-    requires { are_targets targets.now ≡ true }
-    ensures { FactsOf targets.now action common result }
+#[tactic(auto, using(crate::proofs::Under::facts_made))]
+pub fn facts_of(targets: TargetsRecord, action: Option<usize>, common: Common) -> Facts
+    ensures { FactsOf targets.entry.bytes.now action common result }
 {
     let principal = targets::principal(targets);
     let resource = targets::resource(targets);

@@ -1,15 +1,13 @@
 -- The run: each reached node under a target, each target, and the records that are read before them. Assumes nothing.
 use mathlib.Core.Path.{◌≡◌, refl, sym, ap, ap₂, ◌∙◌}
-use mathlib.Core.Bool.{Bool, true, false}
+use mathlib.Core.Bool.{Bool, true, false, cond}
 use mathlib.Core.List.{List, [], ◌∷◌, ◌++◌, map, append-nil}
 use mathlib.Core.Option.{Option}
-use Prim.Native.Nat.{ℕ, ◌+◌, ◌-◌, ◌*◌, ◌%◌, ◌≤◌, ◌<◌}
+use Prim.Native.Nat.{ℕ, ◌+◌, ◌-◌, ◌*◌, ◌≤◌, ◌<◌}
 use native.Mathlib.Nat.{add_assoc}
 use native.Mathlib.Omega.{arith}
 use borrow.Author.Rules.{rules}
-use borrow.Author.Tests.{ne_eqb}
 use lib.ListN.{length, length-map, drop, drop_of_length-le}
-use lib.Seq.{length-take-le}
 use Rattle.names.specs.Lists.{maybe, gather}
 use Rattle.names.specs.Fields.{whole, number_of}
 use Rattle.names.specs.Read.{ending, Listed, Read, Found}
@@ -21,16 +19,15 @@ use Rattle.types.specs.declared.Profile.{Profile}
 use Rattle.schema.specs.Schema.{Schema, Action, schema_record}
 use Rattle.schema.specs.Find.{find_action}
 use Rattle.schema.specs.Places.{is_schema, schema_in, is_action, action_in, found_in, found_stands, FindsAction, ActionsOf}
-use Rattle.names.specs.declared.Row.{Row}
 use Rattle.targets.specs.Targets.{Scope, Target, Targets, target, target_record}
-use Rattle.targets.specs.Places.{targets_in, is_target, target_in}
+use Rattle.targets.specs.Places.{are_targets, targets_in, is_target, target_in}
 use Rattle.condition.specs.Condition.{Condition, condition_record}
 use Rattle.condition.specs.Places.{is_record, record_in, condition_in}
 use Rattle.condition.specs.Laws.Records.{record_small}
 use Rattle.condition.specs.Laws.Sizes.{record_nodes}
 use Rattle.walk.specs.Index.{Index, Reached}
 use Rattle.walk.specs.Scopes.{Scoped, under, Binding, binding_of, nodes_by}
-use Rattle.walk.specs.Enclosing.{around_at, binding_in, Names}
+use Rattle.walk.specs.Enclosing.{around_at, binding_in}
 use Rattle.walk.specs.Laws.Nodes.{length_by, reached_index, reached_by}
 use Rattle.walk.specs.declared.Binding as walk
 use Rattle.walk.specs.declared.Binding.TheVariants as Binding
@@ -41,23 +38,29 @@ use Rattle.reports.specs.declared.State.{State}
 use Rattle.reports.specs.declared.Answer.{Answer}
 use Rattle.reports.specs.Sink as sinks
 use Rattle.reports.specs.Sink.{Sink, sink, push_all}
-use Rattle.reports.specs.Slots.{Lent, Pushed}
+use Rattle.reports.specs.Slots.{Lent, Empty, Pushed}
 use Rattle.reports.specs.Laws.Sinks.{recorded_none}
 use Rattle.reports.specs.Laws.Slots.{zeros_empty, lent_start}
-use Rattle.reports.specs.Answers.{outcome_of, Answers, Refuses, pushed}
-use Rattle.terms.specs.declared.Common.{Common}
+use Rattle.reports.specs.Answers.{Answers, Refuses, pushed}
 use Rattle.terms.specs.declared.Facts.{Facts}
-use Rattle.terms.specs.Facts.{facts_in, scope_in, at_node, Ready, Known, FactsOf}
+use Rattle.terms.specs.Laws.Known.{mere_ready}
+use Rattle.terms.specs.Facts.{facts_in, scope_in, at_node, Known, FactsOf}
 use Rattle.rules.specs.Rules.{node_breaches}
 use Rattle.typecheck.specs.Check.{profile_of, Choices, choices_of, breaches_at, is_checked, visits_under_by, visits_under, CheckOutcome, checked_by, checked, check_with, check}
 use Rattle.typecheck.specs.Answers.{check_outcome_of, WithVisits, Spared}
-use Rattle.typecheck.specs.Run.{Accepted, ReadAs, reading, choices_in, chosen_in, KnownUnder, under_visits, UnderKnown, UnderHere, found_by, begun_from, Visited, Under, Records}
+use Rattle.typecheck.specs.Known.{KnownUnder}
+use Rattle.typecheck.specs.Run.{of_record, ReadAs, reading, choices_in, chosen_in, found_by, begun_from, Visited, ReadRecords, Holds, visits_in, CheckedAt, all_visits_of, target_visits, checked_of}
+use Rattle.typecheck.specs.Laws.Indexed.{mere_index}
 use Rattle.typecheck.specs.Laws.Visits.{found_all, full_stays, full_begins, found_append, begun_append, begun_few, begun_run}
 use Rattle.typecheck.specs.Laws.Reading.{check_reading, accepted_reading}
 use Rattle.typecheck.specs.declared.CheckAnswer.{CheckAnswer}
 use Rattle.typecheck.specs.declared.Progress.{Progress}
-use Rattle.std.specs.Prelude.{Ok, Err, Some, None}
-use Rattle.names.specs.declared.refusal.Refusal.{Refusal}
+use Rattle.std.specs.Prelude.{Result, Ok, Err, Some, None, IsErrAnd}
+use Rattle.typecheck.specs.declared.Records.{Records}
+use Rattle.typecheck.specs.declared.prepared.Run.{Run}
+use Rattle.typecheck.specs.declared.prepared.Checked.{Checked}
+use Rattle.std.specs.Prelude as code
+use Rattle.std.proofs.Math.Logic.{∥∥₁_map}
 use Rattle.typecheck.specs.declared.RefusedRecord.{RefusedRecord}
 
 -- ---- visits
@@ -110,18 +113,19 @@ module _ (f : Scoped → List Breach) (b : Binding) (c : List ℕ) where
     turn l o at h e = visiting_one (f (under (around_at b c i) (condition_in c at))) (map f (drop (i + 1) (nodes_by b (record_in c)))) (rw (reached_by c i at h b) at l) o e
 
     module _ {old now table : List ℕ} {st₀ st : State} {visits : List (List Breach)} (l : NodesLeft f b c (push_all (sink old st₀) (found_by visits)) (begun_from (sink old st₀) visits) (sink now st) table i) where
-      pub nodes_over : (places : List ℕ) → Index c places → length places ≤ i → Visited old st₀ visits now (record { state = st; visits = i }) table
-      nodes_over places x h =
+      pub nodes_over : (places : List ℕ) → Index c places → i ≤ length places → length places ≤ i → Visited old st₀ visits now (record { state = st; visits = length places }) table
+      nodes_over places x k h =
           let over : drop i (nodes_by b (record_in c)) ≡ [] = drop_of_length-le (nodes_by b (record_in c)) {i = i} (omega (arith, x.size, length_by (record_in c) b)) in
-          visiting_over (rw over at l)
+          let all : length places ≡ i = omega arith in
+          rw all (visiting_over (rw over at l))
 
       pub nodes_full : st.full ≡ true → Visited old st₀ visits now (record { state = st; visits = i }) table
       nodes_full h = visiting_full (map f (drop i (nodes_by b (record_in c)))) l h
 
 -- a node under the facts of a target
 module _ (s c n : List ℕ) (f : Facts) (i at : ℕ) (h : Reached c i at) (here : Facts) (is : here ≡ at_node f i) where
-  pub node_known : (env : List ℕ) → KnownUnder s c env f → Known s c env here
-  node_known env k = rw is (k.at i (reached_index c i at h))
+  pub node_known : (env : List ℕ) → ∥ KnownUnder s c env f ∥₁ → ∥ Known s c env here ∥₁
+  node_known env k = ∥∥₁_map k (λ u. rw is (u.at i (reached_index c i at h)))
 
   pub nodes_turn : {all : Sink} {total : ℕ} {now next table table' : List ℕ} {st r : State}
       → NodesLeft (breaches_at types.dated (profile_in f.common.profile) (schema_in s) (scope_in n f) (found_in (action_in s) f.action)) (binding_in f.common.binding) c all total (sink now st) table i → st.full ≡ false
@@ -129,22 +133,28 @@ module _ (s c n : List ℕ) (f : Facts) (i at : ℕ) (h : Reached c i at) (here 
       → NodesLeft (breaches_at types.dated (profile_in f.common.profile) (schema_in s) (scope_in n f) (found_in (action_in s) f.action)) (binding_in f.common.binding) c all total (sink next r) table' (i + 1)
   nodes_turn l o e = turn (breaches_at types.dated (profile_in f.common.profile) (schema_in s) (scope_in n f) (found_in (action_in s) f.action)) (binding_in f.common.binding) c i l o at h (rw is at e)
 
-pub ruleset each_node = (rules, nodes_begin, node_known, nodes_turn, nodes_over, nodes_full)
+-- what the loop over the nodes keeps, under a target: the first i of them are visited
+abbrev pub NodesMade : Checked → Sink → Sink → List ℕ → ℕ → Type 0
+NodesMade x first now table i =
+    NodesLeft (breaches_at types.dated (profile_in x.facts.common.profile) (schema_in x.run.records.schema.bytes.now) (scope_in x.run.records.targets.bytes.now x.facts) (found_in (action_in x.run.records.schema.bytes.now) x.facts.action)) (binding_in x.facts.common.binding) x.run.records.condition.bytes.now
+    (push_all first (found_by (visits_in x))) (begun_from first (visits_in x)) now table i
 
--- where the target is checked
-module _ (s c n : List ℕ) (x : Under) where
-  pub target_passed : x ≡ None → (old : List ℕ) (st : State) (table : List ℕ) → Lent (sink old st) table → Visited old st (under_visits s c n x) old (record { state = st; visits = 0 }) table
+-- the places are those of the run's condition
+pub index_known : (run : Run) → Index run.records.condition.bytes.now run.places.now
+index_known run = mere_index run.records.condition.bytes.now run.places.now run.index
+
+pub ruleset each_node = (rules, index_known, nodes_begin, node_known, nodes_turn, nodes_over, nodes_full)
+
+-- where the target is checked, and where it is skipped
+module _ (run : Run) (at : ℕ) (x : code.Option Checked) (is : CheckedAt run at x) where
+  pub target_passed : x ≡ None → (old : List ℕ) (st : State) (table : List ℕ) → Lent (sink old st) table → Visited old st (target_visits (chosen_in run.common) run.records at) old (record { state = st; visits = 0 }) table
   unfolding gather begun_from
-  target_passed e old st table p = rw e (record { pushed = recorded_none old st p; counted = refl })
+  target_passed e old st table p = let none : [] ≡ target_visits (chosen_in run.common) run.records at = rw e at is in rw (← none) (record { pushed = recorded_none old st p; counted = refl })
 
-  module _ (f : Facts) (e : x ≡ Some f) where
-    pub facts_known : (env : List ℕ) → UnderKnown s c env x → KnownUnder s c env f
-    facts_known env h = rw e at h
+  pub target_told : (t : Checked) → x ≡ Some t → {old now table : List ℕ} {st₀ : State} {r : Progress} → Visited old st₀ (visits_in t) now r table → Visited old st₀ (target_visits (chosen_in run.common) run.records at) now r table
+  target_told t e p = let all : visits_in t ≡ target_visits (chosen_in run.common) run.records at = rw e at is in rw (← all) p
 
-    pub target_told : {old now table : List ℕ} {st₀ : State} {r : Progress} → Visited old st₀ (under_visits s c n (Some f)) now r table → Visited old st₀ (under_visits s c n x) now r table
-    target_told p = rw e p
-
-pub ruleset where_checked = (rules, target_passed, facts_known, target_told)
+pub ruleset where_checked = (rules, target_passed, target_told)
 
 -- ---- under a target
 
@@ -166,24 +176,36 @@ module _ (k : Choices) (s : Schema) (c : Condition) (scope : Scope) (t : Target)
   unfolding visits_under_by is_checked
   under_skips h = rw (← e, h)
 
-module _ (s n : List ℕ) (at : ℕ) (w : List ℕ) (is_w : w ≡ (target_in n at).namespace) (v : List ℕ) (is_v : v ≡ (target_in n at).id) (x : Found) (finds : FindsAction s (find_action (schema_in s) w v) x)
-    (b : Bool) (is_b : b ≡ maybe true (admits_any_env (schema_in s) (targets_in n).scope) (found_in (action_in s) x)) (common : Common) where
+module _ (run : Run) (at : ℕ) (w : List ℕ) (is_w : w ≡ (target_in run.records.targets.bytes.now at).namespace) (v : List ℕ) (is_v : v ≡ (target_in run.records.targets.bytes.now at).id)
+    (x : Found) (finds : FindsAction run.records.schema.bytes.now (find_action (schema_in run.records.schema.bytes.now) w v) x)
+    (b : Bool) (is_b : b ≡ maybe true (admits_any_env (schema_in run.records.schema.bytes.now) (targets_in run.records.targets.bytes.now).scope) (found_in (action_in run.records.schema.bytes.now) x)) where
+  abbrev s : List ℕ
+  s = run.records.schema.bytes.now
+
+  abbrev c : List ℕ
+  c = run.records.condition.bytes.now
+
+  abbrev n : List ℕ
+  n = run.records.targets.bytes.now
+
   looked_up : found_in (action_in s) x ≡ find_action (schema_in s) (target_in n at).namespace (target_in n at).id
   looked_up = rw (← is_w, ← is_v) finds.value
 
-  pub target_checked : b ≡ true → (f : Facts) → FactsOf n x common f → UnderHere s n common at (Some f)
-  target_checked h f k = record {
-    known = λ c env r. record { at = λ i l. record { ready = rw k.shared r; action = rw k.action finds.stands; node = l } };
-    value = λ c. rw (k.shared, k.action, k.scope) (under_checked (chosen_in common) (schema_in s) (record_in c) (targets_in n).scope (target_in n at) (found_in (action_in s) x) looked_up (sym is_b ∙ h));
-  }
+  pub facts_known : (f : Facts) → FactsOf n x run.common f → ∥ KnownUnder s c run.env.now f ∥₁
+  facts_known f k = ∥∥₁_map run.ready (λ r. record { at = λ i l. record { ready = rw k.shared r; action = rw k.action finds.stands; node = l } })
 
-  pub target_skipped : b ≡ false → UnderHere s n common at None
-  target_skipped h = record {
-    known = λ c env r. tt;
-    value = λ c. under_skips (chosen_in common) (schema_in s) (record_in c) (targets_in n).scope (target_in n at) (found_in (action_in s) x) looked_up (sym is_b ∙ h);
-  }
+  pub target_checked : b ≡ true → (f : Facts) → FactsOf n x run.common f
+      → map (breaches_at types.dated (profile_in f.common.profile) (schema_in s) (scope_in n f) (found_in (action_in s) f.action)) (nodes_by (binding_in f.common.binding) (record_in c)) ≡ target_visits (chosen_in run.common) run.records at
+  target_checked h f k = rw (k.shared, k.action, k.scope) (under_checked (chosen_in run.common) (schema_in s) (record_in c) (targets_in n).scope (target_in n at) (found_in (action_in s) x) looked_up (sym is_b ∙ h))
 
-pub ruleset one_target = (rules, target_checked, target_skipped)
+  pub target_skipped : b ≡ false → CheckedAt run at None
+  target_skipped h = under_skips (chosen_in run.common) (schema_in s) (record_in c) (targets_in n).scope (target_in n at) (found_in (action_in s) x) looked_up (sym is_b ∙ h)
+
+-- the row of the actions is that of the run's schema
+pub actions_known : (run : Run) → ActionsOf run.records.schema.bytes.now run.common.actions
+actions_known run = (mere_ready run.records.schema.bytes.now run.records.condition.bytes.now run.env.now run.common run.ready).actions
+
+pub ruleset one_target = (rules, actions_known, facts_known, target_checked, target_skipped)
 
 -- ---- each target
 
@@ -198,53 +220,62 @@ module _ (f : Target → List (List Breach)) (n : List ℕ) where
   pub targets_begin : (a : Sink) (table : List ℕ) (list : List Target) (rest at : ℕ) → rest ≡ length list → rest < 256 → Listed target n list (length list) at → Lent a table → TargetsLeft f n (push_all a (found_by (gather f list))) (begun_from a (gather f list)) a table 0 rest at
   targets_begin a table list rest at e m l p = record { left = list; there = rw e l; visiting = visiting_begins a table (gather f list) p; few = omega arith }
 
-  module _ (count rest at : ℕ) where
-    module _ {old now table : List ℕ} {st₀ st : State} {visits : List (List Breach)} (l : TargetsLeft f n (push_all (sink old st₀) (found_by visits)) (begun_from (sink old st₀) visits) (sink now st) table count rest at) where
-      pub targets_over : rest ≤ 0 → Visited old st₀ visits now (record { state = st; visits = count }) table
+  module _ (count end i at : ℕ) where
+    module _ {old now table : List ℕ} {st₀ st : State} {visits : List (List Breach)} (l : TargetsLeft f n (push_all (sink old st₀) (found_by visits)) (begun_from (sink old st₀) visits) (sink now st) table count (end - i) at) where
+      pub targets_over : end ≤ i → Visited old st₀ visits now (record { state = st; visits = count }) table
       unfolding gather
-      targets_over h = visiting_over (rw (listed_over target n l.left rest at h l.there) at l.visiting)
+      targets_over h = visiting_over (rw (listed_over target n l.left (end - i) at (omega arith) l.there) at l.visiting)
 
       pub targets_full : st.full ≡ true → Visited old st₀ visits now (record { state = st; visits = count }) table
       targets_full h = visiting_full (gather f l.left) l.visiting h
 
-    module _ {all : Sink} {total : ℕ} {now table : List ℕ} {st : State} (l : TargetsLeft f n all total (sink now st) table count rest at) (h : 0 < rest) where
+    module _ {all : Sink} {total : ℕ} {now table : List ℕ} {st : State} (l : TargetsLeft f n all total (sink now st) table count (end - i) at) (h : i < end) where
       pub targets_stand : is_target n at ≡ true
-      targets_stand = (listed_first target n (record { namespace = []; id = [] }) l.left rest at h l.there).stands
+      targets_stand = (listed_first target n (record { namespace = []; id = [] }) l.left (end - i) at (omega arith) l.there).stands
 
-      targets_turn : {next table' : List ℕ} {r : Progress} → Visited now st (f (target_in n at)) next r table' → r.visits ≤ 3641 → (m : ℕ) → Ok m ≡ ending (target n at) → TargetsLeft f n all total (sink next r.state) table' (count + r.visits) (rest - 1) m
+      targets_turn : {next table' : List ℕ} {r : Progress} → Visited now st (f (target_in n at)) next r table' → r.visits ≤ 3641 → (m : ℕ) → Ok m ≡ ending (target n at) → TargetsLeft f n all total (sink next r.state) table' (count + r.visits) (end - (i + 1)) m
       unfolding gather
       targets_turn e few m g =
-          let d = listed_first target n (record { namespace = []; id = [] }) l.left rest at h l.there in
+          let d = listed_first target n (record { namespace = []; id = [] }) l.left (end - i) at (omega arith) l.there in
+          let left : end - (i + 1) ≡ (end - i) - 1 = omega arith in
           record {
             left = d.others;
-            there = d.on m g;
+            there = rw left (d.on m g);
             visiting = visiting_next (f (target_in n at)) (gather f d.others) (rw d.value at l.visiting) e;
             few = omega (arith, l.few);
           }
 
 -- under one target no more visits are begun than the condition has reached nodes
-under_few : (s c n : List ℕ) (x : Under) → is_record c ≡ true → length c ≤ 32768 → length (under_visits s c n x) ≤ 3641
-under_few s c n None acc l = omega arith
-under_few s c n (Some f) acc l =
-    omega (arith, length-map (nodes_by (binding_in f.common.binding) (record_in c)) (breaches_at types.dated (profile_in f.common.profile) (schema_in s) (scope_in n f) (found_in (action_in s) f.action)), length_by (record_in c) (binding_in f.common.binding), record_nodes c acc)
+under_few : (k : Choices) (s : Schema) (c : List ℕ) (scope : Scope) (t : Target) → is_record c ≡ true → length (visits_under k s (record_in c) scope t) ≤ 3641
+unfolding visits_under_by
+under_few k s c scope t acc = go (is_checked s scope t) (breaches_at types.dated k.profile s scope (find_action s t.namespace t.id))
+  where
+    go : (b : Bool) (f : Scoped → List Breach) → length (cond b (map f (nodes_by k.binding (record_in c))) []) ≤ 3641
+    go true f = omega (arith, length-map (nodes_by k.binding (record_in c)) f, length_by (record_in c) k.binding, record_nodes c acc, record_small c acc)
+    go false f = omega arith
 
-module _ (s c n : List ℕ) (common : Common) (at : ℕ) (x : Under) (h : UnderHere s n common at x) where
-  pub target_known : (env : List ℕ) → Ready s c env common → UnderKnown s c env x
-  target_known env r = h.known c env r
-
-  visits_few : {env : List ℕ} → Ready s c env common → {now next table : List ℕ} {st : State} {r : Progress} → Visited now st (under_visits s c n x) next r table → r.visits ≤ 3641
-  visits_few a {now} {st = st} v = omega (arith, v.counted, begun_few (sink now st) (under_visits s c n x), under_few s c n x a.condition (record_small c a.condition))
+module _ (k : Choices) (x : Records) (at : ℕ) {now next table' : List ℕ} {st : State} {r : Progress} (e : Visited now st (target_visits k x at) next r table') where
+  visits_few : r.visits ≤ 3641
+  visits_few =
+      omega (arith, e.counted, begun_few (sink now st) (target_visits k x at), under_few k (schema_in x.schema.bytes.now) x.condition.bytes.now (targets_in x.targets.bytes.now).scope (target_in x.targets.bytes.now at) x.condition.accepted)
 
   -- the visits of this target are added to those before it: the sum is a number of the machine, and the rest goes on
-  module _ {env : List ℕ} (a : Ready s c env common) (count rest : ℕ) {all : Sink} {total : ℕ} {now next table table' : List ℕ} {st : State} {r : Progress}
-      (l : TargetsLeft (visits_under (chosen_in common) (schema_in s) (record_in c) (targets_in n).scope) n all total (sink now st) table count rest at) (p : 0 < rest) (e : Visited now st (under_visits s c n x) next r table') where
+  module _ (count end i : ℕ) {all : Sink} {total : ℕ} {table : List ℕ}
+      (l : TargetsLeft (visits_under k (schema_in x.schema.bytes.now) (record_in x.condition.bytes.now) (targets_in x.targets.bytes.now).scope) x.targets.bytes.now all total (sink now st) table count (end - i) at) (p : i < end) where
     pub target_sum : count + r.visits < 18446744073709551616
-    target_sum = omega (arith, l.few, visits_few a e)
+    target_sum = omega (arith, l.few, visits_few)
 
-    pub target_turn : (m : ℕ) → Ok m ≡ ending (target n at) → TargetsLeft (visits_under (chosen_in common) (schema_in s) (record_in c) (targets_in n).scope) n all total (sink next r.state) table' (count + r.visits) (rest - 1) m
-    target_turn m g = targets_turn (visits_under (chosen_in common) (schema_in s) (record_in c) (targets_in n).scope) n count rest at l p (rw (h.value c) at e) (visits_few a e) m g
+    pub target_turn : (m : ℕ) → Ok m ≡ ending (target x.targets.bytes.now at)
+        → TargetsLeft (visits_under k (schema_in x.schema.bytes.now) (record_in x.condition.bytes.now) (targets_in x.targets.bytes.now).scope) x.targets.bytes.now all total (sink next r.state) table' (count + r.visits) (end - (i + 1)) m
+    target_turn m g = targets_turn (visits_under k (schema_in x.schema.bytes.now) (record_in x.condition.bytes.now) (targets_in x.targets.bytes.now).scope) x.targets.bytes.now count end i at l p e visits_few m g
 
-pub ruleset each_target = (rules, targets_begin, targets_over, targets_full, targets_stand, target_known, target_sum, target_turn)
+-- what the loop over the targets keeps: so many of them are left
+abbrev pub TargetsMade : Run → Sink → Sink → List ℕ → ℕ → ℕ → ℕ → Type 0
+TargetsMade run first now table count rest at =
+    TargetsLeft (visits_under (chosen_in run.common) (schema_in run.records.schema.bytes.now) (record_in run.records.condition.bytes.now) (targets_in run.records.targets.bytes.now).scope) run.records.targets.bytes.now
+    (push_all first (found_by (all_visits_of (chosen_in run.common) run.records))) (begun_from first (all_visits_of (chosen_in run.common) run.records)) now table count rest at
+
+pub ruleset each_target = (rules, targets_begin, targets_over, targets_full, targets_stand, target_sum, target_turn)
 
 -- ---- the records
 
@@ -259,87 +290,111 @@ all_checked k s c ts b {t} e a w =
       visits = (e.counted ∙ begun_run b [] visits) i;
     }
 
-pub all_ready : (s c n env : List ℕ) (row : Row) (p : Profile) (b : walk.Binding) → Accepted s c n → Names c (binding_in b) env → ActionsOf s row → Ready s c env (record { actions = row; profile = p; binding = b })
-all_ready s c n env row p b a e g = record { schema = a.schema; condition = a.condition; named = e; actions = g }
+-- the state that a run begins with
+module _ (st : State) (is : (st.used ≡ 0) × ((st.count ≡ 0) × (st.full ≡ false))) where
+  begins_none : st ≡ sinks.none
+  begins_none = λ i. record { used = is.0 i; count = is.1.0 i; full = is.1.1 i }
 
-pub ruleset indexed = (rules, length-take-le, lent_start, all_ready, all_checked)
+  pub begins_lent : (b table : List ℕ) → Empty table → Lent (sink b st) table
+  begins_lent b table e = rw begins_none (lent_start b table e)
 
--- one target alone, under the choices of the rules
-pub target_alone : (rules : ℕ) (p : Profile) → profile_in p ≡ profile_of rules → (b : walk.Binding) → binding_in b ≡ binding_of rules → (s c n : List ℕ) (row : Row) (at : ℕ) (x : Under) → UnderHere s n (record { actions = row; profile = p; binding = b }) at x
-    → {old now table : List ℕ} {st : State} {r : Progress} → Visited old st (under_visits s c n x) now r table → Visited old st (visits_under (choices_of rules) (schema_in s) (record_in c) (targets_in n).scope (target_in n at)) now r table
-target_alone rules p h b l s c n row at x u v = rw (← h, ← l) (rw (u.value c) at v)
+  -- a run was made ready for these records, by these choices
+  pub prepared_checked : (k : Choices) (x : Records) (run : Run) → run.records ≡ x → chosen_in run.common ≡ k → (b : List ℕ) {t table : List ℕ} {end : Progress} → Visited b st (all_visits_of (chosen_in run.common) run.records) t end table
+      → {a : Answer} → Answers end.state a → {r : CheckAnswer} → WithVisits a end.visits r → check_outcome_of r t ≡ checked_of k x b
+  prepared_checked k x run e c b v a w =
+      all_checked k (schema_in x.schema.bytes.now) (record_in x.condition.bytes.now) (targets_in x.targets.bytes.now) b (rw (begins_none, e, c) at v) a w
 
-pub ruleset alone = (rules, length-take-le, all_ready, target_known, target_alone)
+pub prepared_target : (rules : ℕ) (p : Profile) → profile_in p ≡ profile_of rules → (b : walk.Binding) → binding_in b ≡ binding_of rules → (x : Records) (run : Run) → run.records ≡ x → chosen_in run.common ≡ choices_in p b → (at : ℕ)
+    → {old now table : List ℕ} {st : State} {r : Progress} → Visited old st (target_visits (chosen_in run.common) run.records at) now r table → Visited old st (target_visits (choices_of rules) x at) now r table
+prepared_target rules p h b l x run e c at v = rw (← h, ← l) (rw (e, c) at v)
 
-module _ (s c n : List ℕ) (x : Read) (is_x : x ≡ ending (whole schema_record s)) where
-  pub schema_refused : (r : Refusal) → x ≡ Err r → ReadAs s c n (Err (record { refusal = r; «record» = 1 }))
+pub prepared_stands : (x : Records) (run : Run) → run.records ≡ x → (at : ℕ) → is_target x.targets.bytes.now at ≡ true → is_target run.records.targets.bytes.now at ≡ true
+prepared_stands x run e at h = rw e h
+
+pub ruleset prepared = (rules, begins_lent, prepared_checked, prepared_target, prepared_stands)
+
+-- where a record is refused, its reader refuses it; and where it is read, so does the reader
+refused_read : (x : Read) (which : ℕ) {y : Result ℕ RefusedRecord} → y ≡ of_record x which → (f : RefusedRecord) → y ≡ Err f → x ≡ Err f.refusal
+refused_read (Ok n) which {y} is f e = let h : ◌≡◌ {A = Result ℕ RefusedRecord} (Ok n) (Err f) = sym is ∙ e in cc
+refused_read (Err r) which {y} is f e = let h : ◌≡◌ {A = Result ℕ RefusedRecord} (Err (record { refusal = r; «record» = which })) (Err f) = sym is ∙ e in cc
+
+refused_which : (x : Read) (which : ℕ) {y : Result ℕ RefusedRecord} → y ≡ of_record x which → (f : RefusedRecord) → y ≡ Err f → f.«record» ≡ which
+refused_which (Ok n) which {y} is f e = let h : ◌≡◌ {A = Result ℕ RefusedRecord} (Ok n) (Err f) = sym is ∙ e in cc
+refused_which (Err r) which {y} is f e = let h : ◌≡◌ {A = Result ℕ RefusedRecord} (Err (record { refusal = r; «record» = which })) (Err f) = sym is ∙ e in cc
+
+taken_read : (x : Read) (which : ℕ) {y : Result ℕ RefusedRecord} → y ≡ of_record x which → (p : ℕ) → y ≡ Ok p → x ≡ Ok p
+taken_read (Ok n) which {y} is p e = let h : ◌≡◌ {A = Result ℕ RefusedRecord} (Ok n) (Ok p) = sym is ∙ e in let q : n ≡ p = cc in rw q
+taken_read (Err r) which {y} is p e = let h : ◌≡◌ {A = Result ℕ RefusedRecord} (Err (record { refusal = r; «record» = which })) (Ok p) = sym is ∙ e in cc
+
+-- `?` hands on the refusal of a record
+handed : (s c n : List ℕ) (f : RefusedRecord) → ReadAs s c n (Err f) → (r : ReadRecords) → IsErrAnd r (λ e. e ≡ f) → ReadAs s c n r
+handed s c n f h (Ok u) e = absurd e
+handed s c n f h (Err k) e = rw e h
+
+module _ (s c n : List ℕ) (x : Read) (is_x : x ≡ ending (whole schema_record s)) (x' : Result ℕ RefusedRecord) (of_x : x' ≡ of_record x 1) where
+  pub schema_refused : (f : RefusedRecord) → x' ≡ Err f → (r : ReadRecords) → IsErrAnd r (λ e. e ≡ f) → ReadAs s c n r
   unfolding reading
-  schema_refused r e = rw (refused_by (whole schema_record s) x r is_x e)
+  schema_refused f e =
+      let which = refused_which x 1 of_x f e in
+      handed s c n f (rw (refused_by (whole schema_record s) x f.refusal is_x (refused_read x 1 of_x f e), which))
 
-  module _ (p : ℕ) (e : x ≡ Ok p) where
-    schema_read : is_schema s ≡ true
-    schema_read = passes (whole schema_record s) is_x e
+  module _ (p : ℕ) (e : x' ≡ Ok p) where
+    pub schema_read : is_schema s ≡ true
+    schema_read = passes (whole schema_record s) is_x (taken_read x 1 of_x p e)
 
-    module _ (y : Read) (is_y : y ≡ ending (whole condition_record c)) where
-      pub condition_refused : (r : Refusal) → y ≡ Err r → ReadAs s c n (Err (record { refusal = r; «record» = 2 }))
+    module _ (y : Read) (is_y : y ≡ ending (whole condition_record c)) (y' : Result ℕ RefusedRecord) (of_y : y' ≡ of_record y 2) where
+      pub condition_refused : (f : RefusedRecord) → y' ≡ Err f → (r : ReadRecords) → IsErrAnd r (λ e. e ≡ f) → ReadAs s c n r
       unfolding reading
-      condition_refused r d =
+      condition_refused f d =
           let g = accept (whole schema_record s) schema_read in
-          rw (g.read, refused_by (whole condition_record c) y r is_y d)
+          let which = refused_which y 2 of_y f d in
+          handed s c n f (rw (g.read, refused_by (whole condition_record c) y f.refusal is_y (refused_read y 2 of_y f d), which))
 
-      module _ (p' : ℕ) (e' : y ≡ Ok p') where
-        condition_read : is_record c ≡ true
-        condition_read = passes (whole condition_record c) is_y e'
+      module _ (p' : ℕ) (e' : y' ≡ Ok p') where
+        pub condition_read : is_record c ≡ true
+        condition_read = passes (whole condition_record c) is_y (taken_read y 2 of_y p' e')
 
-        module _ (z : Read) (is_z : z ≡ ending (whole target_record n)) where
-          pub targets_refused : (r : Refusal) → z ≡ Err r → ReadAs s c n (Err (record { refusal = r; «record» = 3 }))
+        module _ (z : Read) (is_z : z ≡ ending (whole target_record n)) (z' : Result ℕ RefusedRecord) (of_z : z' ≡ of_record z 3) where
+          pub targets_refused : (f : RefusedRecord) → z' ≡ Err f → (r : ReadRecords) → IsErrAnd r (λ e. e ≡ f) → ReadAs s c n r
           unfolding reading
-          targets_refused r d =
+          targets_refused f d =
               let g = accept (whole schema_record s) schema_read in
               let h = accept (whole condition_record c) condition_read in
-              rw (g.read, h.read, refused_by (whole target_record n) z r is_z d)
+              let which = refused_which z 3 of_z f d in
+              handed s c n f (rw (g.read, h.read, refused_by (whole target_record n) z f.refusal is_z (refused_read z 3 of_z f d), which))
 
-          pub records_read : (p'' : ℕ) → z ≡ Ok p'' → Accepted s c n
-          records_read p'' e'' = record { schema = schema_read; condition = condition_read; targets = passes (whole target_record n) is_z e'' }
+          pub targets_read : (p'' : ℕ) → z' ≡ Ok p'' → are_targets n ≡ true
+          targets_read p'' e'' = passes (whole target_record n) is_z (taken_read z 3 of_z p'' e'')
 
-pub ruleset reading_records = (rules, schema_refused, condition_refused, targets_refused, records_read)
+-- records hold the bytes that they were made of, and these are accepted
+pub records_hold : (r : Records) → Holds r.schema.bytes.now r.condition.bytes.now r.targets.bytes.now r
+records_hold r = record {
+  schema = refl;
+  condition = refl;
+  targets = refl;
+  accepted = record { schema = r.schema.accepted; condition = r.condition.accepted; targets = r.targets.accepted };
+}
 
--- the profile that the rules choose
-module _ (rules : ℕ) where
-  pub chosen_strict : rules % 2 ≡ 1 → profile_in Profile.Strict ≡ profile_of rules
-  unfolding profile_of
-  chosen_strict h = rw h
-
-  pub chosen_plain : (rules % 2 ≡ 1 → ⊥) → profile_in Profile.Plain ≡ profile_of rules
-  unfolding profile_of
-  chosen_plain h = rw (ne_eqb (rules % 2) 1 h)
-
-pub ruleset choosing = (rules, chosen_strict, chosen_plain)
+pub ruleset reading_records = (rules, schema_refused, schema_read, condition_refused, condition_read, targets_refused, targets_read, records_hold)
 
 -- what was read is checked, or the refusal is answered: with rules, and with none
-module _ (s c n b : List ℕ) (x : Records) (is : ReadAs s c n x) where
-  pub accepted_records : {u : Unit {0}} → x ≡ Ok u → Accepted s c n
-  accepted_records e = rw e at is
-
+module _ (s c n b : List ℕ) (x : ReadRecords) (is : ReadAs s c n x) where
   module _ (rules : ℕ) where
     pub refused_records : (f : RefusedRecord) → x ≡ Err f → {a : Answer} → Refuses (number_of f.refusal) f.«record» a → {r : CheckAnswer} → WithVisits a 0 r → check_outcome_of r b ≡ check_with rules s c n b
     refused_records r e f v = v.is b ∙ ap (λ (o : Outcome). record { outcome = o; visits = 0 }) (f.is b) ∙ sym (check_reading rules s c n b ∙ rw (rw e at is))
 
-    pub records_checked : {u : Unit {0}} → x ≡ Ok u → (p : Profile) → profile_in p ≡ profile_of rules → (d : walk.Binding) → binding_in d ≡ binding_of rules → (a : CheckAnswer) (t : List ℕ) → check_outcome_of a t ≡ checked (choices_in p d) (schema_in s) (record_in c) (targets_in n) b → check_outcome_of a t ≡ check_with rules s c n b
-    records_checked e p h d l a t i = i ∙ rw (h, l) (sym (check_reading rules s c n b ∙ rw (accepted_reading s c n (accepted_records e))))
+    pub records_checked : {r : Records} → x ≡ Ok r → (p : Profile) → profile_in p ≡ profile_of rules → (d : walk.Binding) → binding_in d ≡ binding_of rules → (a : CheckAnswer) (t : List ℕ) → check_outcome_of a t ≡ checked_of (choices_in p d) r b → check_outcome_of a t ≡ check_with rules s c n b
+    records_checked {r} e p h d l a t i =
+        let held : Holds s c n r = rw e at is in
+        i ∙ rw (h, l, held.schema, held.condition, held.targets) (sym (check_reading rules s c n b ∙ rw (accepted_reading s c n held.accepted)))
 
   pub refused_plain : (f : RefusedRecord) → x ≡ Err f → {a : Answer} → Refuses (number_of f.refusal) f.«record» a → {r : CheckAnswer} → WithVisits a 0 r → check_outcome_of r b ≡ check s c n b
   unfolding check
   refused_plain r e f v = refused_records 0 r e f v
 
-  pub plain_checked : {u : Unit {0}} → x ≡ Ok u → (a : CheckAnswer) (t : List ℕ) → check_outcome_of a t ≡ checked (choices_in Profile.Plain Binding.Flat) (schema_in s) (record_in c) (targets_in n) b → check_outcome_of a t ≡ check s c n b
+  pub plain_checked : {r : Records} → x ≡ Ok r → (a : CheckAnswer) (t : List ℕ) → check_outcome_of a t ≡ checked_of (choices_in Profile.Plain Binding.Flat) r b → check_outcome_of a t ≡ check s c n b
   unfolding check profile_of binding_of binding_in
   plain_checked e a t i = records_checked 0 e Profile.Plain refl Binding.Flat refl a t i
-
--- the answer with its visits
-pub told_visits : (a : Answer) (n : ℕ) → WithVisits a n (record { number = a.number; «record» = a.record; count = a.count; visits = n })
-unfolding check_outcome_of outcome_of
-told_visits a n = record { is = λ s. refl }
 
 -- the workspace
 pub spared_refused : (a : CheckAnswer) (table : List ℕ) → Spared a table table
@@ -349,4 +404,4 @@ pub spared_checked : (k : Choices) (s : Schema) (c : Condition) (ts : Targets) (
 unfolding check_outcome_of checked_by reported
 spared_checked k s c ts b a t e old new = record { same = λ h. absurd (h (ap (λ (o : CheckOutcome). o.outcome.answer.record_number) e)) }
 
-pub ruleset answering = (rules, told_visits, zeros_empty, accepted_records, refused_records, records_checked, refused_plain, plain_checked, spared_refused, spared_checked)
+pub ruleset answering = (rules, zeros_empty, refused_records, records_checked, refused_plain, plain_checked, spared_refused, spared_checked)

@@ -1,3 +1,4 @@
 -- Laws of the definitions, for the proofs of this crate and of those above it. They are proved: whoever reads what is promised may pass over them.
 pub mod Visits
 pub mod Reading
+pub mod Indexed

@@ -1,156 +1,125 @@
 // The run: the records read in their order, the condition indexed once, then each target and each reached node under it.
 ghost use Rattle.std.specs.Prelude.{◌≡◌, true};
 ghost use Rattle.names.specs.Lists.{maybe};
-ghost use Rattle.types.specs.Types.{plain};
 ghost use Rattle.types.specs.Meaning.{profile_in};
-ghost use Rattle.schema.specs.Places.{is_schema, schema_in, is_action, action_in, found_in, found_stands, ActionsOf};
-ghost use Rattle.targets.specs.Places.{are_targets, targets_in, is_target, target_in};
-ghost use Rattle.condition.specs.Places.{record_in};
-ghost use Rattle.walk.specs.Index.{Index};
+ghost use Rattle.schema.specs.Places.{schema_in, is_action, action_in, found_in, found_stands};
+ghost use Rattle.targets.specs.Places.{targets_in, is_target};
 ghost use Rattle.resolution.specs.Resolution.{admits_any_env};
 ghost use Rattle.reports.specs.Sink.{sink};
 ghost use Rattle.reports.specs.Slots.{Lent, Empty};
-ghost use Rattle.terms.specs.Facts.{Ready};
-ghost use Rattle.typecheck.specs.Check.{profile_of, choices_of, visits_under, checked, check_with, check};
+ghost use Rattle.typecheck.specs.Check.{profile_of, choices_of, check_with, check};
 ghost use Rattle.typecheck.specs.Answers.{check_outcome_of, WithVisits, Spared};
-ghost use Rattle.typecheck.specs.Run.{Accepted, ReadAs, choices_in, chosen_in, KnownUnder, under_visits, UnderKnown, UnderHere, all_visits, Visited};
+ghost use Rattle.typecheck.specs.Run.{of_record, ReadAs, choices_in, chosen_in, Visited};
+ghost use Rattle.typecheck.specs.Run.{visits_in, CheckedAt, all_visits_of, target_visits, checked_of};
 
-use crate::{CheckAnswer, Progress, Records, RefusedRecord, Under};
+use crate::prepared::{Checked, Run};
+use crate::{CheckAnswer, Progress, Records, RefusedRecord};
+use condition::ConditionRecord;
+use names::Read;
 use reports::{Answer, State, refuse};
-use schema::Namespace;
-use terms::{Common, Facts};
+use schema::{Namespace, SchemaRecord};
+use targets::TargetsRecord;
+use terms::{Common, Setting};
 use types::Profile;
 use walk::Binding;
 
-// The reached nodes under the facts of a target, up to the one whose report does not fit.
-fn nodes<'a>(
-    buf: &mut [u8],
-    table: &mut [u32],
-    state: State,
-    schema: &'a [u8],
-    condition: &'a [u8],
-    targets: &[u8],
-    places: &[u16],
-    env: &[u16],
-    facts: Facts,
-) -> Progress
-    requires lent { Lent (sink buf.old state) table.old }
-    requires index { Index condition.now places.now }
-    requires known_under { KnownUnder schema.now condition.now env.now facts }
-    ensures { Visited buf.old state (under_visits schema.now condition.now targets.now (Some facts)) buf.new result table.new }
+// The reached nodes under a target, up to the one whose report does not fit.
+fn nodes(buf: &mut [u8], table: &mut [u32], state: State, target: Checked<'_>) -> Progress
+    requires { Lent (sink buf.old state) table.old }
+    ensures { Visited buf.old state (visits_in target.entry) buf.new result table.new }
 {
+    let run = target.run;
+    let records = run.records;
     let mut now = state;
-    let mut i = 0;
-    while i < places.len() {
+    for i in 0..run.places.len() {
         if now.full {
             return Progress {
                 state: now,
                 visits: i,
             };
         }
-        let at = walk::reached_at(condition, places, i);
-        let node = i;
-        i += 1;
-        let here = terms::at_node(facts, node);
-        now = rules::node(buf, table, now, schema, condition, targets, env, here, at);
+        let at = walk::reached_at(records.condition.bytes, run.places, i);
+        let here = Setting {
+            schema: records.schema,
+            condition: records.condition,
+            targets: records.targets.bytes,
+            env: run.env,
+            facts: terms::at_node(target.facts, i),
+        };
+        now = rules::node(buf, table, now, here, at);
     }
     Progress {
         state: now,
-        visits: i,
+        visits: run.places.len(),
     }
 }
 
-// The reached nodes under a target, where it is checked.
-fn under<'a>(
-    buf: &mut [u8],
-    table: &mut [u32],
-    state: State,
-    schema: &'a [u8],
-    condition: &'a [u8],
-    targets: &[u8],
-    places: &[u16],
-    env: &[u16],
-    target: Under,
-) -> Progress
-    requires lent { Lent (sink buf.old state) table.old }
-    requires index { Index condition.now places.now }
-    requires under_known { UnderKnown schema.now condition.now env.now target }
-    ensures { Visited buf.old state (under_visits schema.now condition.now targets.now target) buf.new result table.new }
-{
-    let Some(facts) = target else {
-        return Progress { state, visits: 0 };
-    };
-    nodes(
-        buf, table, state, schema, condition, targets, places, env, facts,
-    )
-}
-
 // Whether a target is checked: its action is undeclared, or admits an environment.
-fn is_checked(schema: &[u8], targets: &[u8], found: Option<usize>) -> bool
-    requires schema_value { is_schema schema.now ≡ true }
-    requires targets_value { are_targets targets.now ≡ true }
-    requires found_value { found_stands (is_action schema.now) found ≡ true }
-    ensures { result ≡ maybe true (admits_any_env (schema_in schema.now) (targets_in targets.now).scope) (found_in (action_in schema.now) found) }
+fn is_checked(records: Records<'_>, found: Option<usize>) -> bool
+    requires { found_stands (is_action records.schema.bytes.now) found ≡ true }
+    ensures { result ≡ maybe true
+        (admits_any_env (schema_in records.entry.schema.bytes.now)
+        (targets_in records.entry.targets.bytes.now).scope)
+        (found_in (action_in records.entry.schema.bytes.now) found) }
 {
     let Some(action) = found else {
         return true;
     };
-    resolution::admits_any_env(schema, targets, action)
+    resolution::admits_any_env(records.schema, records.targets, action)
 }
 
-// The target at `at`: its action is looked up once, and with it its facts are known.
-fn under_target(schema: &[u8], targets: &[u8], common: Common, at: usize) -> Under
-    requires schema_value { is_schema schema.now ≡ true }
-    requires targets_value { are_targets targets.now ≡ true }
-    requires actions_of { ActionsOf schema.now common.actions }
-    requires at_value { is_target targets.now at ≡ true }
-    ensures { UnderHere schema.now targets.now common at result }
+// The target at `at`, where it is checked: its action is looked up once, and with it its facts are
+// known.
+// That a target stands at `at` stays a clause of three functions: a struct of the place would name
+// the record again, which `Run` and `Records` hold, and be made anew for each target.
+fn under_target<'a>(run: Run<'a>, at: usize) -> Option<Checked<'a>>
+    requires { is_target run.records.targets.bytes.now at ≡ true }
+    ensures { CheckedAt run.entry at result }
 {
+    let records = run.records;
+    let targets = records.targets.bytes;
     let found = schema::action_among(
-        schema,
-        common.actions,
-        targets::namespace_of(targets, at),
-        Namespace::Whole,
+        records.schema.bytes,
+        run.common.actions,
+        Namespace::Whole(targets::namespace_of(targets, at)),
         targets::id_of(targets, at),
     );
-    if is_checked(schema, targets, found) {
-        return Some(terms::facts_of(targets, found, common));
+    if is_checked(records, found) {
+        let facts = terms::facts_of(records.targets, found, run.common);
+        return Some(Checked { run, facts });
     }
     None
 }
 
-// Each target of the record, up to the one under which a report does not fit.
-fn all_targets<'a>(
-    buf: &mut [u8],
-    table: &mut [u32],
-    state: State,
-    schema: &'a [u8],
-    condition: &'a [u8],
-    targets: &[u8],
-    places: &[u16],
-    env: &[u16],
-    common: Common,
-) -> Progress
+// The visits under the target at `at`: none where it is skipped.
+fn under(buf: &mut [u8], table: &mut [u32], state: State, run: Run<'_>, at: usize) -> Progress
     requires lent { Lent (sink buf.old state) table.old }
-    requires ready { Ready schema.now condition.now env.now common }
-    requires targets_value { are_targets targets.now ≡ true }
-    requires index { Index condition.now places.now }
-    ensures { Visited buf.old state (all_visits (chosen_in common) schema.now condition.now targets.now) buf.new result table.new }
+    requires at_value { is_target run.records.targets.bytes.now at ≡ true }
+    ensures { Visited buf.old state
+        (target_visits (chosen_in run.entry.common) run.entry.records at) buf.new result table.new }
 {
+    let Some(target) = under_target(run, at) else {
+        return Progress { state, visits: 0 };
+    };
+    nodes(buf, table, state, target)
+}
+
+// Each target of the record, up to the one under which a report does not fit.
+fn all_targets(buf: &mut [u8], table: &mut [u32], state: State, run: Run<'_>) -> Progress
+    requires { Lent (sink buf.old state) table.old }
+    ensures { Visited buf.old state
+        (all_visits_of (chosen_in run.entry.common) run.entry.records) buf.new result table.new }
+{
+    let targets = run.records.targets;
     let mut now = state;
     let mut visits = 0;
-    let mut rest = targets::count(targets);
     let mut at = targets::first_target(targets);
-    while 0 < rest {
+    for _ in 0..targets::count(targets) {
         if now.full {
             return Progress { state: now, visits };
         }
-        let target = under_target(schema, targets, common, at);
-        let done = under(
-            buf, table, now, schema, condition, targets, places, env, target,
-        );
-        at = targets::next_target(targets, at);
-        rest -= 1;
+        let done = under(buf, table, now, run, at);
+        at = targets::next_target(targets.bytes, at);
         visits += done.visits;
         now = done.state;
     }
@@ -158,6 +127,7 @@ fn all_targets<'a>(
 }
 
 // The answer of a run, with so many visits.
+#[tactic(auto, unfolding(crate::specs::Answers::check_outcome_of, reports::specs::Answers::outcome_of))]
 pub fn with_visits(answer: Answer, visits: usize) -> CheckAnswer
     ensures { WithVisits answer visits result }
 {
@@ -169,164 +139,103 @@ pub fn with_visits(answer: Answer, visits: usize) -> CheckAnswer
     }
 }
 
-// The check over the reached nodes: the binders are put into a table, and the row of the schema's actions is found, once.
-fn over_places<'a>(
+// What is made ready once for all targets: the condition is indexed, the binders are put into a
+// table, and the row of the schema's actions is found. The two tables are lent, with room for those
+// of any record.
+fn prepare<'a>(
+    records: Records<'a>,
+    profile: Profile,
+    binding: Binding,
+    places: &'a mut [u16; 3641],
+    binders: &'a mut [u16; 10921],
+) -> Run<'a>
+    ensures records { result.records ≡ records.entry }
+    ensures choices { chosen_in result.common ≡ choices_in profile binding }
+{
+    let count = walk::index_record(records.condition, places);
+    let places = &places[..count];
+    let n = walk::names_of(binding, records.condition, places, binders);
+    Run {
+        records,
+        places,
+        env: &binders[..n],
+        common: Common {
+            actions: schema::actions(records.schema),
+            profile,
+            binding,
+        },
+    }
+}
+
+// The check of three records that were read, with a table of free slots.
+fn checked(
     buf: &mut [u8],
     table: &mut [u32],
-    schema: &'a [u8],
-    condition: &'a [u8],
-    targets: &[u8],
-    places: &[u16],
+    records: Records<'_>,
     profile: Profile,
     binding: Binding,
 ) -> CheckAnswer
-    requires accepted { Accepted schema.now condition.now targets.now }
-    requires index { Index condition.now places.now }
     requires empty { Empty table.old }
-    ensures { check_outcome_of result buf.new ≡ checked (choices_in profile binding) (schema_in schema.now) (record_in condition.now) (targets_in targets.now) buf.old }
+    ensures { check_outcome_of result buf.new
+        ≡ checked_of (choices_in profile binding) records.entry buf.old }
 {
-    let mut binders = [0u16; 10921];
-    let n = walk::names_of(binding, condition, places, &mut binders);
-    let common = Common {
-        actions: schema::actions(schema),
-        profile,
-        binding,
-    };
-    let none = State {
-        used: 0,
-        count: 0,
-        full: false,
-    };
-    let end = all_targets(
-        buf,
-        table,
-        none,
-        schema,
-        condition,
-        targets,
-        places,
-        &binders[..n],
-        common,
-    );
+    let mut places = [0; 3641];
+    let mut binders = [0; 10921];
+    let run = prepare(records, profile, binding, &mut places, &mut binders);
+    let end = all_targets(buf, table, State::default(), run);
     with_visits(reports::answer_of(end.state), end.visits)
 }
 
-// The check of three records that were read, with a table of free slots: the condition is indexed once.
-fn checked<'a>(
-    buf: &mut [u8],
-    table: &mut [u32],
-    schema: &'a [u8],
-    condition: &'a [u8],
-    targets: &[u8],
-    profile: Profile,
-    binding: Binding,
-) -> CheckAnswer
-    requires accepted { Accepted schema.now condition.now targets.now }
-    requires empty { Empty table.old }
-    ensures { check_outcome_of result buf.new ≡ checked (choices_in profile binding) (schema_in schema.now) (record_in condition.now) (targets_in targets.now) buf.old }
+// What a reader answers of a record, with the number of the record where it is refused.
+fn of_record(read: Read, record: u8) -> Result<usize, RefusedRecord>
+    ensures { result ≡ of_record read «record» }
 {
-    let mut places = [0u16; 3641];
-    let n = walk::index_record(condition, &mut places);
-    over_places(
-        buf,
-        table,
-        schema,
-        condition,
-        targets,
-        &places[..n],
-        profile,
-        binding,
-    )
+    read.map_err(|refusal| RefusedRecord { refusal, record })
 }
 
 // The records, read in their order: the first refusal stands.
-pub fn read_records(schema: &[u8], condition: &[u8], targets: &[u8]) -> Records
-    ensures { ReadAs schema.now condition.now targets.now result }
-{
-    if let Err(refusal) = schema::read_schema(schema) {
-        return Err(RefusedRecord { refusal, record: 1 });
-    }
-    if let Err(refusal) = condition::read_condition(condition) {
-        return Err(RefusedRecord { refusal, record: 2 });
-    }
-    if let Err(refusal) = targets::read_targets(targets) {
-        return Err(RefusedRecord { refusal, record: 3 });
-    }
-    Ok(())
-}
-
-// The visits under one target, the one that stands at `at`, with the caller's rules: the reached nodes are given, and the binders are put into a table.
-fn target_places<'a>(
-    buf: &mut [u8],
-    table: &mut [u32],
-    state: State,
+pub fn read_records<'a>(
     schema: &'a [u8],
     condition: &'a [u8],
-    targets: &[u8],
-    places: &[u16],
-    at: usize,
-    rules: u8,
-) -> Progress
-    requires lent { Lent (sink buf.old state) table.old }
-    requires accepted { Accepted schema.now condition.now targets.now }
-    requires index { Index condition.now places.now }
-    requires at_value { is_target targets.now at ≡ true }
-    ensures { Visited buf.old state (visits_under (choices_of rules) (schema_in schema.now) (record_in condition.now) (targets_in targets.now).scope (target_in targets.now at)) buf.new result table.new }
+    targets: &'a [u8],
+) -> Result<Records<'a>, RefusedRecord>
+    ensures { ReadAs schema.now condition.now targets.now result }
 {
-    let mut binders = [0u16; 10921];
-    let binding = walk::binding_of(rules);
-    let n = walk::names_of(binding, condition, places, &mut binders);
-    let common = Common {
-        actions: schema::actions(schema),
-        profile: profile_of(rules),
-        binding,
-    };
-    let target = under_target(schema, targets, common, at);
-    under(
-        buf,
-        table,
-        state,
-        schema,
-        condition,
-        targets,
-        places,
-        &binders[..n],
-        target,
-    )
+    of_record(schema::read_schema(schema), 1)?;
+    of_record(condition::read_condition(condition), 2)?;
+    of_record(targets::read_targets(targets), 3)?;
+    Ok(Records {
+        schema: SchemaRecord { bytes: schema },
+        condition: ConditionRecord { bytes: condition },
+        targets: TargetsRecord { bytes: targets },
+    })
 }
 
 // The visits under one target, from a buffer with its state and its table on. What they find is put behind the reports that the buffer holds.
-pub fn check_target<'a>(
+pub fn check_target(
     buf: &mut [u8],
     table: &mut [u32],
     state: State,
-    schema: &'a [u8],
-    condition: &'a [u8],
-    targets: &[u8],
+    records: Records<'_>,
     at: usize,
     rules: u8,
 ) -> Progress
     requires lent { Lent (sink buf.old state) table.old }
-    requires accepted { Accepted schema.now condition.now targets.now }
-    requires at_value { is_target targets.now at ≡ true }
-    ensures { Visited buf.old state (visits_under (choices_of rules) (schema_in schema.now) (record_in condition.now) (targets_in targets.now).scope (target_in targets.now at)) buf.new result table.new }
+    requires at_value { is_target records.targets.bytes.now at ≡ true }
+    ensures { Visited buf.old state (target_visits (choices_of rules) records.entry at) buf.new
+        result table.new }
 {
-    let mut places = [0u16; 3641];
-    let n = walk::index_record(condition, &mut places);
-    target_places(
-        buf,
-        table,
-        state,
-        schema,
-        condition,
-        targets,
-        &places[..n],
-        at,
-        rules,
-    )
+    let mut places = [0; 3641];
+    let mut binders = [0; 10921];
+    let profile = profile_of(rules);
+    let binding = walk::binding_of(rules);
+    let run = prepare(records, profile, binding, &mut places, &mut binders);
+    under(buf, table, state, run, at)
 }
 
-// The profile that a caller's rules choose: bit 0 is strict.
+// The profile that a caller's rules choose: bit 0 is strict. The rules are a number of the C
+// interface, and here the bit becomes an enum; no other function of this crate looks at it.
+#[tactic(auto, unfolding(crate::specs::Check::profile_of))]
 fn profile_of(rules: u8) -> Profile
     ensures { profile_in result ≡ profile_of rules }
 {
@@ -337,6 +246,10 @@ fn profile_of(rules: u8) -> Profile
 }
 
 // The check of a schema, a condition and a target record, into a lent buffer, with no rules. The table is its own, for as many reports as a rule's writer looks at.
+// The C interface hands the records in as bytes, one by one, and so does whoever calls this and
+// `check_with`: they are one value only when they are read.
+// It is no call of `check_with`: its own table is free when it is made, and what it chooses are
+// enums from the start.
 pub fn check<'a>(
     schema: &'a [u8],
     condition: &'a [u8],
@@ -345,19 +258,12 @@ pub fn check<'a>(
 ) -> CheckAnswer
     ensures { check_outcome_of result buf.new ≡ check schema.now condition.now targets.now buf.old }
 {
-    if let Err(found) = read_records(schema, condition, targets) {
-        return with_visits(refuse(found.refusal, found.record), 0);
-    }
+    let records = match read_records(schema, condition, targets) {
+        Ok(records) => records,
+        Err(found) => return with_visits(refuse(found.refusal, found.record), 0),
+    };
     let mut table = [0u32; 2048];
-    checked(
-        buf,
-        &mut table,
-        schema,
-        condition,
-        targets,
-        Profile::Plain,
-        Binding::Flat,
-    )
+    checked(buf, &mut table, records, Profile::Plain, Binding::Flat)
 }
 
 // The same with rules, and with a table that is lent, of any size and contents: it is of no use to the caller afterwards, and as it was where a record is refused.
@@ -372,11 +278,12 @@ pub fn check_with<'a>(
     ensures buf_after { check_outcome_of result buf.new ≡ check_with rules schema.now condition.now targets.now buf.old }
     ensures spared { Spared result table.old table.new }
 {
-    if let Err(found) = read_records(schema, condition, targets) {
-        return with_visits(refuse(found.refusal, found.record), 0);
-    }
+    let records = match read_records(schema, condition, targets) {
+        Ok(records) => records,
+        Err(found) => return with_visits(refuse(found.refusal, found.record), 0),
+    };
     reports::clear(table);
     let profile = profile_of(rules);
     let binding = walk::binding_of(rules);
-    checked(buf, table, schema, condition, targets, profile, binding)
+    checked(buf, table, records, profile, binding)
 }

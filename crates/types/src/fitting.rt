@@ -1,4 +1,10 @@
 // The tests of two types. They differ in two rules, `is_loose` and `takes_any_tags`.
+//
+// The schema and the condition are two parameters, as they are of `tag_bytes`, whose form document
+// 01 names: a struct of the two would only be taken apart again before it.
+//
+// `equal`, `accepts` and `compatible` are three names for `fits`: each promises a definition that
+// is cited elsewhere.
 ghost use Rattle.std.specs.Prelude.{◌≡◌};
 ghost use Rattle.std.proofs.Math.Option.{some};
 ghost use Rattle.types.specs.Types.{scalar, timepoint, same_type, accepts, compatible};

@@ -1,4 +1,5 @@
-// The types that the checks compare: a number of array layers over a base. Their tests, and their texts.
+// The types that the checks compare: a number of array layers over a base. Their tests, and their
+// texts.
 #![tactic(auto)]
 
 ghost use Rattle.std.specs.Prelude.{◌≡◌};
@@ -42,7 +43,8 @@ pub struct Tag {
     pub len: usize,
 }
 
-// What stands under the layers. `AnyArray` and `MixedArray` are arrays themselves: of unknown elements, and of mixed ones.
+// What stands under the layers. `AnyArray` and `MixedArray` are arrays themselves: of unknown
+// elements, and of mixed ones.
 #[derive(Clone, Copy)]
 pub enum Base {
     Plain(Scalar),
@@ -77,14 +79,16 @@ impl From<Scalar> for Rich {
     }
 }
 
-// How an equality takes two entities: plain, any two are compatible, as in the Rust; strict, two known, different tags are not.
+// How an equality takes two entities: plain, any two are compatible, as in the Rust; strict, two
+// known, different tags are not.
 #[derive(Clone, Copy)]
 pub enum Profile {
     Plain,
     Strict,
 }
 
-// The tests of two types: the Rust's `==`, `accepts` and `compatible`, of which the last takes the profile.
+// The tests of two types: the Rust's `==`, `accepts` and `compatible`, of which the last takes the
+// profile.
 #[derive(Clone, Copy)]
 pub enum Test {
     Equal,

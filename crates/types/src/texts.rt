@@ -1,4 +1,10 @@
 // The texts of types: written into a lent buffer, and measured.
+//
+// The schema and the condition are two parameters, as they are of `tag_bytes`, whose form document
+// 01 names: a struct of the two would only be taken apart again before it.
+//
+// There is no `Display`: the text goes to a place of lent bytes, and the contract says which bytes
+// stand there.
 ghost use Rattle.std.specs.Prelude.{◌≡◌, ◌+◌, ◌≤◌, ◌<◌, length};
 ghost use Rattle.names.specs.Writer.{Stored};
 ghost use Rattle.types.specs.Types.{display, render};
@@ -42,7 +48,7 @@ fn word_of(form: Form, base: Base) -> &'static [u8]
     }
 }
 
-// The word, `n` times.
+// The word, `n` times: `n` is no length of it.
 fn put_words(buf: &mut [u8], at: usize, word: &[u8], n: usize) -> usize
     requires { at + length (repeated n word.now) ≤ length buf.old }
     ensures { Stored buf.old at (repeated n word.now) buf.new result }

@@ -12,7 +12,7 @@ use lib.Seq.{length-take-le, get_or-take}
 use Rattle.walk.specs.declared.Indexed.{Indexed}
 use Rattle.condition.specs.Condition.{Condition}
 use Rattle.condition.specs.Places.{condition_here, is_record, record_in, is_condition, condition_in}
-use Rattle.walk.specs.declared.Row.TheVariants.{Place, Around}
+use Rattle.std.specs.Prelude.{Some, None}
 use Rattle.walk.specs.Scopes.{Scoped, scoped}
 use Rattle.walk.specs.Index.{nodes_of, Indexes, Index, Reached}
 use Rattle.walk.specs.Enclosing.{Chain, joined, RowEncloses, around_at, Enclosing}
@@ -60,11 +60,11 @@ row_of s t n (suc i) m (x ∷ xs) e h l = row_of s t (n + 1) i m xs (omega arith
 -- The tables of a record.
 module _ (s : List ℕ) (acc : is_record s ≡ true) where
   -- 3,641 rows are room for any record
-  pub place_room : {n : ℕ} → 3641 ≤ n → Room Place s 5 n 0
+  pub place_room : {n : ℕ} → 3641 ≤ n → Room None s 5 n 0
   unfolding width Fits
   place_room h = record { small = record_small s acc; before = omega arith; enough = omega arith; fits = tt }
 
-  pub scope_room : {n : ℕ} → 7282 ≤ n → Room (Around (record { holder = 0; node = 0 })) s 5 n 0
+  pub scope_room : {n : ℕ} → 7282 ≤ n → Room (Some (record { holder = 0; node = 0 })) s 5 n 0
   unfolding width Fits
   scope_room h = record { small = record_small s acc; before = omega arith; enough = omega arith; fits = (omega arith, omega arith) }
 
@@ -74,7 +74,7 @@ module _ (s : List ℕ) (acc : is_record s ≡ true) where
   own_count : length (scoped [] (condition_in s 5)) ≡ length (nodes_of s)
   own_count = ap length own_nodes ∙ sym (length-map (scoped [] (record_in s)) (λ (x : Scoped). x.node)) ∙ ap length (scoped_nodes [] (record_in s))
 
-  pub record_index : {t u : List ℕ} {r : Indexed} → Filled Place InScope s 5 (condition_here s 5) (reached_from s 5) t 0 u r → 3641 ≤ length t → Index s (take r.count u)
+  pub record_index : {t u : List ℕ} {r : Indexed} → Filled None InScope s 5 (condition_here s 5) (reached_from s 5) t 0 u r → 3641 ≤ length t → Index s (take r.count u)
   unfolding scopes InScope reached_from
   record_index {t} {u} {r} f room =
       let fits : r.count ≤ length u = omega (arith, f.within, f.size) in
@@ -86,7 +86,7 @@ module _ (s : List ℕ) (acc : is_record s ≡ true) where
         entries = indexes_kept s u (take r.count u) 0 (nodes_of s) (λ k l. get_or-take r.count u k 0 (omega arith)) h;
       }
 
-  pub record_enclosing : {t u : List ℕ} {r : Indexed} → Filled (Around (record { holder = 0; node = 0 })) InScope s 5 (condition_here s 5) (reached_from s 5) t 0 u r → 7282 ≤ length t → Enclosing s (take (2 * r.count) u)
+  pub record_enclosing : {t u : List ℕ} {r : Indexed} → Filled (Some (record { holder = 0; node = 0 })) InScope s 5 (condition_here s 5) (reached_from s 5) t 0 u r → 7282 ≤ length t → Enclosing s (take (2 * r.count) u)
   unfolding scopes InScope reached_from around_at Chain joined row_at
   record_enclosing {t} {u} {r} f room =
       let fits : 2 * r.count ≤ length u = omega (arith, f.within, f.size) in

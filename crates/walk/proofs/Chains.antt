@@ -5,13 +5,12 @@ use mathlib.Core.List.{List, [], ◌∷◌, ◌++◌}
 use Prim.Native.Nat.{ℕ, ◌+◌, ◌*◌, ◌≤◌, ◌<◌}
 use native.Mathlib.Omega.{arith}
 use lib.ListN.{length, get_or}
-use Rattle.walk.specs.declared.Row.{Row}
-use Rattle.walk.specs.declared.Row.TheVariants.{Place, Around}
+use Rattle.std.specs.Prelude.{Some, None}
 use Rattle.condition.specs.Condition.{Binder}
 use Rattle.condition.specs.Places.{is_condition, condition_in}
 use Rattle.walk.specs.Scopes.{Scoped, under}
 use Rattle.walk.specs.Enclosing.{IsHolder, held_in, Chain, joined, Encloses, RowEncloses}
-use Rattle.walk.specs.Rows.{scopes, row_at, row_of, below, held_by, InScope, InRow, Says, Rows}
+use Rattle.walk.specs.Rows.{Row, scopes, row_at, row_of, below, held_by, InScope, InRow, Says, Rows}
 
 -- the same rows in two tables
 abbrev pub SameRows : Bool → List ℕ → List ℕ → ℕ → Type 0
@@ -64,13 +63,13 @@ module _ (s : List ℕ) where
   -- a scope stays what it is
   pub scope_on : (row : Row) (t u : List ℕ) (n m : ℕ) (bs : List Binder) → n ≤ m → SameRows (scopes row) t u n → InScope row s t n bs → InScope row s u m bs
   unfolding scopes InScope
-  scope_on Place t u n m bs l e h = tt
-  scope_on (Around scope) t u n m bs l e h = encloses_on t u m l e h
+  scope_on None t u n m bs l e h = tt
+  scope_on (Some scope) t u n m bs l e h = encloses_on t u m l e h
 
   pub row_scope_on : (row : Row) (t u : List ℕ) (n m : ℕ) (bs : List Binder) → n ≤ m → SameRows (scopes row) t u n → InRow row s t n bs → InRow row s u m bs
   unfolding scopes InRow
-  row_scope_on Place t u n m bs l e h = tt
-  row_scope_on (Around scope) t u n m bs l e h =
+  row_scope_on None t u n m bs l e h = tt
+  row_scope_on (Some scope) t u n m bs l e h =
       let i : scope.node < n = h.0 in
       (omega arith, row_on t u scope.node (λ k j. e k (omega arith)) h.1)
 
@@ -84,21 +83,21 @@ module _ (s : List ℕ) where
 
   pub put_says : (row : Row) (t u : List ℕ) (n at : ℕ) (bs : List Binder) → is_condition s at ≡ true → row_at (scopes row) u n ≡ row_of row at → SameRows (scopes row) t u n → InScope row s t n bs → Says (scopes row) s u n (under bs (condition_in s at))
   unfolding scopes row_at row_of InScope Says
-  put_says Place t u n at bs acc e k h =
+  put_says None t u n at bs acc e k h =
       let f : get_or u n 0 ≡ at = ap (λ (p : ℕ × ℕ). p.0) e in
       record { stands = rw f acc; value = ap (condition_in s) f }
-  put_says (Around scope) t u n at bs acc e k h = put_row scope.holder scope.node t u n bs e k h
+  put_says (Some scope) t u n at bs acc e k h = put_row scope.holder scope.node t u n bs e k h
 
   pub put_below : (row : Row) (t u : List ℕ) (n at : ℕ) (bs : List Binder) → row_at (scopes row) u n ≡ row_of row at → SameRows (scopes row) t u n → InScope row s t n bs → InRow (below row at n) s u (n + 1) bs
   unfolding scopes row_at row_of InScope InRow below
-  put_below Place t u n at bs e k h = tt
-  put_below (Around scope) t u n at bs e k h = (omega arith, put_row scope.holder scope.node t u n bs e k h)
+  put_below None t u n at bs e k h = tt
+  put_below (Some scope) t u n at bs e k h = (omega arith, put_row scope.holder scope.node t u n bs e k h)
 
   -- a holder around
   pub hold : (row : Row) (t : List ℕ) (n p : ℕ) (bs : List Binder) → 0 < p → IsHolder s p → InRow row s t n bs → InScope (held_by row p) s t n (bs ++ held_in s p)
   unfolding InRow InScope held_by Chain joined
-  hold Place t n p bs l i h = tt
-  hold (Around scope) t n p bs l i h = record {
+  hold None t n p bs l i h = tt
+  hold (Some scope) t n p bs l i h = record {
     holders = p ∷ h.1.holders;
     chain = (record { place = refl; some = l; holds = i; before = h.0 }, h.1.chain);
     value = ap (λ (l : List Binder). l ++ held_in s p) h.1.value;
@@ -106,5 +105,5 @@ module _ (s : List ℕ) where
 
 pub below_held : (row : Row) (at n : ℕ) → held_by (below row at n) at ≡ below row at n
 unfolding below held_by
-below_held Place at n = refl
-below_held (Around scope) at n = refl
+below_held None at n = refl
+below_held (Some scope) at n = refl

@@ -8,7 +8,6 @@ use lib.ListN.{length, get_or, length-append}
 use Rattle.names.specs.Fields.{Got}
 use Rattle.names.specs.Read.{ending, Read}
 use Rattle.walk.specs.declared.Indexed.{Indexed}
-use Rattle.walk.specs.declared.Row.{Row}
 use Rattle.condition.specs.Condition.{Binder, binder}
 use Rattle.condition.specs.Places.{condition_here, term_here, is_condition, condition_in, is_term, term_in, aggregate_in, is_binder}
 use Rattle.nodes.specs.Kinds.{kind_of, one_kind, two_kind, aggregate_kind_of}
@@ -17,7 +16,7 @@ use Rattle.nodes.specs.Looked.{Skipped, KindHere, TermKindHere, AggregateKindHer
 use Rattle.nodes.specs.Parts.{ComparisonHere}
 use Rattle.walk.specs.Scopes.{Scoped, under, scoped, scoped_in}
 use Rattle.walk.specs.Enclosing.{quantifies, aggregates, held_in}
-use Rattle.walk.specs.Rows.{scopes, below, held_by, Handed, InScope, InRow, Rows, reached_from, reached_within, Room, Put, Filled}
+use Rattle.walk.specs.Rows.{Row, scopes, below, held_by, Handed, InScope, InRow, Rows, reached_from, reached_within, Room, Put, Filled}
 use Rattle.nodes.specs.Laws.Opens.{condition_ahead}
 use Rattle.nodes.specs.Laws.Pieces.{comparison_parts}
 use Rattle.nodes.specs.Laws.Inside.{two_inside, one_inside, compared_inside, quantified_inside, added_inside, aggregate_inside}

@@ -2,3 +2,4 @@
 pub mod Named
 pub mod Nodes
 pub mod Names
+pub mod Mere

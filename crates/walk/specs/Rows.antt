@@ -1,28 +1,31 @@
 -- What one walk puts into a table of rows, one for each reached condition: the place of the condition, or the scope that it stands in.
-use Rattle.std.specs.Prelude.{◌≡◌, Bool, true, false, List, [], ◌∷◌, ℕ, ◌+◌, ◌*◌, ◌≤◌, ◌<◌, length, get_or, Ok}
+use Rattle.std.specs.Prelude.{◌≡◌, Bool, true, false, List, [], ◌∷◌, ℕ, ◌+◌, ◌*◌, ◌≤◌, ◌<◌, length, get_or, Ok, Option, Some, None}
 use Rattle.names.specs.Fields.{Got}
 use Rattle.names.specs.Read.{ending}
 use Rattle.walk.specs.declared.Indexed.{Indexed}
-use Rattle.walk.specs.declared.Row.{Row}
-use Rattle.walk.specs.declared.Row.TheVariants.{Place, Around}
+use Rattle.walk.specs.declared.Scope.{Scope}
 use Rattle.condition.specs.Condition.{Binder}
 use Rattle.condition.specs.Places.{condition_in, term_in}
 use Rattle.walk.specs.Scopes.{Scoped, scoped, scoped_in}
 use Rattle.walk.specs.Index.{StandsAt}
 use Rattle.walk.specs.Enclosing.{Encloses, RowEncloses}
 
+-- what is put into a row: a scope, or the place of the condition where none is asked for
+abbrev pub Row : Type 0
+Row = Option Scope
+
 -- whether the rows are scopes; how many entries a row has; that its numbers fit them
 unfoldable pub scopes : Row → Bool
-scopes Place = false
-scopes (Around scope) = true
+scopes None = false
+scopes (Some scope) = true
 
 unfoldable pub width : Row → ℕ
-width Place = 1
-width (Around scope) = 2
+width None = 1
+width (Some scope) = 2
 
 unfoldable pub Fits : Row → Type 0
-Fits Place = Unit {0}
-Fits (Around scope) = (scope.holder < 65536) × (scope.node < 65536)
+Fits None = Unit {0}
+Fits (Some scope) = (scope.holder < 65536) × (scope.node < 65536)
 
 -- the i-th row of a table, and what is put there of the condition at `at`
 unfoldable pub row_at : Bool → List ℕ → ℕ → ℕ × ℕ
@@ -30,18 +33,18 @@ row_at false table i = (get_or table i 0, 0)
 row_at true table i = (get_or table (2 * i) 0, get_or table (2 * i + 1) 0)
 
 unfoldable pub row_of : Row → ℕ → ℕ × ℕ
-row_of Place at = (at, 0)
-row_of (Around scope) at = (scope.holder, scope.node)
+row_of None at = (at, 0)
+row_of (Some scope) at = (scope.holder, scope.node)
 
 -- what is handed down below the n-th reached condition, which stands at `at`; and to the body of an aggregate at `at`, in an operand of the comparison whose row
 -- was handed down
 unfoldable pub below : Row → ℕ → ℕ → Row
-below Place at n = Place
-below (Around scope) at n = Around (record { holder = at; node = n })
+below None at n = None
+below (Some scope) at n = Some (record { holder = at; node = n })
 
 unfoldable pub held_by : Row → ℕ → Row
-held_by Place at = Place
-held_by (Around scope) at = Around (record { holder = at; node = scope.node })
+held_by None at = None
+held_by (Some scope) at = Some (record { holder = at; node = scope.node })
 
 pub record Handed (row next value : Row) : Type 0 where
   pub is : next ≡ value
@@ -51,12 +54,12 @@ pub record Handed (row next value : Row) : Type 0 where
 
 -- the binders of the scope that a condition stands in; and those around the comparison whose operand is walked, which has its row already
 unfoldable pub InScope : Row → List ℕ → List ℕ → ℕ → List Binder → Type 0
-InScope Place s table n bs = Unit {0}
-InScope (Around scope) s table n bs = Encloses s table n scope.holder scope.node bs
+InScope None s table n bs = Unit {0}
+InScope (Some scope) s table n bs = Encloses s table n scope.holder scope.node bs
 
 unfoldable pub InRow : Row → List ℕ → List ℕ → ℕ → List Binder → Type 0
-InRow Place s table n bs = Unit {0}
-InRow (Around scope) s table n bs = (scope.node < n) × RowEncloses s table scope.node bs
+InRow None s table n bs = Unit {0}
+InRow (Some scope) s table n bs = (scope.node < n) × RowEncloses s table scope.node bs
 
 -- what the n-th row says of a reached condition; from the n-th on, the rows say it of these
 unfoldable pub Says : Bool → List ℕ → List ℕ → ℕ → Scoped → Type 0

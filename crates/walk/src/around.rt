@@ -8,7 +8,6 @@ ghost use Rattle.walk.specs.Index.{nodes_of};
 ghost use Rattle.walk.specs.Enclosing.{is_bound, later_of, IsHolder, held_in, around_at, Bodies};
 
 use crate::lists::{bound_entered, entry_of};
-use crate::sorted::wide;
 use nodes::{Bound, SlotAt, binders_at, bound_at, first_part, past_binder, past_slot, slot_at};
 
 // Whether a name is bound.
@@ -59,6 +58,7 @@ pub fn bound_among(s: &[u8], start: usize, name: &[u8]) -> Bound
 }
 
 // Among those of an Exists or an aggregate: in its list, where it has one.
+// The first byte alone tells an Exists from an aggregate, as `list_holder` of `lists` says.
 fn bound_held(s: &[u8], table: &[u16], at: usize, name: &[u8]) -> Bound
     requires bodies { Bodies s.now table.now }
     requires holder { IsHolder s.now at }
@@ -83,7 +83,7 @@ pub fn bound_around(s: &[u8], table: &[u16], node: usize, name: &[u8]) -> Bound
     // It ends in two places, at the outermost row and at a binder of the name: it stays a `loop`.
     loop {
         let i = 2 * row;
-        let holder = wide(table[i]);
+        let holder = usize::from(table[i]);
         if holder == 0 {
             return Bound::Nothing;
         }
@@ -91,6 +91,6 @@ pub fn bound_around(s: &[u8], table: &[u16], node: usize, name: &[u8]) -> Bound
         if is_bound(found) {
             return found;
         }
-        row = wide(table[i + 1]);
+        row = usize::from(table[i + 1]);
     }
 }

@@ -1,7 +1,6 @@
 // A name looked up in either way: among all binders of the condition, or among those around its use.
 ghost use Rattle.std.specs.Prelude.{◌≡◌, true, ◌<◌, ◌≤◌, length, take};
 ghost use Rattle.condition.specs.Walk.{last_named};
-ghost use Rattle.condition.specs.Places.{is_record};
 ghost use Rattle.nodes.specs.Parts.{BoundBy};
 ghost use Rattle.walk.specs.Scopes.{binding_of};
 ghost use Rattle.walk.specs.Index.{nodes_of, Index};
@@ -11,9 +10,13 @@ use crate::Binding;
 use crate::around::bound_around;
 use crate::flat::{bound_in, environment};
 use crate::lists::bodies;
+use condition::ConditionRecord;
 use nodes::Bound;
 
-// How a caller's rules bind a name: bit 1 gives each binder its own body.
+// How a caller's rules bind a name: bit 1 gives each binder its own body. The rules come through
+// the C interface as the bits of one byte; here they become an enum, and nothing below sees the
+// bit.
+#[tactic(auto, using(crate::specs::Laws::Names::chosen_own, crate::specs::Laws::Names::chosen_flat))]
 pub fn binding_of(rules: u8) -> Binding
     ensures { binding_in result ≡ binding_of rules }
 {
@@ -23,17 +26,26 @@ pub fn binding_of(rules: u8) -> Binding
     Binding::Flat
 }
 
-// The table that names are looked up in: how many entries it has. 10,921 are room for either of any record.
-pub fn names_of(binding: Binding, s: &[u8], places: &[u16], table: &mut [u16]) -> usize
-    requires s_value { is_record s.now ≡ true }
-    requires index { Index s.now places.now }
+// The table that names are looked up in: how many entries it has. 10,921 are room for either of any
+// record. That a choice is matched here and in `bound_by` is no table of functions to hand on: the
+// two ways fill and read tables of unlike layouts, and a closure would have to carry the fact about
+// its own table, which `Names` says of both.
+// The table stays a slice with a clause: `&mut [u16; 10921]` would ask of a caller that its table
+// is no longer.
+pub fn names_of(
+    binding: Binding,
+    condition: ConditionRecord<'_>,
+    places: &[u16],
+    table: &mut [u16],
+) -> usize
+    requires index { Index condition.bytes.now places.now }
     requires in_bounds { 10921 ≤ length table.old }
     ensures fits { result ≤ length table.new }
-    ensures names { Names s.now (binding_in binding) (take result table.new) }
+    ensures names { Names condition.entry.bytes.now (binding_in binding) (take result table.new) }
 {
     match binding {
-        Binding::Flat => environment(s, places, table),
-        Binding::Own => bodies(s, table),
+        Binding::Flat => environment(condition, places, table),
+        Binding::Own => bodies(condition, table),
     }
 }
 

@@ -1,14 +1,20 @@
-// The walk: a row for each reached condition, in walk order. Its place, which makes the index; or the scope that it stands in.
+// The walk: a row for each reached condition, in walk order. Its place, which makes the index; or
+// the scope that it stands in.
+//
+// A table and the number `n` of its rows so far stay two parameters, as in `flat`: the rows behind
+// are not there yet, and a struct that keeps the `&mut` needs in each of these functions a clause
+// that its reference is the one that it had.
 ghost use Rattle.std.specs.Prelude.{◌≡◌, true, false, ◌≤◌, ◌<◌, length, take};
-ghost use Rattle.condition.specs.Places.{condition_here, term_here, is_record, is_condition, is_term};
+ghost use Rattle.condition.specs.Places.{condition_here, term_here, is_condition, is_term};
 ghost use Rattle.walk.specs.Index.{Index};
 ghost use Rattle.walk.specs.Enclosing.{Enclosing};
 ghost use Rattle.walk.specs.Rows.{Fits, below, held_by, Handed, InScope, InRow, reached_from, reached_within, Room, MayPut, Put, Filled};
 
 use crate::{Indexed, Row, Scope};
+use condition::ConditionRecord;
 use nodes::{
-    aggregate_kind_at, body_at, first_part, has_one, has_two, kind_at, left_part, past_binder,
-    past_condition, past_term, term_kind_at, term_part,
+    AggregateKind, Kind, TermKind, aggregate_kind_at, body_at, first_part, has_one, has_two,
+    kind_at, left_part, past_binder, past_condition, past_term, term_kind_at, term_part,
 };
 
 // A place of a record, and the number of a reached condition, lie below 65,536 by the contract:
@@ -17,7 +23,7 @@ fn put(table: &mut [u16], n: usize, at: usize, row: Row)
     requires { MayPut row (length table.old) n at }
     ensures { Put row table.old n at table.new }
 {
-    if let Row::Around(scope) = row {
+    if let Some(scope) = row {
         let holder = scope.holder as u16;
         let node = scope.node as u16;
         table[2 * n] = holder;
@@ -33,11 +39,11 @@ fn row_below(row: Row, at: usize, n: usize) -> Row
     ensures { Handed row result (below row at n) }
 {
     match row {
-        Row::Place => Row::Place,
-        Row::Around(_) => Row::Around(Scope {
+        Some(_) => Some(Scope {
             holder: at,
             node: n,
         }),
+        None => None,
     }
 }
 
@@ -47,13 +53,11 @@ fn row_held(row: Row, at: usize) -> Row
     requires fits { Fits row }
     ensures { Handed row result (held_by row at) }
 {
-    match row {
-        Row::Place => Row::Place,
-        Row::Around(scope) => Row::Around(Scope {
-            holder: at,
-            node: scope.node,
-        }),
-    }
+    let scope = row?;
+    Some(Scope {
+        holder: at,
+        node: scope.node,
+    })
 }
 
 // The condition at `at` and those reached below it, from the n-th row on.
@@ -66,25 +70,27 @@ fn index(s: &[u8], at: usize, table: &mut [u16], n: usize, row: Row) -> Indexed
     let kind = kind_at(s, at);
     put(table, n, at, row);
     let first = n + 1;
-    if has_two(kind) {
-        let a = index(s, first_part(s, at), table, first, row);
-        return index(s, a.next, table, a.count, row);
+    match kind {
+        Kind::Comparison => {
+            let left = first_part(s, at);
+            let within = row_below(row, at, n);
+            let a = index_operand(s, left, table, first, within);
+            index_operand(s, a.next, table, a.count, within)
+        }
+        Kind::Exists => {
+            let next = past_binder(s, first_part(s, at));
+            index(s, next, table, first, row_below(row, at, n))
+        }
+        _ if has_two(kind) => {
+            let a = index(s, first_part(s, at), table, first, row);
+            index(s, a.next, table, a.count, row)
+        }
+        _ if has_one(kind) => index(s, first_part(s, at), table, first, row),
+        _ => Indexed {
+            next: past_condition(s, at),
+            count: first,
+        },
     }
-    if has_one(kind) {
-        return index(s, first_part(s, at), table, first, row);
-    }
-    if kind == 8 {
-        let left = first_part(s, at);
-        let within = row_below(row, at, n);
-        let a = index_operand(s, left, table, first, within);
-        return index_operand(s, a.next, table, a.count, within);
-    }
-    if kind == 9 {
-        let next = past_binder(s, first_part(s, at));
-        return index(s, next, table, first, row_below(row, at, n));
-    }
-    let next = past_condition(s, at);
-    Indexed { next, count: first }
 }
 
 // Those in the aggregates of a comparison's operand.
@@ -94,44 +100,45 @@ fn index_operand(s: &[u8], at: usize, table: &mut [u16], n: usize, row: Row) -> 
     requires room { Room row s.now at (length table.old) n }
     ensures { Filled row InRow s.now at (term_here s.now at) (reached_within s.now at) table.old n table.new result }
 {
-    let kind = term_kind_at(s, at);
-    if kind == 11 {
-        let aggregate = term_part(s, at);
-        if aggregate_kind_at(s, aggregate) == 3 {
-            let next = past_term(s, at);
-            return Indexed { next, count: n };
+    match term_kind_at(s, at) {
+        TermKind::Aggregate => {
+            let aggregate = term_part(s, at);
+            if let AggregateKind::Call = aggregate_kind_at(s, aggregate) {
+                let next = past_term(s, at);
+                return Indexed { next, count: n };
+            }
+            let body = body_at(s, aggregate);
+            let within = row_held(row, aggregate);
+            index(s, body, table, n, within)
         }
-        let body = body_at(s, aggregate);
-        let within = row_held(row, aggregate);
-        return index(s, body, table, n, within);
+        TermKind::Arith => {
+            let a = index_operand(s, left_part(s, at), table, n, row);
+            index_operand(s, a.next, table, a.count, row)
+        }
+        _ => Indexed {
+            next: past_term(s, at),
+            count: n,
+        },
     }
-    if kind == 12 {
-        let a = index_operand(s, left_part(s, at), table, n, row);
-        return index_operand(s, a.next, table, a.count, row);
-    }
-    let next = past_term(s, at);
-    Indexed { next, count: n }
 }
 
 // The whole record: how many entries there are. 3,641 are room for any record.
-pub fn index_record(s: &[u8], table: &mut [u16]) -> usize
-    requires s_value { is_record s.now ≡ true }
-    requires in_bounds { 3641 ≤ length table.old }
+pub fn index_record(condition: ConditionRecord<'_>, table: &mut [u16]) -> usize
+    requires { 3641 ≤ length table.old }
     ensures fits { result ≤ length table.new }
-    ensures index { Index s.now (take result table.new) }
+    ensures index { Index condition.entry.bytes.now (take result table.new) }
 {
-    let filled = index(s, nodes::ROOT, table, 0, Row::Place);
+    let filled = index(condition.bytes, nodes::ROOT, table, 0, None);
     filled.count
 }
 
 // The scopes of the whole record, two entries for each reached condition: how many entries there are. 7,282 are room for any record.
-pub fn enclosing(s: &[u8], table: &mut [u16]) -> usize
-    requires s_value { is_record s.now ≡ true }
-    requires in_bounds { 7282 ≤ length table.old }
+pub fn enclosing(condition: ConditionRecord<'_>, table: &mut [u16]) -> usize
+    requires { 7282 ≤ length table.old }
     ensures fits { result ≤ 7282 }
-    ensures enclosing { Enclosing s.now (take result table.new) }
+    ensures enclosing { Enclosing condition.entry.bytes.now (take result table.new) }
 {
-    let outermost = Row::Around(Scope { holder: 0, node: 0 });
-    let filled = index(s, nodes::ROOT, table, 0, outermost);
+    let outermost = Some(Scope { holder: 0, node: 0 });
+    let filled = index(condition.bytes, nodes::ROOT, table, 0, outermost);
     2 * filled.count
 }

@@ -8,13 +8,6 @@ ghost use Rattle.walk.specs.Environment.{Sorted, SpotOf, Inserted};
 
 use std::cmp::Ordering;
 
-pub fn wide(x: u16) -> usize
-    ensures value { result ≡ x }
-    ensures upper_bound { result < 65536 }
-{
-    usize::from(x)
-}
-
 // Where a name stands in the table, or else where it belongs.
 pub fn spot(s: &[u8], table: &[u16], name: &[u8]) -> Result<usize, usize>
     requires { Sorted s.now table.now }
@@ -24,11 +17,12 @@ pub fn spot(s: &[u8], table: &[u16], name: &[u8]) -> Result<usize, usize>
         |&p|
             ensures value { order_number result ≡ order (name_in s.entry.now p) name.entry.now }
             ensures same { (s.exit ≡ s.entry) × (name.exit ≡ name.entry) }
-        { names::compare(nodes::name_of(s, wide(p)), name) },
+        { names::compare(nodes::name_of(s, usize::from(p)), name) },
     )
 }
 
-// Another place in the i-th entry. A place fits by the contract, here and in `insert`.
+// Another place in the i-th entry. A place fits by the contract, here and in `insert`, so that
+// `u16::try_from` would bring an error that no caller can meet.
 pub fn replace(table: &mut [u16], i: usize, place: usize)
     requires { (i < length table.old) × (place < 65536) }
     ensures { table.new ≡ set table.old i place }
@@ -36,7 +30,8 @@ pub fn replace(table: &mut [u16], i: usize, place: usize)
     table[i] = place as u16;
 }
 
-// One entry more among the first n: those from `at` on move one on.
+// One entry more among the first n: those from `at` on move one on. The slice of the first n would
+// have no room for it, so the number stands beside the table.
 pub fn insert(table: &mut [u16], n: usize, at: usize, place: usize)
     requires { (at ≤ n) × (n < length table.old) × (place < 65536) }
     ensures { Inserted table.old n at place table.new }

@@ -8,7 +8,7 @@
 
 use std::env::Env;
 use std::rt::Files;
-use std::{fmt, io};
+use std::{fmt, io, str};
 
 // An entry of a listing: where the window's condition starts in four bytes, then the whole sweeps
 // and the seconds left in eight each.
@@ -46,18 +46,13 @@ fn given_period(env: &impl Env, count: usize) -> Option<u64> {
     number(&word[..n])
 }
 
-// The number that decimal digits say, where there is one at least, and 64 bits hold it.
+// The number that decimal digits say, where there is one at least, and 64 bits hold it. The digits
+// are asked for since `parse` takes a sign too.
 fn number(text: &[u8]) -> Option<u64> {
-    if text.is_empty() {
+    if !text.iter().all(u8::is_ascii_digit) {
         return None;
     }
-    text.iter().try_fold(0, with_digit)
-}
-
-// One digit more behind a number.
-fn with_digit(so_far: u64, digit: &u8) -> Option<u64> {
-    let value = char::from(*digit).to_digit(10)?;
-    so_far.checked_mul(10)?.checked_add(u64::from(value))
+    str::from_utf8(text).ok()?.parse().ok()
 }
 
 // ---- the listing
@@ -75,18 +70,42 @@ fn run(out: &impl Print, condition: &[u8], period: u64) -> io::Result<()> {
     println!(out; "windows {}", answer.count)?;
     let entries = listed.chunks_exact(ENTRY).zip(seconds.chunks_exact(ENTRY));
     for (entry, second) in entries.take(answer.count) {
-        print_entry(out, entry, second)?;
+        println!(out; "{}", Entry::read(entry, second))?;
     }
     Ok(())
 }
 
-// The line of an entry.
-fn print_entry<'a>(out: &impl Print, entry: &'a [u8], second: &'a [u8]) -> io::Result<()> {
-    let sweeps = program::u64_at(entry, 4);
-    let left = program::u64_at(entry, 12);
-    let window = Seconds(program::u64_at(second, 4));
-    program::print_u32(out, entry, 0)?;
-    println!(out; " {sweeps} {left}: {window}, left {}", Seconds(left))
+// What an entry says, and the whole window in seconds.
+#[derive(Clone, Copy)]
+struct Entry {
+    start: u32,
+    sweeps: u64,
+    left: Seconds,
+    window: Seconds,
+}
+
+impl Entry {
+    // The bytes of an entry, and of the same window's in the listing of a period of a second.
+    fn read(entry: &[u8], second: &[u8]) -> Entry {
+        Entry {
+            start: program::u32_at(entry, 0),
+            sweeps: program::u64_at(entry, 4),
+            left: Seconds(program::u64_at(entry, 12)),
+            window: Seconds(program::u64_at(second, 4)),
+        }
+    }
+}
+
+// Its line.
+impl fmt::Display for Entry {
+    fn fmt<W: fmt::Write>(&self, f: &mut fmt::Formatter<W>) -> fmt::Result {
+        let left = self.left;
+        write!(
+            f,
+            "{} {} {}: {}, left {left}",
+            self.start, self.sweeps, left.0, self.window
+        )
+    }
 }
 
 // ---- times

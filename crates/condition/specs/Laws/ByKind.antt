@@ -1,7 +1,7 @@
 -- What a condition, a term, an aggregate is at a position, by the level left and the byte there, in whatever version. Assumes nothing.
 use Rattle.std.specs.Prelude.{◌≡◌, Bool, true, false, List, length, get_or, Ok, Err}
 use Rattle.std.proofs.Math.Path.{refl}
-use Rattle.std.proofs.Common.{◌∙◌, arith, rules, ◌⊎◌, inl, inr}
+use Rattle.std.proofs.Common.{◌∙◌, arith, ◌⊎◌, inl, inr}
 use Prim.Native.Nat.{ℕ, zero, suc, ◌+◌, ◌-◌, ◌≤◌, ◌<◌}
 use Rattle.std.proofs.Math.Numerals.{sub-one}
 use borrow.Author.Tests.{le-leb, lt-leb, ne_eqb}
@@ -11,7 +11,7 @@ use Rattle.names.specs.declared.Class.TheVariants.{Plain}
 use Rattle.names.specs.Paths.{path_of}
 use Rattle.names.specs.Read.{ending, Read}
 use Rattle.names.specs.Laws.Readers.{u8-end, u8_got, via, last, choice, choose_beyond, keys_up_to, Each, each_in}
-use Rattle.condition.specs.Condition.{Condition, Term, Window, One, Two, negation, formerly, previous, refine, and, or, since, window, span, timepoint_of, element_list, unary, binary, predicate_of, comparison_of, exists_of, condition_kinds, sum_of, count_of, aggregate_kinds, aggregate_of, arith_of, term_kinds, too_deep, condition_at, term_at}
+use Rattle.condition.specs.Condition.{Condition, Term, negation, formerly, previous, refine, and, or, since, window, span, timepoint_of, element_list, unary, binary, predicate_of, comparison_of, exists_of, condition_kinds, sum_of, count_of, aggregate_kinds, aggregate_of, arith_of, term_kinds, too_deep, condition_at, term_at}
 use Rattle.names.specs.declared.refusal.Refusal.TheVariants.{Cut, UndefinedChoice, TooDeep, AggregateBelowArray}
 
 -- with no level left
@@ -74,35 +74,44 @@ module _ (v : ℕ) (s : List ℕ) (at l : ℕ) where
       unfolding condition_at ending
       condition_deep k z = rw (z, deep_defined {A = Condition} s at 13 h y k)
 
-      pub binary_low : (l ≡ 0 → ⊥) → get_or s at 0 ≤ 2 → (x : Read) → ((k : Window → Two) → x ≡ ending (binary v (condition_at v (l - 1)) (term_at v (l - 1)) (k <∘> window 1) s (at + 1))) → x ≡ ending (condition_at v l s at)
+      pub binary_low : (l ≡ 0 → ⊥) → get_or s at 0 ≤ 2 → (x : Read)
+          → x ≡ ending (binary v (condition_at v (l - 1)) (term_at v (l - 1)) ((λ _. and) <∘> window 1) s (at + 1))
+          → x ≡ ending (binary v (condition_at v (l - 1)) (term_at v (l - 1)) ((λ _. or) <∘> window 1) s (at + 1))
+          → x ≡ ending (condition_at v l s at)
       unfolding choose condition_kinds Each window
-      binary_low z k x e = via (condition_kind z _ refl) (each_in (λ j. x ≡ ending (choose j (condition_kinds v (condition_at v (l - 1)) (term_at v (l - 1))) s (at + 1))) 1 2 ((tt, e (λ _. and)), e (λ _. or)) (get_or s at 0) (omega arith) (omega arith))
+      binary_low z k x e f = via (condition_kind z _ refl) (each_in (λ j. x ≡ ending (choose j (condition_kinds v (condition_at v (l - 1)) (term_at v (l - 1))) s (at + 1))) 1 2 ((tt, e), f) (get_or s at 0) (omega arith) (omega arith))
 
     module _ (z : l ≡ 0 → ⊥) (x : Read) where
-      pub not_kind : get_or s at 0 ≡ 3 → ((k : Window → One) → x ≡ ending (unary v (condition_at v (l - 1)) (term_at v (l - 1)) (k <∘> window 1) s (at + 1))) → x ≡ ending (condition_at v l s at)
+      pub not_kind : get_or s at 0 ≡ 3 → x ≡ ending (unary v (condition_at v (l - 1)) (term_at v (l - 1)) ((λ _. negation) <∘> window 1) s (at + 1)) → x ≡ ending (condition_at v l s at)
       unfolding choose condition_kinds window
-      not_kind k e = via (condition_kind z 3 k) (e (λ _. negation))
+      not_kind k e = via (condition_kind z 3 k) e
 
-      pub unary_low : 2 < get_or s at 0 → (get_or s at 0 ≡ 3 → ⊥) → get_or s at 0 ≤ 5 → ((k : Window → One) → x ≡ ending (unary v (condition_at v (l - 1)) (term_at v (l - 1)) (k <∘> window v) s (at + 1))) → x ≡ ending (condition_at v l s at)
+      pub unary_low : 2 < get_or s at 0 → (get_or s at 0 ≡ 3 → ⊥) → get_or s at 0 ≤ 5
+          → x ≡ ending (unary v (condition_at v (l - 1)) (term_at v (l - 1)) (formerly <∘> window v) s (at + 1))
+          → x ≡ ending (unary v (condition_at v (l - 1)) (term_at v (l - 1)) (previous <∘> window v) s (at + 1))
+          → x ≡ ending (condition_at v l s at)
       unfolding choose condition_kinds Each
-      unary_low a i b e = via (condition_kind z _ refl) (each_in (λ j. x ≡ ending (choose j (condition_kinds v (condition_at v (l - 1)) (term_at v (l - 1))) s (at + 1))) 4 2 ((tt, e formerly), e previous) (get_or s at 0) (omega arith) (omega arith))
+      unary_low a i b e f = via (condition_kind z _ refl) (each_in (λ j. x ≡ ending (choose j (condition_kinds v (condition_at v (l - 1)) (term_at v (l - 1))) s (at + 1))) 4 2 ((tt, e), f) (get_or s at 0) (omega arith) (omega arith))
 
-      pub unary_high : 12 < get_or s at 0 → get_or s at 0 ≤ 13 → ((k : Window → One) → x ≡ ending (unary v (condition_at v (l - 1)) (term_at v (l - 1)) (k <∘> window 1) s (at + 1))) → x ≡ ending (condition_at v l s at)
+      pub unary_high : 12 < get_or s at 0 → get_or s at 0 ≤ 13 → x ≡ ending (unary v (condition_at v (l - 1)) (term_at v (l - 1)) ((λ _. refine) <∘> window 1) s (at + 1)) → x ≡ ending (condition_at v l s at)
       unfolding choose condition_kinds window
-      unary_high a b e = via (condition_kind z 13 (omega arith)) (e (λ _. refine))
+      unary_high a b e = via (condition_kind z 13 (omega arith)) e
 
       -- a Not or a Refine, as one of them
-      pub bare_unary : (get_or s at 0 ≡ 3) ⊎ (get_or s at 0 ≡ 13) → ((k : Window → One) → x ≡ ending (unary v (condition_at v (l - 1)) (term_at v (l - 1)) (k <∘> window 1) s (at + 1))) → x ≡ ending (condition_at v l s at)
-      bare_unary (inl k) e = not_kind k e
-      bare_unary (inr k) e = unary_high (omega arith) (omega arith) e
+      pub bare_unary : (get_or s at 0 ≡ 3) ⊎ (get_or s at 0 ≡ 13)
+          → x ≡ ending (unary v (condition_at v (l - 1)) (term_at v (l - 1)) ((λ _. negation) <∘> window 1) s (at + 1))
+          → x ≡ ending (unary v (condition_at v (l - 1)) (term_at v (l - 1)) ((λ _. refine) <∘> window 1) s (at + 1))
+          → x ≡ ending (condition_at v l s at)
+      bare_unary (inl k) e f = not_kind k e
+      bare_unary (inr k) e f = unary_high (omega arith) (omega arith) f
 
       pub opaque_read : 10 < get_or s at 0 → get_or s at 0 ≤ 12 → x ≡ ending (span s (at + 1)) → x ≡ ending (condition_at v l s at)
       unfolding choose condition_kinds Each
       opaque_read a b e = via (condition_kind z _ refl) (each_in (λ j. x ≡ ending (choose j (condition_kinds v (condition_at v (l - 1)) (term_at v (l - 1))) s (at + 1))) 11 2 ((tt, e ∙ last _ _), e ∙ last _ _) (get_or s at 0) a (omega arith))
 
-      pub binary_since : get_or s at 0 ≡ 6 → ((k : Window → Two) → x ≡ ending (binary v (condition_at v (l - 1)) (term_at v (l - 1)) (k <∘> window v) s (at + 1))) → x ≡ ending (condition_at v l s at)
+      pub binary_since : get_or s at 0 ≡ 6 → x ≡ ending (binary v (condition_at v (l - 1)) (term_at v (l - 1)) (since <∘> window v) s (at + 1)) → x ≡ ending (condition_at v l s at)
       unfolding choose condition_kinds
-      binary_since k e = via (condition_kind z 6 k) (e since)
+      binary_since k e = via (condition_kind z 6 k) e
 
       pub predicate_kind : get_or s at 0 ≡ 7 → x ≡ ending (predicate_of v (condition_at v (l - 1)) (term_at v (l - 1)) s (at + 1)) → x ≡ ending (condition_at v l s at)
       unfolding choose condition_kinds
@@ -174,9 +183,9 @@ module _ (v : ℕ) (s : List ℕ) (at l : ℕ) (b : Bool) where
       aggregate_refused k e = via (term_kind z 11 k) (rw e)
 
       module _ (x : Read) where
-        -- an entity or a literal, whatever nested conditions and terms are read by
-        pub value_read : (k : ℕ) → get_or s at 0 ≡ k → ((c : Reader Condition) (t : Bool → Reader Term) (b : Bool) → x ≡ ending (choose k (term_kinds v c t b) s (at + 1))) → x ≡ ending (term_at v l b s at)
-        value_read k i e = via (term_kind z k i) (e (condition_at v (l - 1)) (term_at v (l - 1)) b)
+        -- an entity or a literal
+        pub value_read : (k : ℕ) → get_or s at 0 ≡ k → x ≡ ending (choose k (term_kinds v (condition_at v (l - 1)) (term_at v (l - 1)) b) s (at + 1)) → x ≡ ending (term_at v l b s at)
+        value_read k i e = via (term_kind z k i) e
 
         pub path_read : 5 < get_or s at 0 → get_or s at 0 ≤ 7 → x ≡ ending (path_of s (at + 1)) → x ≡ ending (term_at v l b s at)
         unfolding choose term_kinds Each
@@ -225,9 +234,3 @@ module _ (v : ℕ) (c : Reader Condition) (t : Bool → Reader Term) (s : List �
     pub aggregate_undefined : (get_or s at 0 ≡ 1 → ⊥) → (get_or s at 0 ≡ 2 → ⊥) → (get_or s at 0 ≡ 3 → ⊥) → Err UndefinedChoice ≡ ending (aggregate_of v c t s at)
     unfolding choose aggregate_kinds ending
     aggregate_undefined i j k = via (aggregate_kind _ refl) (rw (ne_eqb (get_or s at 0) 1 i, ne_eqb (get_or s at 0) 2 j, ne_eqb (get_or s at 0) 3 k))
-
-pub ruleset conditions = (rules, condition-end, condition_zero, condition_above, condition_deep, binary_low, bare_unary, unary_low, opaque_read, binary_since, predicate_kind, comparison_kind, exists_kind, timepoint_kind)
-
-pub ruleset terms = (rules, term-end, term_zero, term_above, term_deep, sigil_read, value_read, path_read, var_read, wildcard_read, array_read, aggregate_refused, aggregate_read, arith_kind)
-
-pub ruleset aggregates = (rules, aggregate-end, sum_kind, count_kind, call_kind, aggregate_undefined)

@@ -1,7 +1,8 @@
 -- The digits of a number: how many there are. Assumes nothing.
-use Rattle.std.specs.Prelude.{◌≡◌, refl, [], ◌∷◌, Bool, true, false, ℕ, zero, suc, ◌+◌, ◌-◌, ◌/◌, ◌%◌, ◌^◌, ◌≤◌, ◌<◌, ltb, ℤ, pos, negsuc, nat_abs, length}
-use Rattle.std.proofs.Common.{sym, ap, ◌∙◌, arith, pow-suc, one-add, lt-ltb, le-ltb, ltb-true, ltb-false, length-append}
+use Rattle.std.specs.Prelude.{◌≡◌, refl, [], ◌∷◌, Bool, true, false, ℕ, zero, suc, ◌+◌, ◌-◌, ◌*◌, ◌/◌, ◌%◌, ◌^◌, ◌≤◌, ◌<◌, ltb, ℤ, pos, negsuc, nat_abs, length}
+use Rattle.std.proofs.Common.{sym, ap, ◌∙◌, arith, pow-suc, one-add, lt-ltb, le-ltb, ltb-true, ltb-false, lit<, length-append}
 use Rattle.std.proofs.lemmas.Bool.{false≢true}
+use Rattle.std.proofs.Math.Nat.{pow-le-pow_right}
 use Rattle.std.specs.Int.Signed.{lt_z}
 use Rattle.decimal.specs.Decimal.{last_digits, count_digits, places, numeral, sign, shown, written}
 
@@ -71,6 +72,35 @@ places_least (suc k) n (suc zero) h l = rw (lt-ltb n 10 (omega arith)) (omega ar
 places_least (suc k) n (suc (suc j)) h l =
     by_digits n _ (λ i. rw (lt-ltb _ _ i) (omega arith))
     (λ i. rw (le-ltb _ _ i) (omega (arith, places_least k (n / 10) (suc j) (omega (arith, pow-suc 10 (suc j))) (omega arith))))
+
+few : (k n : ℕ) → places_up_to k n ≤ n + 1
+unfolding count_digits
+few zero n = omega arith
+few (suc k) n =
+    by_digits n _ (λ l. rw (lt-ltb _ _ l) (omega arith))
+    (λ l. rw (le-ltb _ _ l) (omega (arith, few k (n / 10))))
+
+pub places_few : (n : ℕ) → places n ≤ n + 1
+places_few n = few n n
+
+-- between two powers of ten there are as many as the lower power says, and one
+pub places_power : (n k : ℕ) → 10 ^ k ≤ n → n < 10 * 10 ^ k → k + 1 ≡ places n
+places_power n k h l = go (ltb k (places n)) refl
+  where
+    most : places n ≤ suc k
+    most = places_least n n (suc k) (omega (arith, pow-suc 10 k, l)) (omega arith)
+
+    go : (b : Bool) → ltb k (places n) ≡ b → k + 1 ≡ places n
+    go true e = let i = ltb-true _ _ e in omega (arith, most, i)
+    go false e =
+        let i = ltb-false _ _ e in
+        absurd (omega (arith, places_hold n, h, pow-le-pow_right {n = 10} (lit< tt) i))
+
+pub power_few : (n k : ℕ) → 10 ^ k ≤ n → n < 10 * 10 ^ k → k + 1 ≤ n + 1
+power_few n k h l = omega (arith, places_power n k h l, places_few n)
+
+pub one_place : (n : ℕ) → n ≡ 0 → 1 ≡ places n
+one_place n e = sym (places_one n n (omega arith))
 
 pub length_shown : (n : ℕ) → length (shown n) ≡ places (n / 10000) + 5
 unfolding shown numeral

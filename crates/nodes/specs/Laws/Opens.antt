@@ -1,13 +1,20 @@
 -- What the code learns at a position of accepted bytes: the place behind a field, the kind of what stands there, where its parts stand. Assumes nothing.
-use Rattle.std.specs.Prelude.{◌≡◌, refl, Bool, true, false, cond, List, ℕ, ◌+◌, ◌≤◌, ◌<◌, eqb, length, get_or, Ok}
-use Rattle.std.proofs.Common.{sym, ap, ◌∙◌, arith, rules, ne_eqb}
+use Rattle.std.specs.Prelude.{◌≡◌, refl, Bool, true, false, cond, List, ℕ, ◌+◌, ◌≤◌, ◌<◌, eqb, length, get_or, Result, Ok, Err}
+use Rattle.std.specs.Result.{result_unwrap_or}
+use Rattle.std.proofs.Common.{sym, ap, ◌∙◌, arith, rules, ne_eqb, eqb-true}
 use Rattle.std.proofs.lemmas.Bool.{false≢true}
 use Rattle.names.specs.Fields.{Got, got, bad, Reader, levels, each, counted}
 use Rattle.names.specs.Read.{ending, accepted, value_or, Read}
 use Rattle.names.specs.Laws.Readers.{arrives, has_value}
-use Rattle.condition.specs.Condition.{Condition, Term, Aggregate, sum, count, call, slot, binder, condition_at, term_at}
+use Rattle.condition.specs.Condition.{Condition, one, two, negation, refine, formerly, previous, and, or, since, predicate, comparison, exists, tp, opaque, Term, entity, literal, integer, decimal, string, bool, context_field, scope_field, var, wildcard, array, aggregate, sigil, Aggregate, sum, count, call, slot, binder, condition_at, term_at}
+use Rattle.condition.specs.Condition as tree
 use Rattle.condition.specs.Places.{version_in, condition_here, term_here, is_condition, condition_in, is_term, term_in, aggregate_at, is_aggregate, aggregate_in, is_slot, is_binder}
-use Rattle.nodes.specs.Kinds.{kind_of, one_kind, two_kind, term_kind_of, aggregate_kind_of}
+use Rattle.condition.specs.Kinds.{Decodes}
+use Rattle.condition.specs.declared.kind.Kind.{Kind}
+use Rattle.condition.specs.declared.kind.TermKind as read
+use Rattle.condition.specs.declared.kind.AggregateKind.{AggregateKind}
+use Rattle.names.specs.declared.refusal.Refusal.{Refusal}
+use Rattle.nodes.specs.Kinds.{kind_of, one_kind, two_kind, term_kind_of, aggregate_kind_of, kind_number, aggregate_kind_number, read_kind_number, told_apart}
 use Rattle.nodes.specs.Looked.{place_of, Skipped, KindHere, TermKindHere, AggregateKindHere}
 use Rattle.condition.specs.Laws.Sizes.{Forward, nine_condition, forward_slot, forward_binder, forward_counted, forward_condition, forward_term}
 use Rattle.nodes.specs.Laws.Views.{Head, head_view, OneView, one_view, TwoView, two_view, ComparisonView, comparison_view, ExistsView, exists_view, span_view, inside, term_inside, term_number_lem, ArithView, arith_view, aggregate_head_view, SumView, sum_view, CountView, count_view, CallView, call_view}
@@ -80,6 +87,69 @@ raw b k other least e h = go (eqb b other) refl e
     go true i j = absurd (h (sym j))
     go false i j = j
 
+-- the numbers of the kinds are these and no others
+kind_numbers : (x : Condition) → (1 ≤ kind_of x) × (kind_of x ≤ 13)
+kind_numbers (one negation at c) = (omega arith, omega arith)
+kind_numbers (one refine at c) = (omega arith, omega arith)
+kind_numbers (one (formerly w) at c) = (omega arith, omega arith)
+kind_numbers (one (previous w) at c) = (omega arith, omega arith)
+kind_numbers (two and at l r) = (omega arith, omega arith)
+kind_numbers (two or at l r) = (omega arith, omega arith)
+kind_numbers (two (since w) at l r) = (omega arith, omega arith)
+kind_numbers (predicate at own ns act args) = (omega arith, omega arith)
+kind_numbers (comparison at op l r) = (omega arith, omega arith)
+kind_numbers (exists at b c) = (omega arith, omega arith)
+kind_numbers (tp at x) = (omega arith, omega arith)
+kind_numbers (opaque at) = (omega arith, omega arith)
+
+term_numbers : (x : Term) → (1 ≤ term_kind_of x) × (term_kind_of x ≤ 13)
+term_numbers (entity n) = (omega arith, omega arith)
+term_numbers (literal (integer n)) = (omega arith, omega arith)
+term_numbers (literal (decimal n)) = (omega arith, omega arith)
+term_numbers (literal (string w)) = (omega arith, omega arith)
+term_numbers (literal (bool b)) = (omega arith, omega arith)
+term_numbers (context_field p) = (omega arith, omega arith)
+term_numbers (scope_field p) = (omega arith, omega arith)
+term_numbers (var v) = (omega arith, omega arith)
+term_numbers wildcard = (omega arith, omega arith)
+term_numbers (array ts) = (omega arith, omega arith)
+term_numbers (aggregate a) = (omega arith, omega arith)
+term_numbers (tree.arith op l r) = (omega arith, omega arith)
+term_numbers sigil = (omega arith, omega arith)
+
+aggregate_numbers : (x : Aggregate) → (1 ≤ aggregate_kind_of x) × (aggregate_kind_of x ≤ 3)
+aggregate_numbers (sum span sl bs body) = (omega arith, omega arith)
+aggregate_numbers (count span bs body) = (omega arith, omega arith)
+aggregate_numbers (call span) = (omega arith, omega arith)
+
+-- so the byte of a kind is from 1 to the last
+in_range : (b other least last : ℕ) → 1 ≤ other → other ≤ last → {k : ℕ} → cond (eqb b other) least b ≡ k → 1 ≤ k → k ≤ last → (0 < b → last < b) → ⊥
+in_range b other least last o l {k} e h m out = go (eqb b other) refl e
+  where
+    go : (t : Bool) → eqb b other ≡ t → cond t least b ≡ k → ⊥
+    go true i j = let s = eqb-true b other i in let t = out (omega arith) in omega arith
+    go false i j = let t = out (omega arith) in omega arith
+
+-- and the kind that it is decoded to is not the one that is taken for a byte of none
+taken : {K : Type 0} (number : K → ℕ) (last b : ℕ) → ((0 < b → last < b) → ⊥) → (r : Result K Refusal) → Decodes number last b r → (other : K) → b ≡ number (result_unwrap_or r other)
+taken number last b known (Ok k) d other = sym d
+taken number last b known (Err e) d other = absurd (known d.1)
+
+not_sigil : (k : Kind) → (k ≡ Kind.SigilRef → ⊥) → kind_number k ≡ 12 → ⊥
+not_sigil Kind.And h e = omega arith
+not_sigil Kind.Or h e = omega arith
+not_sigil Kind.Not h e = omega arith
+not_sigil Kind.Formerly h e = omega arith
+not_sigil Kind.Previous h e = omega arith
+not_sigil Kind.Since h e = omega arith
+not_sigil Kind.Predicate h e = omega arith
+not_sigil Kind.Comparison h e = omega arith
+not_sigil Kind.Exists h e = omega arith
+not_sigil Kind.Timepoint h e = omega arith
+not_sigil Kind.Call h e = omega arith
+not_sigil Kind.SigilRef h e = h refl
+not_sigil Kind.Refine h e = omega arith
+
 -- A condition that stands at a position.
 module _ (s : List ℕ) (at : ℕ) (acc : is_condition s at ≡ true) where
   pub condition_stands : Stands (condition_here s at) (condition_in s at)
@@ -107,6 +177,19 @@ module _ (s : List ℕ) (at : ℕ) (acc : is_condition s at ≡ true) where
 
   pub kind_itself : (get_or s at 0 ≡ 12 → ⊥) → KindHere s at (get_or s at 0)
   kind_itself h = record { inside = condition_room; kind = rw (ne_eqb (get_or s at 0) 12 h) at condition_head.kind }
+
+  -- its kind by what its byte is decoded to
+  module _ (r : Result Kind Refusal) (d : Decodes kind_number 13 (get_or s at 0) r) (k : Kind) (e : k ≡ result_unwrap_or r Kind.Call) where
+    kind_read : get_or s at 0 ≡ kind_number k
+    kind_read =
+        let bounds = kind_numbers (condition_in s at) in
+        rw e (taken kind_number 13 (get_or s at 0) (in_range (get_or s at 0) 12 11 13 (omega arith) (omega arith) condition_head.kind bounds.0 bounds.1) r d Kind.Call)
+
+    pub kind_call : k ≡ Kind.SigilRef → KindHere s at (kind_number Kind.Call)
+    kind_call h = kind_sigil (kind_read ∙ ap kind_number h)
+
+    pub kind_told : (k ≡ Kind.SigilRef → ⊥) → KindHere s at (kind_number k)
+    kind_told h = rw (← kind_read) (kind_itself (λ i. not_sigil k h (sym kind_read ∙ i)))
 
   -- its byte
   pub raw_kind : (k : ℕ) → (k ≡ 11 → ⊥) → kind_of (condition_in s at) ≡ k → get_or s at 0 ≡ k
@@ -144,6 +227,15 @@ module _ (s : List ℕ) (at : ℕ) (acc : is_term s at ≡ true) where
   pub term_itself : (get_or s at 0 ≡ 14 → ⊥) → TermKindHere s at (get_or s at 0)
   term_itself h = record { inside = term_index; kind = rw (ne_eqb (get_or s at 0) 14 h) at (term_number_lem (version_in s) s at term_stands.read) }
 
+  -- its kind by what its byte is decoded to
+  pub term_told : (r : Result read.TermKind Refusal) → Decodes read_kind_number 14 (get_or s at 0) r → (j : read.TermKind) → j ≡ result_unwrap_or r read.TermKind.ParamRef
+      → (k : ℕ) → k ≡ told_apart (read_kind_number j) → TermKindHere s at k
+  term_told r d j e k is =
+      let number = term_number_lem (version_in s) s at term_stands.read in
+      let bounds = term_numbers (term_in s at) in
+      let byte = taken read_kind_number 14 (get_or s at 0) (in_range (get_or s at 0) 14 13 14 (omega arith) (omega arith) number bounds.0 (omega (arith, bounds.1))) r d read.TermKind.ParamRef in
+      record { inside = term_index; kind = is ∙ ap (λ i. told_apart (read_kind_number i)) e ∙ sym (ap told_apart byte) ∙ number }
+
   pub raw_term : (k : ℕ) → (k ≡ 13 → ⊥) → term_kind_of (term_in s at) ≡ k → get_or s at 0 ≡ k
   raw_term k h e = raw (get_or s at 0) k 14 13 (term_number_lem (version_in s) s at term_stands.read ∙ e) h
 
@@ -161,6 +253,14 @@ module _ (s : List ℕ) (at : ℕ) (acc : is_aggregate s at ≡ true) where
       let v = aggregate_head_view (version_in s) s at aggregate_stands.read in
       let w = span_view s (at + 1) v.spans in
       record { inside = omega arith; kind = v.kind }
+
+  -- its kind by what its byte is decoded to
+  pub aggregate_told : (r : Result AggregateKind Refusal) → Decodes aggregate_kind_number 3 (get_or s at 0) r → (k : AggregateKind) → k ≡ result_unwrap_or r AggregateKind.Call → AggregateKindHere s at (aggregate_kind_number k)
+  aggregate_told r d k e =
+      let bounds = aggregate_numbers (aggregate_in s at) in
+      let own = aggregate_kind_here.kind in
+      let byte = taken aggregate_kind_number 3 (get_or s at 0) (λ h. omega (arith, own, bounds.0, bounds.1, h (omega (arith, own, bounds.0)))) r d AggregateKind.Call in
+      rw (e, ← byte) aggregate_kind_here
 
   pub aggregate_room : at + 9 ≤ length s
   aggregate_room = aggregate_kind_here.inside
@@ -215,4 +315,4 @@ module _ (k : ℕ) where
   pub not_two : (k ≡ 1 → ⊥) → (k ≡ 2 → ⊥) → (k ≡ 6 → ⊥) → false ≡ two_kind k
   not_two a b c = rw (ne_eqb k 1 a, ne_eqb k 2 b, ne_eqb k 6 c)
 
-pub ruleset opening = (rules, condition_index, kind_sigil, kind_itself, term_index, term_sigil, term_itself, aggregate_index, aggregate_kind_here)
+pub ruleset opening = (rules, condition_index, kind_call, kind_told, term_index, term_told, aggregate_index, aggregate_told)

@@ -1,5 +1,5 @@
 -- The pass over the entity types on which a path fails, and what it lists. Assumes nothing.
-use Rattle.std.specs.Prelude.{◌≡◌, Bool, ◌&&◌, ℕ, ◌≤◌, ◌<◌, Some, None}
+use Rattle.std.specs.Prelude.{◌≡◌, Bool, ◌&&◌, ℕ, ◌≤◌, ◌<◌, Some, None, Ok, Err}
 use Rattle.std.proofs.Math.Path.{refl}
 use Rattle.std.proofs.Common.{sym, ap, ◌∙◌, rules}
 use Rattle.std.proofs.Math.Bool.{true, false, cond}
@@ -18,21 +18,25 @@ use Rattle.targets.specs.Targets.{Narrowing}
 use Rattle.resolution.specs.Resolution.{missing_at, on_entity, admitted_by}
 use Rattle.resolution.specs.Places.{are_segments, segments_in, Behind, are_types, types_in, next_in, Follows, NextOf, next_of, NextPlaced, end_of}
 use Rattle.resolution.specs.Passes.{fails_at, failing}
-use Rattle.resolution.specs.declared.PathEnd.{PathEnd}
-use Rattle.resolution.specs.Laws.Segments.{no_segments}
+use Rattle.resolution.specs.declared.Failure.{Failure}
+use Rattle.resolution.specs.Coded.{PathEnd}
+use Rattle.resolution.specs.Laws.Segments.{no_segments, unsplit}
+use Rattle.resolution.specs.Paths.{Splits}
+use Rattle.resolution.specs.declared.path.Headed.{Headed}
+use Rattle.std.specs.Prelude as code
 use Rattle.resolution.specs.Coded.{NextNear, Next}
 
 -- the test on one end
 module _ (c : List ℕ) (p : ℕ) (e : PathEnd) where
-  pub missing_not_resolved : (t : Rich) → e ≡ PathEnd.Resolved t → (s : List ℕ) → false ≡ missing_at (word_at c p) (end_of s c e)
+  pub missing_not_resolved : (t : Rich) → e ≡ Ok t → (s : List ℕ) → false ≡ missing_at (word_at c p) (end_of s c e)
   unfolding missing_at
   missing_not_resolved t i s = rw i
 
-  pub missing_not_plain : (q : ℕ) → e ≡ PathEnd.NonRecord q → (s : List ℕ) → false ≡ missing_at (word_at c p) (end_of s c e)
+  pub missing_not_plain : (q : ℕ) → e ≡ Err (Failure.NonRecord q) → (s : List ℕ) → false ≡ missing_at (word_at c p) (end_of s c e)
   unfolding missing_at
   missing_not_plain q i s = rw i
 
-  pub missing_same : (q : ℕ) → e ≡ PathEnd.Missing q → (v : List ℕ) → v ≡ word_at c p → (w : List ℕ) → w ≡ word_at c q → (r : Bool) → r ≡ same v w → (s : List ℕ) → r ≡ missing_at (word_at c p) (end_of s c e)
+  pub missing_same : (q : ℕ) → e ≡ Err (Failure.Missing q) → (v : List ℕ) → v ≡ word_at c p → (w : List ℕ) → w ≡ word_at c q → (r : Bool) → r ≡ same v w → (s : List ℕ) → r ≡ missing_at (word_at c p) (end_of s c e)
   unfolding missing_at
   missing_same q i v is_v w is_w r is s = rw (i, ← is_v, ← is_w) is
 
@@ -116,8 +120,8 @@ module _ (S : Schema) (N : Option Narrowing) (path : List (List ℕ)) (w : List 
 
 pub ruleset failing_pass = (rules, fail_start, fail_over, fail_fewer, fail_found, fail_on)
 
--- The whole path.
-module _ (s c : List ℕ) (S : Schema) (N : Option Narrowing) (w : List ℕ) (row path : Row) (are : are_segments c path ≡ true) where
+-- no path without segments fails
+module _ (S : Schema) (N : Option Narrowing) (w : List ℕ) where
   none_fails : (names : List (List ℕ)) → [] ≡ select (failing S N [] w) names
   unfolding failing fails_at select
   none_fails [] = refl
@@ -127,10 +131,16 @@ module _ (s c : List ℕ) (S : Schema) (N : Option Narrowing) (w : List ℕ) (ro
       go true rest = rest
       go false rest = rest
 
+-- The whole path.
+module _ (s c : List ℕ) (S : Schema) (N : Option Narrowing) (w : List ℕ) (row path : Row) (are : are_segments c path ≡ true) where
   pub failing_empty : path.count ≡ 0 → NextOf s (failing S N (segments_in c path) w) row None
-  failing_empty e = record { value = rw (← no_segments c path are (omega arith)) (none_fails (types_in s row)); follows = omega arith }
+  failing_empty e = record { value = rw (← no_segments c path are (omega arith)) (none_fails S N w (types_in s row)); follows = omega arith }
 
   pub failing_whole : (rest : Row) → Behind c path rest → (x : Next) → NextOf s (failing S N (word_at c path.at ∷ segments_in c rest) w) row x → NextOf s (failing S N (segments_in c path) w) row x
   failing_whole rest b x next = rw b.value at next
 
-pub ruleset failing_path = (rules, failing_empty, failing_whole)
+-- a path without segments, where one is split
+pub failing_unsplit : (s c : List ℕ) (S : Schema) (N : Option Narrowing) (w : List ℕ) (row path : Row) (x : code.Option Headed) → Splits c path x → x ≡ None → NextOf s (failing S N (segments_in c path) w) row None
+failing_unsplit s c S N w row path x splits e = record { value = rw (unsplit c path x splits e) (none_fails S N w (types_in s row)); follows = omega arith }
+
+pub ruleset failing_path = (rules, failing_unsplit)

@@ -1,5 +1,5 @@
 -- The walk along the segments of a path into a record. Assumes nothing.
-use Rattle.std.specs.Prelude.{◌≡◌, refl, true, List, [], ◌∷◌, ℕ, ◌+◌, ◌-◌, ◌≤◌, ◌<◌, length, get_or, Some, None}
+use Rattle.std.specs.Prelude.{◌≡◌, refl, true, List, [], ◌∷◌, ℕ, ◌+◌, ◌-◌, ◌≤◌, ◌<◌, length, get_or, Some, None, Ok, Err}
 use Rattle.std.proofs.Math.Path.{sym, ap}
 use Rattle.std.proofs.Common.{◌∙◌, arith, rules}
 use Rattle.std.proofs.Math.Option.{Option, none, some}
@@ -19,7 +19,12 @@ use Rattle.resolution.specs.Resolution as Resolution
 use Rattle.resolution.specs.Resolution.{nested, descend_by, descend, resolve_in_by, resolve_in, context_path_by, context_path, context_type_by, context_type, type_at_end}
 use Rattle.resolution.specs.Places.{are_segments, segments_in, Behind, resolution_of, typed_of, leaf_of, small_resolution, small_type}
 use Rattle.resolution.specs.Laws.Sizes.{Bytes, type_small}
-use Rattle.resolution.specs.declared.PathResolution.{PathResolution}
+use Rattle.resolution.specs.Paths.{Split, Splits}
+use Rattle.resolution.specs.declared.Unresolved.{Unresolved}
+use Rattle.resolution.specs.Coded.{PathResolution}
+use Rattle.resolution.specs.declared.path.Headed.{Headed}
+use Rattle.std.specs.Prelude as code
+use Rattle.std.specs.Result.{result_ok}
 use Rattle.resolution.specs.Coded.{Typed}
 
 -- what is left of a path, n segments from `at` and on from the type at `t`, ends as the whole does
@@ -28,7 +33,7 @@ pub record Left (s c : List ℕ) (o : Resolution.PathResolution) (n at t : ℕ) 
   pub there : Remaining (string_of plain) c (λ ws. nested (descend (type_in s t) ws)) o n at
 
 module _ (s c : List ℕ) (f : ℕ) (head : ℕ) (rest : Row) (w : List ℕ) (is_w : w ≡ word_at c head) (x : Found) (finds : Finds s (find_attribute (fields_in s f) w) x) where
-  pub head_missing : x ≡ None → resolution_of s c PathResolution.HeadMissing ≡ resolve_in (fields_in s f) (word_at c head) (segments_in c rest)
+  pub head_missing : x ≡ None → resolution_of s c (Err Unresolved.HeadMissing) ≡ resolve_in (fields_in s f) (word_at c head) (segments_in c rest)
   unfolding resolve_in_by
   head_missing e =
       let i : find_attribute (fields_in s f) (word_at c head) ≡ none = rw (← is_w) (sym finds.value ∙ rw e) in
@@ -48,7 +53,7 @@ module _ (s c : List ℕ) (o : Resolution.PathResolution) (end k at t : ℕ) (l 
   abbrev n : ℕ
   n = end - k
 
-  pub path_resolved : end ≤ k → (r : Rich) → ((d : List ℕ) → rich_of s d r ≡ rich_type (type_in s t)) → resolution_of s c (PathResolution.Resolved r) ≡ o
+  pub path_resolved : end ≤ k → (r : Rich) → ((d : List ℕ) → rich_of s d r ≡ rich_type (type_in s t)) → resolution_of s c (Ok r) ≡ o
   unfolding descend_by
   path_resolved h r is = ap Resolution.PathResolution.resolved (is c) ∙ remaining_over (string_of plain) c (λ ws. nested (descend (type_in s t) ws)) o n at (omega arith) l.there
 
@@ -63,7 +68,7 @@ module _ (s c : List ℕ) (o : Resolution.PathResolution) (end k at t : ℕ) (l 
     segment_inside = opened.inside
 
     module _ (y : Found) (inner : FindsFields s (fields_of (type_in s t)) y) where
-      pub path_non_record : y ≡ None → resolution_of s c (PathResolution.NonRecord at) ≡ o
+      pub path_non_record : y ≡ None → resolution_of s c (Err (Unresolved.NonRecord at)) ≡ o
       unfolding descend_by
       path_non_record e =
           let i : fields_of (type_in s t) ≡ none = sym inner.value ∙ rw e in
@@ -81,7 +86,7 @@ module _ (s c : List ℕ) (o : Resolution.PathResolution) (end k at t : ℕ) (l 
               let j : find_attribute (fields_in s f) (word_at c at) ≡ d = rw (← is_w) g in
               rw (i, j) at opened.same
 
-          pub nested_missing : z ≡ None → resolution_of s c (PathResolution.NestedMissing at) ≡ o
+          pub nested_missing : z ≡ None → resolution_of s c (Err (Unresolved.NestedMissing at)) ≡ o
           nested_missing g = onward none (sym finds.value ∙ rw g)
 
           pub path_on : (u : ℕ) → z ≡ Some u → (m : ℕ) → m ≡ at + 1 + get_or c at 0 → Left s c o (end - (k + 1)) m u
@@ -113,14 +118,34 @@ pub no_segments : (c : List ℕ) (path : Row) → are_segments c path ≡ true �
 no_segments c path are h =
     remaining_over (string_of plain) c (λ ws. ws) (segments_in c path) path.count path.at h (remaining_all (string_of plain) c (λ ws. ws) path.count path.at are)
 
+-- A path is split at its first segment.
+module _ (c : List ℕ) (path : Row) (are : are_segments c path ≡ true) where
+  pub split_none : path.count ≡ 0 → segments_in c path ≡ []
+  split_none e = sym (no_segments c path are (omega arith))
+
+  module _ (h : path.count ≡ 0 → ⊥) (m : ℕ) (e : m ≡ path.at + 1 + get_or c path.at 0) where
+    behind : Behind c path (record { count = path.count - 1; at = m })
+    behind = first_behind c path are (omega arith) m e
+
+    pub split_stands : are_segments c (record { count = path.count - 1; at = m }) ≡ true
+    split_stands = behind.stands
+
+    pub split_value : word_at c path.at ∷ segments_in c (record { count = path.count - 1; at = m }) ≡ segments_in c path
+    split_value = behind.value
+
+pub ruleset splitting = (rules, first_inside, split_none, split_stands, split_value)
+
+pub unsplit : (c : List ℕ) (path : Row) (x : code.Option Headed) → Splits c path x → x ≡ None → segments_in c path ≡ []
+unsplit c path x splits e = rw e at splits
+
 -- A path into a context.
 module _ (s c : List ℕ) (t : ℕ) (path : Row) (are : are_segments c path ≡ true) where
-  pub context_empty : path.count ≡ 0 → resolution_of s c PathResolution.HeadMissing ≡ context_path (type_in s t) (segments_in c path)
+  pub context_empty : path.count ≡ 0 → resolution_of s c (Err Unresolved.HeadMissing) ≡ context_path (type_in s t) (segments_in c path)
   unfolding context_path_by
   context_empty e = rw (← no_segments c path are (omega arith))
 
   module _ (y : Found) (inner : FindsFields s (fields_of (type_in s t)) y) where
-    pub context_plain : (path.count ≡ 0 → ⊥) → y ≡ None → resolution_of s c PathResolution.HeadMissing ≡ context_path (type_in s t) (segments_in c path)
+    pub context_plain : (path.count ≡ 0 → ⊥) → y ≡ None → resolution_of s c (Err Unresolved.HeadMissing) ≡ context_path (type_in s t) (segments_in c path)
     unfolding context_path_by
     context_plain h e =
         let i : fields_of (type_in s t) ≡ none = sym inner.value ∙ rw e in
@@ -135,30 +160,69 @@ module _ (s c : List ℕ) (t : ℕ) (path : Row) (are : are_segments c path ≡ 
         let i : fields_of (type_in s t) ≡ some (fields_in s f) = sym inner.value ∙ rw e in
         rw (← b.value, i) is
 
-pub ruleset contexts = (rules, first_inside, first_behind, context_empty, context_plain, context_fields, context_record)
+-- The same of a path that is split.
+module _ (s c : List ℕ) (t : ℕ) (path : Row) where
+  pub split_empty : (x : code.Option Headed) → Splits c path x → x ≡ None → resolution_of s c (Err Unresolved.HeadMissing) ≡ context_path (type_in s t) (segments_in c path)
+  unfolding context_path_by
+  split_empty x splits e = rw (unsplit c path x splits e)
+
+  module _ (headed : Headed) (split : Split c path headed) (y : Found) (inner : FindsFields s (fields_of (type_in s t)) y) where
+    pub split_plain : y ≡ None → resolution_of s c (Err Unresolved.HeadMissing) ≡ context_path (type_in s t) (segments_in c path)
+    unfolding context_path_by
+    split_plain e =
+        let i : fields_of (type_in s t) ≡ none = sym inner.value ∙ rw e in
+        rw (← split.value, i)
+
+    pub split_fields : (f : ℕ) → y ≡ Some f → are_fields s f ≡ true
+    split_fields f e = rw e at inner.stands
+
+    pub split_record : (f : ℕ) → y ≡ Some f → (r : PathResolution) → resolution_of s headed.rest.bytes.now r ≡ resolve_in (fields_in s f) (word_at headed.rest.bytes.now headed.head) (segments_in headed.rest.bytes.now headed.rest.segments) → resolution_of s c r ≡ context_path (type_in s t) (segments_in c path)
+    unfolding context_path_by
+    split_record f e r is =
+        let i : fields_of (type_in s t) ≡ some (fields_in s f) = sym inner.value ∙ rw e in
+        rw (← split.value, i) (rw split.bytes at is)
+
+pub ruleset contexts = (rules, split_empty, split_plain, split_fields, split_record)
 
 -- The type at its end.
-pub leaf_resolved : (e : PathResolution) (t : Rich) → e ≡ PathResolution.Resolved t → Some t ≡ leaf_of e
+pub leaf_resolved : (e : PathResolution) (t : Rich) → e ≡ Ok t → Some t ≡ leaf_of e
 leaf_resolved e t i = rw i
 
 module _ (s c : List ℕ) where
   pub leaf_type : (e : PathResolution) → typed_of s c (leaf_of e) ≡ type_at_end (resolution_of s c e)
-  leaf_type (PathResolution.Resolved t) = refl
-  leaf_type PathResolution.HeadMissing = refl
-  leaf_type (PathResolution.NestedMissing p) = refl
-  leaf_type (PathResolution.NonRecord p) = refl
+  leaf_type (Ok t) = refl
+  leaf_type (Err Unresolved.HeadMissing) = refl
+  leaf_type (Err (Unresolved.NestedMissing p)) = refl
+  leaf_type (Err (Unresolved.NonRecord p)) = refl
 
   pub context_typed : (a t : ℕ) → Standing (is_type s) (type_in s) (action_in s a).context t → (path : Row) (e : PathResolution) → resolution_of s c e ≡ context_path (type_in s t) (segments_in c path) → (r : Typed) → r ≡ leaf_of e → typed_of s c r ≡ context_type (some (action_in s a)) (segments_in c path)
   unfolding context_type_by
   context_typed a t st path e is r i = rw i (leaf_type e ∙ ap type_at_end (is ∙ ap (λ (d : Declared). context_path d (segments_in c path)) st.value))
 
   leaf_small : (e : PathResolution) → small_resolution (resolution_of s c e) → small_type (typed_of s c (leaf_of e))
-  leaf_small (PathResolution.Resolved t) h = h
-  leaf_small PathResolution.HeadMissing h = h
-  leaf_small (PathResolution.NestedMissing p) h = h
-  leaf_small (PathResolution.NonRecord p) h = h
+  leaf_small (Ok t) h = h
+  leaf_small (Err Unresolved.HeadMissing) h = h
+  leaf_small (Err (Unresolved.NestedMissing p)) h = h
+  leaf_small (Err (Unresolved.NonRecord p)) h = h
 
   pub context_small : (e : PathResolution) → small_resolution (resolution_of s c e) → (r : Typed) → r ≡ leaf_of e → small_type (typed_of s c r)
   context_small e h r i = rw i (leaf_small e h)
 
-pub ruleset ends = (rules, leaf_resolved, context_typed, context_small)
+-- the code takes the type by `ok`
+leaf_ok : (e : PathResolution) → result_ok e ≡ leaf_of e
+leaf_ok (Ok t) = refl
+leaf_ok (Err r) = go r
+  where
+    go : (r : Unresolved) → None ≡ leaf_of (Err r)
+    go Unresolved.HeadMissing = refl
+    go (Unresolved.NestedMissing p) = refl
+    go (Unresolved.NonRecord p) = refl
+
+module _ (s c : List ℕ) where
+  pub context_taken : (a t : ℕ) → Standing (is_type s) (type_in s) (action_in s a).context t → (path : Row) (e : PathResolution) → resolution_of s c e ≡ context_path (type_in s t) (segments_in c path) → (r : Typed) → r ≡ result_ok e → typed_of s c r ≡ context_type (some (action_in s a)) (segments_in c path)
+  context_taken a t st path e is r i = context_typed s c a t st path e is r (i ∙ leaf_ok e)
+
+  pub taken_small : (e : PathResolution) → small_resolution (resolution_of s c e) → (r : Typed) → r ≡ result_ok e → small_type (typed_of s c r)
+  taken_small e h r i = context_small s c e h r (i ∙ leaf_ok e)
+
+pub ruleset ends = (rules, context_taken, taken_small)

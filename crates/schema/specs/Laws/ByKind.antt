@@ -1,7 +1,7 @@
 -- What a type is at a position, by the level left and the byte there. Assumes nothing.
-use Rattle.std.specs.Prelude.{◌≡◌, refl, Bool, false, List, eqb, length, get_or, Ok, Err, Some}
+use Rattle.std.specs.Prelude.{◌≡◌, ◌⊎◌, refl, Bool, false, cond, List, eqb, length, get_or, Result, Ok, Err, Some}
 use Rattle.std.proofs.Math.Path.{sym, ap₂}
-use Rattle.std.proofs.Common.{◌∙◌, sub-one, arith, rules}
+use Rattle.std.proofs.Common.{◌∙◌, ap, inl, inr, sub-one, arith, rules}
 use Rattle.std.proofs.Math.Option.{Option, none}
 use Prim.Native.Nat.{ℕ, zero, suc, ◌+◌, ◌-◌, ◌≤◌, ◌<◌}
 use borrow.Author.Tests.{le-leb, lt-leb, ne_eqb}
@@ -12,6 +12,8 @@ use Rattle.names.specs.declared.Class.TheVariants.{Plain}
 use Rattle.names.specs.Read.{ending, earlier, word_at, Read, Found}
 use Rattle.names.specs.Laws.Readers.{u8-end, u8_got, via, last, stops, goes, split, held, string_view, Each, each_below, ◌&◌}
 use Rattle.schema.specs.Schema.{Declared, kinds, type_at, attributes, attributes_of, ascending, after}
+use Rattle.schema.specs.Places.{kind_number, Decodes}
+use Rattle.schema.specs.declared.kind.TypeKind.{TypeKind}
 use Rattle.names.specs.declared.refusal.Refusal.{Refusal}
 use Rattle.names.specs.declared.refusal.Refusal.TheVariants.{Cut, UndefinedChoice, TooDeep, NotAscending}
 
@@ -101,6 +103,86 @@ module _ (s : List ℕ) (at l : ℕ) where
       pub type_leaf : get_or s at 0 ≤ 10 → (get_or s at 0 ≡ 3 → ⊥) → (get_or s at 0 ≡ 4 → ⊥) → (get_or s at 0 ≡ 6 → ⊥) → (get_or s at 0 ≡ 7 → ⊥) → Ok (at + 1) ≡ ending (type_at l s at)
       type_leaf k a b d e = via (type_kind s at l h z (get_or s at 0) refl) (choose_leaf (type_at (l - 1)) s (at + 1) (get_or s at 0) (omega arith) a b d e)
 
+-- two kinds of one number are one kind
+told : ℕ → TypeKind
+told n =
+    cond (eqb n 0) TypeKind.Long
+    (cond (eqb n 1) TypeKind.String
+    (cond (eqb n 2) TypeKind.Bool
+    (cond (eqb n 3) TypeKind.Extension
+    (cond (eqb n 4) TypeKind.Set
+    (cond (eqb n 5) TypeKind.AnySet
+    (cond (eqb n 6) TypeKind.Record
+    (cond (eqb n 7) TypeKind.Entity
+    (cond (eqb n 8) TypeKind.SeveralEntities
+    (cond (eqb n 9) TypeKind.AnyEntity TypeKind.Never)))))))))
+
+told_kind : (k : TypeKind) → told (kind_number k) ≡ k
+unfolding told
+told_kind TypeKind.Long = refl
+told_kind TypeKind.String = refl
+told_kind TypeKind.Bool = refl
+told_kind TypeKind.Extension = refl
+told_kind TypeKind.Set = refl
+told_kind TypeKind.AnySet = refl
+told_kind TypeKind.Record = refl
+told_kind TypeKind.Entity = refl
+told_kind TypeKind.SeveralEntities = refl
+told_kind TypeKind.AnyEntity = refl
+told_kind TypeKind.Never = refl
+
+pub one_kind : (j k : TypeKind) → kind_number k ≡ kind_number j → k ≡ j
+one_kind j k e = sym (told_kind k) ∙ ap told e ∙ told_kind j
+
+kind_small : (k : TypeKind) → kind_number k ≤ 10
+kind_small TypeKind.Long = omega arith
+kind_small TypeKind.String = omega arith
+kind_small TypeKind.Bool = omega arith
+kind_small TypeKind.Extension = omega arith
+kind_small TypeKind.Set = omega arith
+kind_small TypeKind.AnySet = omega arith
+kind_small TypeKind.Record = omega arith
+kind_small TypeKind.Entity = omega arith
+kind_small TypeKind.SeveralEntities = omega arith
+kind_small TypeKind.AnyEntity = omega arith
+kind_small TypeKind.Never = omega arith
+
+-- Each exit of `read_type` behind its first byte, by what this is decoded to.
+module _ (s : List ℕ) (at l : ℕ) (h : at < length s) (b : ℕ) (is_b : b ≡ get_or s at 0) (r : Result TypeKind Refusal) (d : Decodes b r) where
+  pub byte_undefined : (e : Refusal) → r ≡ Err e → Err e ≡ ending (type_at l s at)
+  byte_undefined e is =
+      let i : Decodes b (Err e) = rw is at d in
+      ap Err i.0 ∙ type_undefined s at l h (rw is_b at i.1)
+
+  module _ (k : TypeKind) (is : r ≡ Ok k) where
+    number : kind_number k ≡ get_or s at 0
+    number = let i : Decodes b (Ok k) = rw is at d in i ∙ is_b
+
+    known : get_or s at 0 ≤ 10
+    known = rw number at (kind_small k)
+
+    pub kind_deep : l ≡ 0 → Err TooDeep ≡ ending (type_at l s at)
+    kind_deep = type_deep s at l h known
+
+    module _ (z : l ≡ 0 → ⊥) where
+      pub kind_set : k ≡ TypeKind.Set → (x : Read) → x ≡ ending (type_at (l - 1) s (at + 1)) → x ≡ ending (type_at l s at)
+      kind_set e = type_set s at l h z (sym number ∙ ap kind_number e)
+
+      pub kind_record : k ≡ TypeKind.Record → (x : Read) → x ≡ ending (attributes (type_at (l - 1)) s (at + 1)) → x ≡ ending (type_at l s at)
+      kind_record e = type_object s at l h z (sym number ∙ ap kind_number e)
+
+      pub kind_named : (k ≡ TypeKind.Extension) ⊎ (k ≡ TypeKind.Entity) → (x : Read) → x ≡ ending (string_of path_name s (at + 1)) → x ≡ ending (type_at l s at)
+      kind_named (inl e) = type_extension s at l h z (sym number ∙ ap kind_number e)
+      kind_named (inr e) = type_entity s at l h z (sym number ∙ ap kind_number e)
+
+      pub kind_leaf : (k ≡ TypeKind.Set → ⊥) → (k ≡ TypeKind.Record → ⊥) → (k ≡ TypeKind.Extension → ⊥) → (k ≡ TypeKind.Entity → ⊥) → Ok (at + 1) ≡ ending (type_at l s at)
+      kind_leaf four six three seven =
+          type_leaf s at l h z known
+          (λ e. three (one_kind TypeKind.Extension k (number ∙ e)))
+          (λ e. four (one_kind TypeKind.Set k (number ∙ e)))
+          (λ e. six (one_kind TypeKind.Record k (number ∙ e)))
+          (λ e. seven (one_kind TypeKind.Entity k (number ∙ e)))
+
 -- Each exit and the turn of `read_attributes`: `whole` is the answer to all, as the answer to what is left.
 module _ (type : Reader Declared) (s : List ℕ) where
   pub attributes-end : (at : ℕ) → length s ≤ at → Err Cut ≡ ending (attributes type s at)
@@ -146,4 +228,4 @@ module _ (type : Reader Declared) (s : List ℕ) where
             go zero h i = absurd (omega arith)
             go (suc n) h i = i ∙ sym (goes _ _ e is λ w d. goes _ _ f is' λ t g. rw (sub-one, ascending_word _ _ s at d) (last _ _))
 
-pub ruleset types = (rules, type-end, type_undefined, type_deep, type_set, type_object, type_extension, type_entity, type_leaf, attributes-end, attributes_start, attributes_done, name_stops, type_stops, attributes_turn)
+pub ruleset types = (rules, type-end, byte_undefined, kind_deep, kind_set, kind_record, kind_named, kind_leaf, attributes-end, attributes_start, attributes_done, name_stops, type_stops, attributes_turn)

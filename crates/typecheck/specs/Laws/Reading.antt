@@ -1,4 +1,6 @@
--- What the check says by the reading of its records: `check_reading`; and what the reading of accepted ones is: `accepted_reading`. Assumes nothing.
+-- What is said of three records in their order, by their reading: `by_order`; what the check says
+-- by it: `check_reading`; and what the reading of accepted ones is: `accepted_reading`. Assumes
+-- nothing.
 use Rattle.std.specs.Prelude.{◌≡◌, refl, List, ℕ}
 use Rattle.names.specs.Fields.{Got, got, bad, either, whole}
 use Rattle.names.specs.Read.{value_or}
@@ -13,7 +15,8 @@ use Rattle.typecheck.specs.Check.{choices_of, unvisited, checked, check_with_by,
 use Rattle.typecheck.specs.Run.{Accepted, refused, read, reading, by_reading}
 
 -- what is said of the three records in their order is said of their reading
-by_order : {A : Type 0} (f : ℕ → ℕ → A) (g : Schema → Condition → Targets → A) (s : Got Schema) (c : Got Condition) (n : Got Targets)
+pub by_order : {A : Type 0} (f : ℕ → ℕ → A) (g : Schema → Condition → Targets → A)
+    (s : Got Schema) (c : Got Condition) (n : Got Targets)
     → either (λ r. f r 1) (λ s. either (λ r. f r 2) (λ c. either (λ r. f r 3) (λ ts. g s c ts) n) c) s
     ≡ by_reading f g (either (λ r. refused r 1) (λ s. either (λ r. refused r 2) (λ c. either (λ r. refused r 3) (λ ts. read s c ts) n) c) s)
 by_order f g (bad r) c n = refl

@@ -1,6 +1,7 @@
 -- The readers of a condition meet their contracts: one cycle of calls. Assumes nothing.
 use Rattle.condition.proofs.Sequences.{unaries, binaries, predicates, comparisons, binding, sums, counts, ariths, argument_rows, element_rows}
-use Rattle.condition.specs.Laws.ByKind.{conditions, terms, aggregates, bare_unary, binary_low, binary_since, unary_low, value_read}
+use Rattle.condition.specs.Condition.{term_at}
+use Rattle.condition.specs.Laws.Decoded.{conditions, terms, aggregates}
 use Rattle.names.specs.Laws.Readers.{handed_on}
 use Rattle.condition.proofs.read.+conditions_and_terms.Goals as goal
 
@@ -124,17 +125,17 @@ read_unary-returns t c = search (unaries, c.in_ok-p.was, c.in_ok-n.was)
 pub read_aggregate-returns-in_default : goal.read_aggregate-returns-in_default
 read_aggregate-returns-in_default t c = search aggregates
 
-pub read_aggregate-returns-in-1 : goal.read_aggregate-returns-in-1
-read_aggregate-returns-in-1 t c = search aggregates
+pub read_aggregate-returns-in_err-try_from : goal.read_aggregate-returns-in_err-try_from
+read_aggregate-returns-in_err-try_from t c = handed_on c.from_residual.ensures.1 (search (aggregates, c.in_err-try_from.was))
 
-pub read_aggregate-returns-in-2 : goal.read_aggregate-returns-in-2
-read_aggregate-returns-in-2 t c = search aggregates
+pub read_aggregate-returns-in-Sum : goal.read_aggregate-returns-in-Sum
+read_aggregate-returns-in-Sum t c = search (aggregates, c.in_ok-try_from.was)
 
-pub read_aggregate-returns-in-3 : goal.read_aggregate-returns-in-3
-read_aggregate-returns-in-3 t c = search aggregates
+pub read_aggregate-returns-in-Count : goal.read_aggregate-returns-in-Count
+read_aggregate-returns-in-Count t c = search (aggregates, c.in_ok-try_from.was)
 
-pub read_aggregate-returns-in_default-kind : goal.read_aggregate-returns-in_default-kind
-read_aggregate-returns-in_default-kind t c = search aggregates
+pub read_aggregate-returns-in-Call : goal.read_aggregate-returns-in-Call
+read_aggregate-returns-in-Call t c = search (aggregates, c.in_ok-try_from.was)
 
 pub read_arguments-returns-in_default : goal.read_arguments-returns-in_default
 read_arguments-returns-in_default t c = search argument_rows
@@ -145,68 +146,69 @@ read_elements-returns-in_default t c = search element_rows
 pub read_subcondition-returns-in_default : goal.read_subcondition-returns-in_default
 read_subcondition-returns-in_default t c = search conditions
 
-pub read_subcondition-returns-then-not-matches : goal.read_subcondition-returns-then-not-matches
-read_subcondition-returns-then-not-matches t c = search conditions
+pub read_subcondition-returns-in_err-kind : goal.read_subcondition-returns-in_err-kind
+read_subcondition-returns-in_err-kind t c = handed_on c.from_residual.ensures.1 (search (conditions, c.in_err-kind.was))
 
 pub read_subcondition-returns-then-left-eq0 : goal.read_subcondition-returns-then-left-eq0
-read_subcondition-returns-then-left-eq0 t c = search conditions
+read_subcondition-returns-then-left-eq0 t c = search (conditions, c.in_ok-kind.was)
 
-pub read_subcondition-returns-in-3 : goal.read_subcondition-returns-in-3
-read_subcondition-returns-in-3 t c = bare_unary _ _ _ _ (search conditions) (search conditions) _ (search conditions) c.read_unary.ensures
+pub read_subcondition-returns-in-And : goal.read_subcondition-returns-in-And
+read_subcondition-returns-in-And t c = search (conditions, c.in_ok-kind.was, c.read_binary.ensures)
 
-pub read_subcondition-returns-in-6 : goal.read_subcondition-returns-in-6
-read_subcondition-returns-in-6 t c = binary_since _ _ _ _ (search conditions) (search conditions) _ (search conditions) c.read_binary.ensures
+pub read_subcondition-returns-in-Not : goal.read_subcondition-returns-in-Not
+read_subcondition-returns-in-Not t c = search (conditions, c.in_ok-kind.was, c.read_unary.ensures)
 
-pub read_subcondition-returns-in-7 : goal.read_subcondition-returns-in-7
-read_subcondition-returns-in-7 t c = search conditions
+pub read_subcondition-returns-in-Formerly : goal.read_subcondition-returns-in-Formerly
+read_subcondition-returns-in-Formerly t c = search (conditions, c.in_ok-kind.was, c.read_unary-in-Formerly.ensures)
 
-pub read_subcondition-returns-in-8 : goal.read_subcondition-returns-in-8
-read_subcondition-returns-in-8 t c = search conditions
+pub read_subcondition-returns-in-Since : goal.read_subcondition-returns-in-Since
+read_subcondition-returns-in-Since t c = search (conditions, c.in_ok-kind.was, c.read_binary-in-Since.ensures)
 
-pub read_subcondition-returns-in-9 : goal.read_subcondition-returns-in-9
-read_subcondition-returns-in-9 t c = search conditions
+pub read_subcondition-returns-in-Predicate : goal.read_subcondition-returns-in-Predicate
+read_subcondition-returns-in-Predicate t c = search (conditions, c.in_ok-kind.was)
 
-pub read_subcondition-returns-in-10 : goal.read_subcondition-returns-in-10
-read_subcondition-returns-in-10 t c = search conditions
+pub read_subcondition-returns-in-Comparison : goal.read_subcondition-returns-in-Comparison
+read_subcondition-returns-in-Comparison t c = search (conditions, c.in_ok-kind.was)
 
-pub read_subcondition-returns-in-1 : goal.read_subcondition-returns-in-1
-read_subcondition-returns-in-1 t c = binary_low _ _ _ _ (search conditions) (search conditions) (search conditions) (search conditions) _ c.read_binary-in-1.ensures
+pub read_subcondition-returns-in-Exists : goal.read_subcondition-returns-in-Exists
+read_subcondition-returns-in-Exists t c = search (conditions, c.in_ok-kind.was)
 
-pub read_subcondition-returns-in-4 : goal.read_subcondition-returns-in-4
-read_subcondition-returns-in-4 t c = unary_low _ _ _ _ (search conditions) (search conditions) _ (search conditions) (search conditions) (search conditions) c.read_unary-in-4.ensures
+pub read_subcondition-returns-in-Timepoint : goal.read_subcondition-returns-in-Timepoint
+read_subcondition-returns-in-Timepoint t c = search (conditions, c.in_ok-kind.was)
 
-pub read_subcondition-returns-in_default-kind : goal.read_subcondition-returns-in_default-kind
-read_subcondition-returns-in_default-kind t c = search conditions
+pub read_subcondition-returns-in-Call : goal.read_subcondition-returns-in-Call
+read_subcondition-returns-in-Call t c = search (conditions, c.in_ok-kind.was)
 
 pub read_term-returns-in_default : goal.read_term-returns-in_default
 read_term-returns-in_default t c = search terms
 
-pub read_term-returns-then-not-matches : goal.read_term-returns-then-not-matches
-read_term-returns-then-not-matches t c = search terms
+pub read_term-returns-in_err-kind : goal.read_term-returns-in_err-kind
+read_term-returns-in_err-kind t c = handed_on c.from_residual.ensures.1 (search (terms, c.in_err-kind.was))
 
 pub read_term-returns-then-left-eq0 : goal.read_term-returns-then-left-eq0
-read_term-returns-then-left-eq0 t c = search terms
+read_term-returns-then-left-eq0 t c = search (terms, c.in_ok-kind.was)
 
-pub read_term-returns-in-8 : goal.read_term-returns-in-8
-read_term-returns-in-8 t c = search terms
+pub read_term-returns-in-Entity : goal.read_term-returns-in-Entity
+unfolding term_at
+read_term-returns-in-Entity t c = search (terms, c.in_ok-kind.was, c.read_value.ensures)
 
-pub read_term-returns-in-10 : goal.read_term-returns-in-10
-read_term-returns-in-10 t c = search terms
+pub read_term-returns-in-ContextField : goal.read_term-returns-in-ContextField
+read_term-returns-in-ContextField t c = search (terms, c.in_ok-kind.was)
 
-pub read_term-returns-in-11 : goal.read_term-returns-in-11
-read_term-returns-in-11 t c = search terms
+pub read_term-returns-in-Var : goal.read_term-returns-in-Var
+read_term-returns-in-Var t c = search (terms, c.in_ok-kind.was)
 
-pub read_term-returns-in-11-2 : goal.read_term-returns-in-11-2
-read_term-returns-in-11-2 t c = search terms
+pub read_term-returns-in-Array : goal.read_term-returns-in-Array
+read_term-returns-in-Array t c = search (terms, c.in_ok-kind.was)
 
-pub read_term-returns-in-12 : goal.read_term-returns-in-12
-read_term-returns-in-12 t c = search terms
+pub read_term-returns-in-Aggregate : goal.read_term-returns-in-Aggregate
+read_term-returns-in-Aggregate t c = search (terms, c.in_ok-kind.was)
 
-pub read_term-returns-in-1-to-5 : goal.read_term-returns-in-1-to-5
-read_term-returns-in-1-to-5 t c = value_read _ _ _ _ _ (search terms) (search terms) _ _ (search terms) c.read_value.ensures
+pub read_term-returns-in-Aggregate-2 : goal.read_term-returns-in-Aggregate-2
+read_term-returns-in-Aggregate-2 t c = search (terms, c.in_ok-kind.was)
 
-pub read_term-returns-in-6 : goal.read_term-returns-in-6
-read_term-returns-in-6 t c = search terms
+pub read_term-returns-in-Arith : goal.read_term-returns-in-Arith
+read_term-returns-in-Arith t c = search (terms, c.in_ok-kind.was)
 
-pub read_term-returns-in_default-kind-2 : goal.read_term-returns-in_default-kind-2
-read_term-returns-in_default-kind-2 t c = search terms
+pub read_term-returns-in-Wildcard : goal.read_term-returns-in-Wildcard
+read_term-returns-in-Wildcard t c = search (terms, c.in_ok-kind.was)

@@ -3,7 +3,7 @@ use lib.ListN.{length}
 use Rattle.lookup.proofs.ambiguous.measure_types.Given as goal
 
 abbrev pub invariant-loop-t : goal.invariant-loop-t
-invariant-loop-t l = CountingTypes l.s l.n l.c (record { narrowing = l.narrowing; types = l.row; path = l.path }) l.last l.m
+invariant-loop-t l = CountingTypes l.q l.last l.m
 
 abbrev pub decreases-loop-t : goal.decreases-loop-t
-decreases-loop-t l = length (behind l.s l.n l.c (record { narrowing = l.narrowing; types = l.row; path = l.path }) l.last)
+decreases-loop-t l = length (behind l.q l.last)

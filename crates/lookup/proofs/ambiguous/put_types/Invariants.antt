@@ -3,7 +3,7 @@ use lib.ListN.{length}
 use Rattle.lookup.proofs.ambiguous.put_types.Given as goal
 
 abbrev pub invariant-loop-t : goal.invariant-loop-t
-invariant-loop-t l = PuttingTypes l.s l.n l.c (record { narrowing = l.narrowing; types = l.row; path = l.path }) l.initial.out l.at l.last l.out l.place
+invariant-loop-t l = PuttingTypes l.q l.initial.out l.at l.last l.out l.place
 
 abbrev pub decreases-loop-t : goal.decreases-loop-t
-decreases-loop-t l = length (behind l.s l.n l.c (record { narrowing = l.narrowing; types = l.row; path = l.path }) l.last)
+decreases-loop-t l = length (behind l.q l.last)

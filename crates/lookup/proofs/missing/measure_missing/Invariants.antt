@@ -2,7 +2,7 @@ use Rattle.lookup.proofs.Listing.{CountingMissing}
 use Rattle.lookup.proofs.missing.measure_missing.Given as goal
 
 abbrev pub invariant-loop-p : goal.invariant-loop-p
-invariant-loop-p l = CountingMissing l.s l.n l.c (record { narrowing = l.narrowing; types = l.initial.left; path = l.path }) l.segment l.left l.m
+invariant-loop-p l = CountingMissing l.q l.segment l.left l.m
 
 abbrev pub decreases-loop-p : goal.decreases-loop-p
 decreases-loop-p l = l.left.count

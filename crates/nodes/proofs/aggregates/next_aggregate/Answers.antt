@@ -5,8 +5,8 @@ use Rattle.nodes.proofs.aggregates.next_aggregate.Goals as goal
 
 ruleset steps = (along_aggregates, leaf_next, leaf_stands, fewer_leaves)
 
-pub returns-then-term_kind_at-eq11 : goal.returns-then-term_kind_at-eq11
-returns-then-term_kind_at-eq11 c = search steps
+pub returns-then-eq : goal.returns-then-eq
+returns-then-eq c = search steps
 
 pub loop-at-preserved : goal.loop-at-preserved
 loop-at-preserved c = search steps

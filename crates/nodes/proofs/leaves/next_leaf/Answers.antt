@@ -17,11 +17,11 @@ left_part-at-requires c = search along_leaves
 pub overflow_add-further : goal.overflow_add-further
 overflow_add-further c = search along_leaves
 
-pub loop-at-smaller : goal.loop-at-smaller
-loop-at-smaller c = search along_leaves
-
 pub loop-at-preserved : goal.loop-at-preserved
 loop-at-preserved c = search along_leaves
+
+pub loop-at-smaller : goal.loop-at-smaller
+loop-at-smaller c = search along_leaves
 
 pub past_term-requires : goal.past_term-requires
 past_term-requires c = search along_leaves

@@ -5,8 +5,8 @@ use Rattle.nodes.proofs.parts.kind_at.Goals as goal
 pub bounds-s-at : goal.bounds-s-at
 bounds-s-at c = search opening
 
-pub returns-in-12 : goal.returns-in-12
-returns-in-12 c = search opening
+pub returns-in-SigilRef : goal.returns-in-SigilRef
+returns-in-SigilRef c = search opening
 
 pub returns-in_default : goal.returns-in_default
 returns-in_default c = search opening

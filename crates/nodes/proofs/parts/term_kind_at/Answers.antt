@@ -5,8 +5,5 @@ use Rattle.nodes.proofs.parts.term_kind_at.Goals as goal
 pub bounds-s-at : goal.bounds-s-at
 bounds-s-at c = search opening
 
-pub returns-in-14 : goal.returns-in-14
-returns-in-14 c = search opening
-
-pub returns-in_default : goal.returns-in_default
-returns-in_default c = search opening
+pub returns : goal.returns
+returns c = search opening

@@ -7,16 +7,16 @@ returns-in_default-clause-result_value c = search along
 pub loop-init : goal.loop-init
 loop-init c = search along
 
-pub record_fields-inner-requires : goal.record_fields-inner-requires
-record_fields-inner-requires c = search along
+pub record_fields-requires : goal.record_fields-requires
+record_fields-requires c = search along
 
-pub returns-in_default-inner-clause-result_value :
-    goal.returns-in_default-inner-clause-result_value
-returns-in_default-inner-clause-result_value c = search along
+pub returns-in_default-record_fields-clause-result_value :
+    goal.returns-in_default-record_fields-clause-result_value
+returns-in_default-record_fields-clause-result_value c = search along
 
-pub returns-in_default-found-clause-result_value :
-    goal.returns-in_default-found-clause-result_value
-returns-in_default-found-clause-result_value c = search along
+pub returns-in_default-attribute-clause-result_value :
+    goal.returns-in_default-attribute-clause-result_value
+returns-in_default-attribute-clause-result_value c = search along
 
 pub past_word-at-requires : goal.past_word-at-requires
 past_word-at-requires c = search along
@@ -24,8 +24,8 @@ past_word-at-requires c = search along
 pub loop-preserved : goal.loop-preserved
 loop-preserved c = search along
 
-pub rich_type-leaf-requires : goal.rich_type-leaf-requires
-rich_type-leaf-requires c = search along
+pub rich_type-requires : goal.rich_type-requires
+rich_type-requires c = search along
 
 pub returns-clause-result_value : goal.returns-clause-result_value
 returns-clause-result_value c = search along

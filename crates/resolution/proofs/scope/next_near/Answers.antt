@@ -7,8 +7,8 @@ loop-left-init c = search scanning
 pub past_word-next-requires : goal.past_word-next-requires
 past_word-next-requires c = search scanning
 
-pub nearer-near-requires-clause-nearby : goal.nearer-near-requires-clause-nearby
-nearer-near-requires-clause-nearby c = search scanning
+pub nearer-near-requires : goal.nearer-near-requires
+nearer-near-requires c = search scanning
 
 pub returns-then-admits_near : goal.returns-then-admits_near
 returns-then-admits_near c = search scanning

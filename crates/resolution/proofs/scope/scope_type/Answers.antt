@@ -16,4 +16,4 @@ returns-clause-by_index c =
     _ c.is_some.ensures _ c.if-is_some.false _ c.from-2.ensures c.tag_at.ensures.by_index
 
 pub returns-clause-by_index_2 : goal.returns-clause-by_index_2
-returns-clause-by_index_2 c = search (tagging, c.in_ok-p.was, c.tag_at.ensures.by_index)
+returns-clause-by_index_2 c = search (tagging, c.tag_at.ensures.short)

@@ -5,4 +5,4 @@ use Rattle.schema.proofs.ActionRow.{Actions}
 use Rattle.schema.proofs.find.action_among.Given as goal
 
 abbrev pub invariant-loop : goal.invariant-loop
-invariant-loop l = Actions l.s (namespace_in l.n l.namespace) l.id (find_action (schema_in l.s) (namespace_in l.n l.namespace) l.id) (l.end - l.counter) l.at
+invariant-loop l = Actions l.s (namespace_in l.namespace) l.id (find_action (schema_in l.s) (namespace_in l.namespace) l.id) (l.end - l.counter) l.at

@@ -7,4 +7,4 @@ use Rattle.schema.proofs.TypeNames.{PartsLeft}
 use Rattle.schema.proofs.find.is_type_of_parts.Given as goal
 
 abbrev pub invariant-loop : goal.invariant-loop
-invariant-loop l = (l.from ≤ length l.t) × PartsLeft l.t l.c (same l.t (action_type (joined (row_in (string_of path_name) l.c l.end l.initial.at)))) (l.end - l.counter) l.at l.from
+invariant-loop l = (l.from ≤ length l.t) × PartsLeft l.t l.parts.bytes.now (same l.t (action_type (joined (row_in (string_of path_name) l.parts.bytes.now l.end l.initial.at)))) (l.end - l.counter) l.at l.from

@@ -8,11 +8,11 @@ count_at-requires c = search insides
 pub past_word-requires : goal.past_word-requires
 past_word-requires c = search insides
 
-pub returns-in-6 : goal.returns-in-6
-returns-in-6 c = search insides
+pub returns-in-Record : goal.returns-in-Record
+returns-in-Record c = search insides
 
-pub returns-in-3 : goal.returns-in-3
-returns-in-3 c = search insides
+pub returns-in-Extension : goal.returns-in-Extension
+returns-in-Extension c = search insides
 
 pub returns-in_default : goal.returns-in_default
 returns-in_default c = search insides

@@ -7,4 +7,4 @@ use Rattle.schema.proofs.Passing.{Passing}
 use Rattle.schema.proofs.past.past_entities.Given as goal
 
 abbrev pub invariant-loop : goal.invariant-loop
-invariant-loop l = Passing (entity_type none) l.s (ending (entities_at l.count l.s l.start)) (l.count - l.counter) l.at
+invariant-loop l = Passing (entity_type none) l.s (ending (entities_at l.end l.s l.initial.at)) (l.end - l.counter) l.at

@@ -24,20 +24,20 @@ read_attributes-returns t c = search types
 pub read_type-returns-in_default : goal.read_type-returns-in_default
 read_type-returns-in_default t c = search types
 
-pub read_type-returns-then-kind-gt10 : goal.read_type-returns-then-kind-gt10
-read_type-returns-then-kind-gt10 t c = search types
+pub read_type-returns-in_err-kind : goal.read_type-returns-in_err-kind
+read_type-returns-in_err-kind t c = handed_on c.from_residual.ensures.1 (search (types, c.in_err-kind.was))
 
 pub read_type-returns-then-left-eq0 : goal.read_type-returns-then-left-eq0
-read_type-returns-then-left-eq0 t c = search types
+read_type-returns-then-left-eq0 t c = search (types, c.in_ok-kind.was)
 
-pub read_type-returns-in-4 : goal.read_type-returns-in-4
-read_type-returns-in-4 t c = search types
+pub read_type-returns-in-Set : goal.read_type-returns-in-Set
+read_type-returns-in-Set t c = search (types, c.in_ok-kind.was)
 
-pub read_type-returns-in-6 : goal.read_type-returns-in-6
-read_type-returns-in-6 t c = search types
+pub read_type-returns-in-Record : goal.read_type-returns-in-Record
+read_type-returns-in-Record t c = search (types, c.in_ok-kind.was)
 
-pub read_type-returns-in-3 : goal.read_type-returns-in-3
-read_type-returns-in-3 t c = search types
+pub read_type-returns-in-Extension : goal.read_type-returns-in-Extension
+read_type-returns-in-Extension t c = search (types, c.in_ok-kind.was)
 
 pub read_type-returns-in_default-kind : goal.read_type-returns-in_default-kind
-read_type-returns-in_default-kind t c = search types
+read_type-returns-in_default-kind t c = search (types, c.in_ok-kind.was)

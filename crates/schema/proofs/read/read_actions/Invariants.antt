@@ -8,4 +8,4 @@ use mathlib.Core.Path.{◌≡◌}
 use Rattle.schema.proofs.read.read_actions.Given as goal
 
 abbrev pub invariant-loop : goal.invariant-loop
-invariant-loop l = ending (many key_of action l.count none l.s l.start) ≡ ending (many key_of action (l.count - l.counter) (earlier_key l.s l.before) l.s l.at)
+invariant-loop l = ending (many key_of action l.end none l.s l.initial.at) ≡ ending (many key_of action (l.end - l.counter) (earlier_key l.s l.before) l.s l.at)

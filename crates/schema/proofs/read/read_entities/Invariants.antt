@@ -7,4 +7,4 @@ use mathlib.Core.Path.{◌≡◌}
 use Rattle.schema.proofs.read.read_entities.Given as goal
 
 abbrev pub invariant-loop : goal.invariant-loop
-invariant-loop l = ending (many (λ e. e.name) entity_type l.count none l.s l.start) ≡ ending (many (λ e. e.name) entity_type (l.count - l.counter) (earlier l.s l.before) l.s l.at)
+invariant-loop l = ending (many (λ e. e.name) entity_type l.end none l.s l.initial.at) ≡ ending (many (λ e. e.name) entity_type (l.end - l.counter) (earlier l.s l.before) l.s l.at)

@@ -5,29 +5,29 @@ use Rattle.schema.proofs.rich.base_at.Goals as goal
 pub tag_at-requires : goal.tag_at-requires
 tag_at-requires c = search bases
 
-pub returns-in-0 : goal.returns-in-0
-returns-in-0 c = search bases
+pub returns-in-Long : goal.returns-in-Long
+returns-in-Long c = search bases
 
-pub returns-in-1 : goal.returns-in-1
-returns-in-1 c = search bases
+pub returns-in-String : goal.returns-in-String
+returns-in-String c = search bases
 
-pub returns-in-2 : goal.returns-in-2
-returns-in-2 c = search bases
+pub returns-in-Bool : goal.returns-in-Bool
+returns-in-Bool c = search bases
 
-pub returns-in-3 : goal.returns-in-3
-returns-in-3 c = search bases
+pub returns-in-Extension : goal.returns-in-Extension
+returns-in-Extension c = search bases
 
-pub returns-in-5 : goal.returns-in-5
-returns-in-5 c = search bases
+pub returns-in-AnySet : goal.returns-in-AnySet
+returns-in-AnySet c = search bases
 
-pub returns-in-6 : goal.returns-in-6
-returns-in-6 c = search bases
+pub returns-in-Record : goal.returns-in-Record
+returns-in-Record c = search bases
 
-pub returns-in-7 : goal.returns-in-7
-returns-in-7 c = search bases
+pub returns-in-Entity : goal.returns-in-Entity
+returns-in-Entity c = search bases
 
-pub returns-in-10 : goal.returns-in-10
-returns-in-10 c = search bases
+pub returns-in-Never : goal.returns-in-Never
+returns-in-Never c = search bases
 
-pub returns-in_default : goal.returns-in_default
-returns-in_default c = search bases
+pub returns-in-Set : goal.returns-in-Set
+returns-in-Set c = search bases

@@ -2,8 +2,8 @@
 use Rattle.steps.proofs.Calls.{calls}
 use Rattle.steps.proofs.run.start.Goals as goal
 
+pub returns-in-Ok : goal.returns-in-Ok
+returns-in-Ok c = search calls
+
 pub returns-in-Err : goal.returns-in-Err
 returns-in-Err c = search calls
-
-pub returns : goal.returns
-returns c = search calls

@@ -12,7 +12,7 @@ use Rattle.sums.proofs.terms.in_term.Given as goal
 
 abbrev pub invariant-loop-leaf : goal.invariant-loop-leaf
 invariant-loop-leaf l =
-    (length l.buf ≡ length l.initial.buf) × LeavesOn (binding_in l.place.binding) (binders_at l.s l.place) l.s (append_all (sink l.initial.buf l.initial.now) (term_breaches (binding_in l.place.binding) (binders_at l.s l.place) (term_in l.s l.at))) (sink l.buf l.now) l.left
+    (length l.buf ≡ length l.initial.buf) × LeavesOn (binding_in l.place.binding) (binders_at l.place) l.s (append_all (sink l.initial.buf l.initial.now) (term_breaches (binding_in l.place.binding) (binders_at l.place) (term_in l.s l.at))) (sink l.buf l.now) l.left
 
 abbrev pub decreases-loop-leaf : goal.decreases-loop-leaf
 decreases-loop-leaf l = length (leaves_in l.s l.left.count l.left.first)

@@ -5,4 +5,4 @@ use Rattle.targets.proofs.Accepted.{Ahead}
 use Rattle.targets.proofs.list.target_at.Given as goal
 
 abbrev pub invariant-loop : goal.invariant-loop
-invariant-loop l = Ahead l.s (target_at l.position (targets_in l.s).list) (l.position - l.counter) l.at
+invariant-loop l = Ahead l.s.bytes.now (target_at l.position (targets_in l.s.bytes.now).list) (l.position - l.counter) l.at

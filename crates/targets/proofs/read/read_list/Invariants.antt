@@ -6,4 +6,4 @@ use mathlib.Core.Path.{◌≡◌}
 use Rattle.targets.proofs.read.read_list.Given as goal
 
 abbrev pub invariant-loop : goal.invariant-loop
-invariant-loop l = ending (counted (each target) l.s l.start) ≡ ending (row target (l.end - l.counter) l.s l.at)
+invariant-loop l = ending (counted (each target) l.s l.start) ≡ ending (row target (l.count - l.counter) l.s l.at)

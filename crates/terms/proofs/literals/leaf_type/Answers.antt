@@ -8,8 +8,8 @@ entity_tag-tag-requires-clause-at_in_bounds c = search leaves
 pub entity_tag-tag-requires-clause-at_in_bounds_2 : goal.entity_tag-tag-requires-clause-at_in_bounds_2
 entity_tag-tag-requires-clause-at_in_bounds_2 c = search leaves
 
-pub returns-then-kind-eq1 : goal.returns-then-kind-eq1
-returns-then-kind-eq1 c = search leaves
+pub returns-in-Entity : goal.returns-in-Entity
+returns-in-Entity c = search leaves
 
-pub returns : goal.returns
-returns c = search leaves
+pub returns-in_default : goal.returns-in_default
+returns-in_default c = search leaves

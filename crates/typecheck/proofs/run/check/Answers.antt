@@ -5,8 +5,8 @@ use Rattle.typecheck.proofs.run.check.Goals as goal
 pub returns-in-Err : goal.returns-in-Err
 returns-in-Err c = search answering
 
-pub checked-requires-clause-empty : goal.checked-requires-clause-empty
-checked-requires-clause-empty c = search answering
+pub checked-requires : goal.checked-requires
+checked-requires c = search answering
 
 pub returns : goal.returns
 returns c = search answering

@@ -1,7 +1,0 @@
--- `lookup::strings::word_length` meets its contract. Assumes nothing.
-use Rattle.lookup.proofs.Parts.{strings}
-use Rattle.lookup.proofs.strings.word_length.Statement.{statement}
-use Rattle.lookup.proofs.strings.word_length.Tie as tie
-
-pub word_length_spec : {M : Type 1} → statement M
-word_length_spec = tie.close (tie.spec (λ c κs. search strings) (λ c. search strings))

@@ -1,8 +1,0 @@
--- `nodes::parts::aggregate_span_at` meets its contract. Assumes nothing.
-use native.Mathlib.Omega.{arith}
-use Rattle.nodes.specs.Laws.Pieces.{pieces, aggregate_span_room}
-use Rattle.nodes.proofs.parts.aggregate_span_at.Statement.{statement}
-use Rattle.nodes.proofs.parts.aggregate_span_at.Tie as tie
-
-pub aggregate_span_at_spec : {M : Type 1} → statement M
-aggregate_span_at_spec = tie.close (tie.spec (λ c. omega (arith, aggregate_span_room _ _ c.before.requires)) (λ c κs. search pieces) (λ c. search pieces))

@@ -1,7 +1,0 @@
--- `nodes::parts::binders_at` meets its contract. Assumes nothing.
-use Rattle.nodes.specs.Laws.Pieces.{pieces}
-use Rattle.nodes.proofs.parts.binders_at.Statement.{statement}
-use Rattle.nodes.proofs.parts.binders_at.Tie as tie
-
-pub binders_at_spec : {M : Type 1} → statement M
-binders_at_spec = tie.close (tie.spec (λ c κs. search pieces) (λ c. search pieces) (λ c κs. search pieces) (λ c. search pieces) (λ c. search pieces) (λ c. search pieces))

@@ -1,7 +1,0 @@
--- `schema::parts::principals_at` meets its contract. Assumes nothing.
-use Rattle.schema.proofs.Views.{action_parts}
-use Rattle.schema.proofs.parts.principals_at.Statement.{statement}
-use Rattle.schema.proofs.parts.principals_at.Tie as tie
-
-pub principals_at_spec : {M : Type 1} → statement M
-principals_at_spec = tie.close (tie.spec (λ c κs. search action_parts) (λ c κs. search action_parts) (λ c. search action_parts))

@@ -1,7 +1,0 @@
--- `schema::parts::resources` meets its contract. Assumes nothing.
-use Rattle.schema.proofs.Views.{action_parts}
-use Rattle.schema.proofs.parts.resources.Statement.{statement}
-use Rattle.schema.proofs.parts.resources.Tie as tie
-
-pub resources_spec : {M : Type 1} → statement M
-resources_spec = tie.close (tie.spec (λ c κs. search action_parts) (λ c κs. search action_parts) (λ c. search action_parts))

@@ -1,0 +1,12 @@
+// A schema that was read: bytes that are known to be one, so that no function asks for it again.
+//
+// There is a struct for each record: the fact in it is the difference, and no type takes a fact as
+// a parameter.
+ghost use Rattle.std.specs.Prelude.{◌≡◌, true};
+ghost use Rattle.schema.specs.Places.{is_schema};
+
+#[derive(Clone, Copy)]
+pub struct SchemaRecord<'a> {
+    pub bytes: &'a [u8],
+    pub ghost accepted: { is_schema bytes.now ≡ true },
+}

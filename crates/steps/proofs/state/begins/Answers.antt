@@ -1,0 +1,6 @@
+-- `steps::state::begins` meets its contract. Assumes nothing.
+use Rattle.steps.proofs.States.{states}
+use Rattle.steps.proofs.state.begins.Goals as goal
+
+pub returns : goal.returns
+returns c = search states

@@ -1,0 +1,6 @@
+-- `steps::state::refused` meets its contract. Assumes nothing.
+use Rattle.steps.proofs.States.{states}
+use Rattle.steps.proofs.state.refused.Goals as goal
+
+pub returns : goal.returns
+returns c = search states
