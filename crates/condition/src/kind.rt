@@ -1,26 +1,27 @@
 // The kinds of conditions, terms and aggregates, by the byte that one begins with (document 01).
 //
 // The variants stand in the order of their bytes, so that a byte is turned into a kind by one test
-// of its range and one subtraction.
+// of its range and at most one subtraction.
+ghost use Rattle.std.specs.Prelude.{◌≡◌};
 ghost use Rattle.condition.specs.Kinds.{Decodes, kind_number, term_kind_number, aggregate_kind_number};
 
 use names::Refusal;
 
 #[derive(Clone, Copy, PartialEq)]
 pub enum Kind {
-    And,
-    Or,
-    Not,
-    Formerly,
-    Previous,
-    Since,
-    Predicate,
-    Comparison,
-    Exists,
-    Timepoint,
-    Call,
-    SigilRef,
-    Refine,
+    And = 1,
+    Or = 2,
+    Not = 3,
+    Formerly = 4,
+    Previous = 5,
+    Since = 6,
+    Predicate = 7,
+    Comparison = 8,
+    Exists = 9,
+    Timepoint = 10,
+    Call = 11,
+    SigilRef = 12,
+    Refine = 13,
 }
 
 #[derive(Clone, Copy)]
@@ -71,6 +72,15 @@ impl TryFrom<u8> for Kind {
             13 => Ok(Kind::Refine),
             _ => Err(Refusal::UndefinedChoice),
         }
+    }
+}
+
+// The byte that a condition of the kind begins with.
+impl From<Kind> for u8 {
+    ghost from_gives = { λ kind byte. byte ≡ kind_number kind };
+
+    fn from(kind: Kind) -> u8 {
+        kind as u8
     }
 }
 

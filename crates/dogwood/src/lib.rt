@@ -26,7 +26,7 @@ pub use steps::{Stepped, Steps};
 pub use typecheck::CheckAnswer;
 
 // The number with which a schema record is refused, 0 for none.
-#[tactic(auto, using(names::specs::Laws::Readers::number_of_lem))]
+#[tactic(auto, using(names::specs::Laws::Readers::refusal_numbers))]
 pub fn dogwood_read_schema(bytes: &[u8]) -> u8
     ensures { result ≡ refusal_number (whole schema_record bytes.now) }
 {
@@ -34,7 +34,7 @@ pub fn dogwood_read_schema(bytes: &[u8]) -> u8
 }
 
 // The same of a condition record.
-#[tactic(auto, using(names::specs::Laws::Readers::number_of_lem))]
+#[tactic(auto, using(names::specs::Laws::Readers::refusal_numbers))]
 pub fn dogwood_read_condition(bytes: &[u8]) -> u8
     ensures { result ≡ refusal_number (whole condition_record bytes.now) }
 {
@@ -42,7 +42,7 @@ pub fn dogwood_read_condition(bytes: &[u8]) -> u8
 }
 
 // The same of a target record.
-#[tactic(auto, using(names::specs::Laws::Readers::number_of_lem))]
+#[tactic(auto, using(names::specs::Laws::Readers::refusal_numbers))]
 pub fn dogwood_read_targets(bytes: &[u8]) -> u8
     ensures { result ≡ refusal_number (whole target_record bytes.now) }
 {
@@ -50,7 +50,7 @@ pub fn dogwood_read_targets(bytes: &[u8]) -> u8
 }
 
 // The same of a path record.
-#[tactic(auto, using(names::specs::Laws::Readers::number_of_lem))]
+#[tactic(auto, using(names::specs::Laws::Readers::refusal_numbers))]
 pub fn dogwood_read_path(bytes: &[u8]) -> u8
     ensures { result ≡ refusal_number (whole path_record bytes.now) }
 {

@@ -15,6 +15,7 @@ mod question;
 mod strings;
 
 pub use entry::lookup;
+pub use question::Question;
 
 // How many strings an output has, and how many bytes they take with their lengths.
 #[derive(Clone, Copy)]

@@ -2,11 +2,11 @@
 // strings that stand at positions.
 //
 // Bytes and place stay two parameters, since a record is lent once and a place is a number in it.
-ghost use Rattle.std.specs.Prelude.{◌≡◌, ◌+◌, ◌*◌, ◌<◌, ◌≤◌, length, get_or, take, drop};
+ghost use Rattle.std.specs.Prelude.{◌≡◌, ◌+◌, ◌*◌, ◌<◌, ◌≤◌, length, get_or, take, drop, MatchResult};
 ghost use Rattle.names.specs.Class.{class_of};
 ghost use Rattle.names.specs.Fields.{bytes, u8, u16, u32, number, string_of, each, counted, heading, finished, whole};
 ghost use Rattle.names.specs.Paths.{path_of};
-ghost use Rattle.names.specs.Read.{ending, read_number, word_at};
+ghost use Rattle.names.specs.Read.{ending, word_at};
 
 use crate::bytewise::same;
 use crate::classes::in_class;
@@ -202,12 +202,13 @@ pub fn read_end(s: &[u8], at: usize) -> Read
 }
 
 // The number of the refusal, 0 for none. It is a number, and no Option, since the C interface
-// answers so.
-pub fn refusal_number(read: Read) -> u8
-    ensures { result ≡ read_number read }
+// answers so. An error is whatever becomes a byte: a refusal becomes the documents' number of it,
+// and a byte comes back itself.
+pub fn refusal_number<E: Into<u8>>(read: Result<usize, E>) -> u8
+    ensures { MatchResult read (λ _. result ≡ 0) (λ refusal. E.converts refusal result) }
 {
     match read {
         Ok(_) => 0,
-        Err(refusal) => u8::from(refusal),
+        Err(refusal) => refusal.into(),
     }
 }

@@ -9,13 +9,17 @@ ghost use Rattle.std.specs.Prelude.{◌+◌, ◌<◌, ◌≤◌, length};
 ghost use Rattle.names.specs.Fields.{digits};
 ghost use Rattle.names.specs.Writer.{Stored};
 
+// Bytes, one by one: `copy_from_slice` is a call of `memmove`, which the static library would then
+// need from outside.
+#[tactic(auto, using(crate::proofs::Pasting::pasting))]
 pub fn put(buf: &mut [u8], at: usize, bytes: &[u8]) -> usize
     requires { at + length bytes.now ≤ length buf.old }
     ensures { Stored buf.old at bytes.now buf.new result }
 {
-    let end = at + bytes.len();
-    buf[at..end].copy_from_slice(bytes);
-    end
+    for i in 0..bytes.len() {
+        buf[at + i] = bytes[i];
+    }
+    at + bytes.len()
 }
 
 // The two bytes of a number, the higher first. The number is a usize with its bound and no u16,

@@ -156,20 +156,18 @@ pub fn kind_at(s: &[u8], at: usize) -> Kind
     }
 }
 
-// The kinds with one condition in them, and those with two.
-pub fn has_one(kind: Kind) -> bool
-    ensures { result ≡ one_kind (kind_number kind) }
+// The kinds with one condition in them, and those with two. They are asked of any byte, so that
+// they take the number and no `Kind`.
+pub fn has_one(kind: u8) -> bool
+    ensures { result ≡ one_kind kind }
 {
-    matches!(
-        kind,
-        Kind::Not | Kind::Formerly | Kind::Previous | Kind::Refine
-    )
+    matches!(kind, 3..=5 | 13)
 }
 
-pub fn has_two(kind: Kind) -> bool
-    ensures { result ≡ two_kind (kind_number kind) }
+pub fn has_two(kind: u8) -> bool
+    ensures { result ≡ two_kind kind }
 {
-    matches!(kind, Kind::And | Kind::Or | Kind::Since)
+    matches!(kind, 1 | 2 | 6)
 }
 
 // The kind of the term at `at`.

@@ -79,10 +79,14 @@ pub(crate) fn same_numbers(head: &[u8], answer: CheckAnswer) -> bool {
         && answer.visits == names::u16_at(head, 7)
 }
 
-// Whether a buffer has an output in front, and is else as it was.
+// A buffer as it is before each call. No case asks for a larger one.
+static UNTOUCHED: [u8; 8192] = [0xA5; 8192];
+
+// Whether a buffer has an output in front, and is else as it was. What is left of it is long, and
+// `names::same` compares eight bytes at a time.
 pub(crate) fn same_output(output: &[u8], buffer: &[u8]) -> bool {
     match buffer.strip_prefix(output) {
-        Some(rest) => rest.iter().all(|b| *b == 0xA5),
+        Some(rest) => names::same(rest, names::part_of(&UNTOUCHED, 0, rest.len())),
         None => false,
     }
 }

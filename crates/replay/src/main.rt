@@ -103,13 +103,12 @@ fn answered(case: Case, buffer: &mut [u8]) -> Option<CheckAnswer> {
     }
 }
 
-// Whether a case goes as it says. No case asks for a larger buffer.
+// Whether a case goes as it says. No case asks for a larger buffer. The number 255, which no list
+// has, stands in the place of an answer where there is none, and is compared as one.
 fn agrees(case: Case) -> bool {
     let mut buffer = [0xA5; 8192];
-    match answered(case, &mut buffer) {
-        Some(answer) => same_numbers(case.head, answer) && same_output(case.output, &buffer),
-        None => false,
-    }
+    let answer = answered(case, &mut buffer).unwrap_or(written(255, 0));
+    same_numbers(case.head, answer) && same_output(case.output, &buffer)
 }
 
 // One more case. None of the numbers comes near the largest.

@@ -52,6 +52,9 @@ Z= second| minute| hour| day| seconds| minutes| hours| days|
 // No accepted record is as deep: it has 32 levels, and each adds at most three rules.
 const DEEPEST: usize = 150;
 
+// More blanks than the deepest line has.
+static BLANKS: [u8; 512] = [b' '; 512];
+
 // A choice of the rule of a letter; no bytes where there is none.
 fn choice(letter: u8, number: usize) -> &'static [u8] {
     let line = usize::from(letter.wrapping_sub(b'@'));
@@ -142,13 +145,12 @@ impl<'a, P: Print> Walk<'a, P> {
     }
 
     // The front of a line: the place, whose five digits end in one column, and two blanks for each
-    // depth.
+    // depth. The output is not buffered, so all blanks are one write: a line makes two, however deep
+    // it stands.
     fn line(&self, spot: Spot) -> io::Result<()> {
         print!(self.out; "\n{:5} ", spot.at)?;
-        for _ in 0..spot.depth {
-            self.out.write_all(b"  ")?;
-        }
-        Ok(())
+        let blanks = spot.depth.saturating_mul(2);
+        self.out.write_all(names::part_of(&BLANKS, 0, blanks))
     }
 
     // A string; the place behind it.

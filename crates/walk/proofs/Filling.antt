@@ -112,6 +112,10 @@ module _ (s : List ℕ) where
 ends_there : {x : Read} {m n : ℕ} → x ≡ Ok m → x ≡ Ok n → m ≡ n
 ends_there e f = cc
 
+-- what is asked of the byte that a kind is written as is asked of the kind
+pub by_byte : (asked : ℕ → Bool) (byte k : ℕ) (b : Bool) → byte ≡ k → b ≡ asked byte → b ≡ asked k
+by_byte asked byte k b e q = q ∙ ap asked e
+
 -- What each kind of condition asks of its parts, and what it puts into the table. For `search`: the premises stand as the code learns them, in an order in
 -- which each leaves little open when it is looked for.
 module _ (s : List ℕ) (at : ℕ) (acc : is_condition s at ≡ true) (k : ℕ) (o : KindHere s at k) (p : ℕ) (place : p ≡ first_part s at) where

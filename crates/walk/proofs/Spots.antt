@@ -1,108 +1,81 @@
 -- Tables of places sorted by name: a name found by halving, an entry replaced, an entry put in. Assumes nothing.
 use mathlib.Core.Path.{◌≡◌, refl, sym, ap, ◌∙◌}
-use mathlib.Core.Bool.{Bool, true, false, cond}
+use mathlib.Core.Bool.{Bool, true, false}
 use mathlib.Core.List.{List, ◌∷◌, ◌++◌}
 use Prim.Native.Nat.{ℕ, suc, ◌+◌, ◌-◌, ◌≤◌, ◌<◌}
 use native.Mathlib.Omega.{arith}
+use borrow.Author.Count.{below_more}
+use borrow.Author.Rules.{rules}
 use borrow.Author.Tests.{ltb-true, ltb-false}
 use lib.Dec.{eqb, ltb}
 use lib.ListN.{length, get_or, take, drop, set, length-append, length-drop, length-set, get_or-append}
 use lib.Seq.{length-take-le, get_or-take, get_or-drop, get_or_at, get_or-append-add, get_or-set_same, get_or-set_other, ext_get_or}
 use Rattle.std.specs.declared.cmp.Ordering.{Ordering}
 use Rattle.std.specs.declared.cmp.Ordering.TheVariants.{Less, Equal, Greater}
-use Rattle.names.specs.Names.{same, below, order}
-use Rattle.names.specs.Laws.Names.{same_eq, below_order, order_flip, below_trans}
+use Rattle.names.specs.Names.{below, order}
+use Rattle.names.specs.Laws.Names.{below_order, order_flip, order_same, below_trans}
 use Rattle.names.specs.Order.{order_number}
 use Rattle.nodes.specs.Parts.{name_in}
-use Rattle.std.specs.Prelude.{Result, Ok, Err}
-use Rattle.std.specs.Ordering.{ordering_index}
+use Rattle.std.specs.Prelude.{Ok, Err}
 use Rattle.std.specs.List.{CopiedTo, SameBelow}
-use Rattle.std.specs.List.Sorted.{IsSearchInRange, IsBinarySearchResult, IsNonDecreasingBy}
-use Rattle.std.proofs.lemmas.List.Sorted.{IsNonDecreasingBy-from_default}
 use Rattle.walk.specs.Environment.{name_at, Sorted, SpotOf, insert_at, Inserted}
 
--- ---- the order of an entry's name and another
+-- ---- the search: those before `low` are below the name, those from `high` on above it
 
--- how the name at a place stands to another, as the library's comparison says it
-abbrev pub stands_to : List ℕ → List ℕ → ℕ → Ordering
-stands_to s name p = cond (below (name_in s p) name) Less (cond (same (name_in s p) name) Equal Greater)
-
-numbered : (o : Ordering) (p q : Bool) → order_number o ≡ cond p 0 (cond q 1 2) → o ≡ cond p Less (cond q Equal Greater)
-numbered Less true q e = refl
-numbered Less false true e = absurd (omega arith)
-numbered Less false false e = absurd (omega arith)
-numbered Equal true q e = absurd (omega arith)
-numbered Equal false true e = refl
-numbered Equal false false e = absurd (omega arith)
-numbered Greater true q e = absurd (omega arith)
-numbered Greater false true e = absurd (omega arith)
-numbered Greater false false e = refl
-
-pub compared : (s name : List ℕ) (p : ℕ) (o : Ordering) → order_number o ≡ order (name_in s p) name → o ≡ stands_to s name p
-unfolding order
-compared s name p o k = numbered o _ _ k
-
-less_is : (p q : Bool) → cond p Less (cond q Equal Greater) ≡ Less → p ≡ true
-less_is true q e = refl
-less_is false true e = absurd (let z : ◌≡◌ {A = ℕ} 1 0 = ap order_number e in omega arith)
-less_is false false e = absurd (let z : ◌≡◌ {A = ℕ} 2 0 = ap order_number e in omega arith)
-
-equal_is : (p q : Bool) → cond p Less (cond q Equal Greater) ≡ Equal → q ≡ true
-equal_is true q e = absurd (let z : ◌≡◌ {A = ℕ} 0 1 = ap order_number e in omega arith)
-equal_is false true e = refl
-equal_is false false e = absurd (let z : ◌≡◌ {A = ℕ} 2 1 = ap order_number e in omega arith)
-
-greater_is : (p q : Bool) → cond p Less (cond q Equal Greater) ≡ Greater → ◌≡◌ {A = ℕ} (cond p 0 (cond q 1 2)) 2
-greater_is true q e = absurd (let z : ◌≡◌ {A = ℕ} 0 2 = ap order_number e in omega arith)
-greater_is false true e = absurd (let z : ◌≡◌ {A = ℕ} 1 2 = ap order_number e in omega arith)
-greater_is false false e = refl
-
-at_most_two : (o : Ordering) → ordering_index o ≤ 2
-at_most_two Less = omega arith
-at_most_two Equal = omega arith
-at_most_two Greater = omega arith
+pub record Between (s table name : List ℕ) (low high : ℕ) : Type 0 where
+  pub met : low ≤ high
+  pub within : high ≤ length table
+  pub before : (i : ℕ) → i < low → below (name_at s table i) name ≡ true
+  pub after : (i : ℕ) → high ≤ i → i < length table → below name (name_at s table i) ≡ true
 
 is_above : (v w : List ℕ) → order v w ≡ 2 → below w v ≡ true
 is_above v w h = let z : 2 - order v w ≡ 0 = omega arith in below_order w v ∙ ap (λ n. eqb n 0) (order_flip v w ∙ z)
 
--- ---- the search among sorted names
+module _ (s table name : List ℕ) where
+  pub all_between : Between s table name 0 (length table)
+  all_between = record { met = omega arith; within = omega arith; before = λ i h. absurd (omega arith); after = λ i h k. absurd (omega arith) }
 
-module _ (s table name : List ℕ) (sorted : Sorted s table) where
-  abbrev rank : ℕ → ℕ
-  rank p = ordering_index (stands_to s name p)
+  module _ (low high : ℕ) (b : Between s table name low high) where
+    pub not_found : high ≤ low → SpotOf s table name (Err low)
+    unfolding SpotOf
+    not_found h = record { within = omega (arith, b.met, b.within); before = b.before; missing = λ i k l. b.after i (omega (arith, b.met)) l }
 
-  -- the comparisons rise along the table
-  rise : (i j : ℕ) → i < j → j < length table → rank (get_or table i 0) ≤ rank (get_or table j 0)
-  unfolding name_at
-  rise i j h k = go (below (name_at s table j) name) (same (name_at s table j) name) refl refl
-    where
-      low : below (name_at s table i) name ≡ true → rank (get_or table i 0) ≤ rank (get_or table j 0)
-      low e = rw e (omega arith)
+    module _ (sorted : Sorted s table) (m : ℕ) (h : low ≤ m) (k : m < high) where
+      pub middle_index : m < length table
+      middle_index = omega (arith, b.within)
 
-      go : (p q : Bool) → below (name_at s table j) name ≡ p → same (name_at s table j) name ≡ q → rank (get_or table i 0) ≤ rank (get_or table j 0)
-      go true q e f = low (below_trans _ _ _ (sorted.ascend i j h k) e)
-      go false true e f = low (rw (← same_eq _ _ f) (sorted.ascend i j h k))
-      go false false e f = rw (e, f) (at_most_two (stands_to s name (get_or table i 0)))
+      -- how the name of the entry in the middle stands to the name
+      module _ (p : ℕ) (e : p ≡ get_or table m 0) (w : List ℕ) (j : w ≡ name_in s p) (o : Ordering) (q : order_number o ≡ order w name) where
+        here_ordered : order_number o ≡ order (name_at s table m) name
+        unfolding name_at
+        here_ordered = q ∙ ap (λ v. order v name) (j ∙ ap (name_in s) e)
 
-  rises : IsNonDecreasingBy rank table
-  rises = IsNonDecreasingBy-from_default rank table 0 (λ i j h k. from i j h k (ltb i j) refl)
-    where
-      from : (i j : ℕ) → i ≤ j → j < length table → (t : Bool) → ltb i j ≡ t → rank (get_or table i 0) ≤ rank (get_or table j 0)
-      from i j h k true q = rise i j (ltb-true i j q) k
-      from i j h k false q = let z : i ≡ j = omega (arith, ltb-false i j q) in rw z (omega arith)
+        pub found_spot : o ≡ Equal → SpotOf s table name (Ok m)
+        unfolding SpotOf
+        found_spot is =
+            let here : name_at s table m ≡ name = order_same _ _ (sym here_ordered ∙ ap order_number is) in
+            record { within = middle_index; here = here; before = λ i l. rw here at (sorted.ascend i m l middle_index) }
 
-  pub searched : (r : Result ℕ ℕ) → IsSearchInRange r (length table) → IsBinarySearchResult (stands_to s name) table r → SpotOf s table name r
-  unfolding SpotOf name_at order
-  searched (Ok i) within equal =
-      let here : name_at s table i ≡ name = same_eq _ _ (equal_is _ _ (equal 0)) in
-      record { within = within; here = here; before = λ k l. rw here at (sorted.ascend k i l within) }
-  searched (Err i) within parted =
-      let sides = parted rises in
-      record {
-        within = within;
-        before = λ k l. less_is _ _ (sides.0 k 0 (omega arith) l);
-        missing = λ k l m. is_above _ _ (greater_is _ _ (sides.1 k 0 l m));
-      }
+        pub go_up : o ≡ Less → Between s table name (m + 1) high
+        go_up is =
+            let here : below (name_at s table m) name ≡ true = below_order _ _ ∙ ap (λ n. eqb n 0) (sym here_ordered ∙ ap order_number is) in
+            record {
+              met = omega arith;
+              within = b.within;
+              before = below_more (λ i. below (name_at s table i) name ≡ true) m (λ i l. below_trans _ _ _ (sorted.ascend i m l middle_index) here) here;
+              after = b.after;
+            }
+
+        pub go_down : o ≡ Greater → Between s table name low m
+        go_down is =
+            let here : below name (name_at s table m) ≡ true = is_above _ _ (sym here_ordered ∙ ap order_number is) in
+            record { met = h; within = omega (arith, middle_index); before = b.before; after = λ i l n. later here i l n (ltb m i) refl }
+          where
+            later : below name (name_at s table m) ≡ true → (i : ℕ) → m ≤ i → i < length table → (t : Bool) → ltb m i ≡ t → below name (name_at s table i) ≡ true
+            later here i l n true f = below_trans _ _ _ here (sorted.ascend m i (ltb-true m i f) n)
+            later here i l n false f = let z : m ≡ i = omega (arith, ltb-false m i f) in rw (← z) here
+
+pub ruleset halving = (rules, all_between, not_found, middle_index, found_spot, go_up, go_down)
 
 -- ---- one entry more
 

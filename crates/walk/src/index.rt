@@ -68,6 +68,7 @@ fn index(s: &[u8], at: usize, table: &mut [u16], n: usize, row: Row) -> Indexed
     ensures { Filled row InScope s.now at (condition_here s.now at) (reached_from s.now at) table.old n table.new result }
 {
     let kind = kind_at(s, at);
+    let byte = u8::from(kind);
     put(table, n, at, row);
     let first = n + 1;
     match kind {
@@ -81,11 +82,11 @@ fn index(s: &[u8], at: usize, table: &mut [u16], n: usize, row: Row) -> Indexed
             let next = past_binder(s, first_part(s, at));
             index(s, next, table, first, row_below(row, at, n))
         }
-        _ if has_two(kind) => {
+        _ if has_two(byte) => {
             let a = index(s, first_part(s, at), table, first, row);
             index(s, a.next, table, a.count, row)
         }
-        _ if has_one(kind) => index(s, first_part(s, at), table, first, row),
+        _ if has_one(byte) => index(s, first_part(s, at), table, first, row),
         _ => Indexed {
             next: past_condition(s, at),
             count: first,

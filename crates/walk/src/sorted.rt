@@ -8,17 +8,25 @@ ghost use Rattle.walk.specs.Environment.{Sorted, SpotOf, Inserted};
 
 use std::cmp::Ordering;
 
-// Where a name stands in the table, or else where it belongs.
+// Where a name stands in the table, or else where it belongs: what is left to be searched stands
+// between `low` and `high`. The library's `binary_search_by` halves on where the name was met, and
+// a lookup took 1.3 times the time.
+#[tactic(auto, using(crate::proofs::Spots::halving))]
 pub fn spot(s: &[u8], table: &[u16], name: &[u8]) -> Result<usize, usize>
     requires { Sorted s.now table.now }
     ensures { SpotOf s.now table.now name.now result }
 {
-    table.binary_search_by(
-        |&p|
-            ensures value { order_number result ≡ order (name_in s.entry.now p) name.entry.now }
-            ensures same { (s.exit ≡ s.entry) × (name.exit ≡ name.entry) }
-        { names::compare(nodes::name_of(s, usize::from(p)), name) },
-    )
+    let mut low = 0;
+    let mut high = table.len();
+    while low < high {
+        let middle = low + (high - low) / 2;
+        match names::compare(nodes::name_of(s, usize::from(table[middle])), name) {
+            Ordering::Less => low = middle + 1,
+            Ordering::Equal => return Ok(middle),
+            Ordering::Greater => high = middle,
+        }
+    }
+    Err(low)
 }
 
 // Another place in the i-th entry. A place fits by the contract, here and in `insert`, so that

@@ -1,7 +1,7 @@
 -- The laws of readers: what a field's bytes give, and how an answer passes through a sequence. Assumes nothing.
 use Rattle.std.proofs.Math.Path.{◌≡◌, refl, sym, ap}
 use Rattle.std.proofs.Common.{◌∙◌}
-use Rattle.std.specs.Prelude.{Bool, ◌&&◌, ltb, eqb, get_or, take, drop, Ok, Err, IsErrAnd}
+use Rattle.std.specs.Prelude.{Bool, ◌&&◌, ltb, eqb, get_or, take, drop, Ok, Err, IsErrAnd, MatchResult}
 use Rattle.std.proofs.Math.Bool.{true, false, cond}
 use Rattle.std.proofs.lemmas.Bool.{false≢true}
 use mathlib.Core.List.{List, [], ◌∷◌}
@@ -173,6 +173,14 @@ pub number_of_lem : {A : Type 0} (g : Got A) (x : Read) (n : ℕ) → x ≡ endi
 unfolding ending refusal_number
 number_of_lem (got a m) x n e f = rw e at f
 number_of_lem (bad r) x n e f = rw e at f
+
+-- what the code of `refusal_number` promises at a refusal is the number of the answer
+pub number_of_read : (x : Read) (n : ℕ) → MatchResult x (λ _. n ≡ 0) (λ r. n ≡ number_of r) → n ≡ read_number x
+number_of_read (Ok m) n e = e
+number_of_read (Err r) n e = e
+
+-- from that promise to the number of the reader's answer
+pub ruleset refusal_numbers = (number_of_lem, number_of_read)
 
 -- Accepted bytes, taken apart: what a sequence gave, its first part gave, and then its second.
 pub record Split {A B : Type 0} (g : Got A) (f : A → ℕ → Got B) (b : B) (m : ℕ) : Type 0 where

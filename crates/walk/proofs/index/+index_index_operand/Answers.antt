@@ -1,9 +1,9 @@
 -- The index meets its contracts: the laws of `Filling` say for each kind what a call asks and what the answer is. Assumes nothing.
 use Rattle.std.proofs.Common.{rules, arith, sym, ap, ◌∙◌}
-use Rattle.nodes.specs.Kinds.{kind_number, term_kind_number, aggregate_kind_number}
+use Rattle.nodes.specs.Kinds.{one_kind, two_kind, kind_number, term_kind_number, aggregate_kind_number}
 use Rattle.nodes.specs.Laws.Inside.{aggregate_first}
 use Rattle.nodes.specs.Laws.Numbers.{not_call, passed_over}
-use Rattle.walk.proofs.Filling.{two_first, two_next, two_filled, one_first, one_filled, comparison_first, comparison_next, comparison_filled, exists_first, exists_next, exists_filled, alone_filled, body_filled, call_filled, arith_first, arith_next, arith_filled, bare_filled}
+use Rattle.walk.proofs.Filling.{by_byte, two_first, two_next, two_filled, one_first, one_filled, comparison_first, comparison_next, comparison_filled, exists_first, exists_next, exists_filled, alone_filled, body_filled, call_filled, arith_first, arith_next, arith_filled, bare_filled}
 use Rattle.walk.proofs.index.+index_index_operand.Goals as goal
 
 ruleset steps = (rules, two_first, two_filled, one_first, one_filled, comparison_first, comparison_filled, exists_first, exists_next, exists_filled, alone_filled, aggregate_first, body_filled, call_filled, arith_first, arith_filled, bare_filled, passed_over)
@@ -45,10 +45,12 @@ index-returns-in-Exists t c =
     search (rules, exists_filled c.args.s.now c.args.at c.requires.at_value _ c.kind_at-kind.ensures _ c.first_part.ensures.value (ap kind_number c.in-Exists.is) c.past_binder-next.ensures)
 
 pub index-returns-in_default : goal.index-returns-in_default
-index-returns-in_default t c = search steps
+index-returns-in_default t c =
+    two_filled c.args.s.now c.args.at c.requires.at_value _ c.kind_at-kind.ensures _ c.first_part-in_default.ensures.value _ (by_byte two_kind _ _ _ c.from-byte.ensures c.has_two.ensures) c.if-has_two.true c.put.ensures c.index-a.ensures c.index-in_default.ensures
 
 pub index-returns-in_default-2 : goal.index-returns-in_default-2
-index-returns-in_default-2 t c = search steps
+index-returns-in_default-2 t c =
+    one_filled c.args.s.now c.args.at c.requires.at_value _ c.kind_at-kind.ensures _ c.first_part-in_default-2.ensures.value _ (by_byte one_kind _ _ _ c.from-byte.ensures c.has_one.ensures) c.if-has_one.true c.put.ensures c.index-in_default-2.ensures
 
 pub index-returns-in_default-3 : goal.index-returns-in_default-3
 index-returns-in_default-3 t c = search steps
