@@ -2,10 +2,16 @@
  * Calls each function of the library, for an answer and for refusals, and says what is not as include/dogwood.h has it.
  * It is both C99 and C++. It prints one line; the exit status is 1 where a test failed.
  */
+/* ucontext.h is of POSIX, and not of C99. */
+#ifndef _XOPEN_SOURCE
+#define _XOPEN_SOURCE 600
+#endif
+
 #include "dogwood.h"
 
 #include <stdio.h>
 #include <string.h>
+#include <ucontext.h>
 
 /* A string literal's bytes without the last 0, as an address and a length. */
 #define BYTES(text) (const uint8_t *)(text), sizeof(text) - 1
@@ -329,6 +335,64 @@ static void test_check_space(void) {
 
     answer = dogwood_check(BYTES(SCHEMA), BYTES(TWO_COMPARISONS), BYTES(TARGETS), fresh(), one - 1);
     TEST(checks(answer, DOGWOOD_NO_SPACE, DOGWOOD_NO_RECORD, 0, 2) && untouched_from(0));
+}
+
+/* ─── The stack of a check ─── */
+
+/* 30 times arithmetic in arithmetic, `==`, and 30 arrays in one another: docs/BENCHMARKS.md has no deeper check. */
+static uint8_t deepest[256];
+
+static size_t make_deepest(void) {
+    uint8_t *at = deepest;
+    int level;
+    memcpy(at, "DWC\0\1" "\10" ZERO_SPAN "\4", 15);
+    at += 15;
+    memset(at, 12, 30);
+    at += 30;
+    for (level = 0; level < 31; level++, at += 3) {
+        memcpy(at, "\10\1v", 3);
+    }
+    for (level = 0; level < 30; level++, at += 2) {
+        memcpy(at, "\12\1", 2);
+    }
+    *at++ = 2;
+    return (size_t)(at - deepest);
+}
+
+/* The stack that the check is made on, and what is in it before the call. */
+static uint8_t lent_stack[DOGWOOD_STACK];
+#define PAINT 0xA5
+
+static ucontext_t caller, on_lent_stack;
+
+static struct dogwood_check_answer found_deep;
+
+static void check_deepest(void) {
+    found_deep = dogwood_check(BYTES(EMPTY_SCHEMA), deepest, make_deepest(), BYTES(TARGETS), buffer, SPACE);
+}
+
+/* How many bytes of the lent stack are no longer painted. */
+static size_t stack_taken(void) {
+    size_t left = 0;
+    while (left < sizeof lent_stack && lent_stack[left] == PAINT) {
+        left++;
+    }
+    return sizeof lent_stack - left;
+}
+
+/* The deepest check stays below 50,000 bytes of stack (D41 of docs/DECISIONS.md), its caller's frame among them. */
+static void test_stack(void) {
+    fresh();
+    memset(lent_stack, PAINT, sizeof lent_stack);
+    TEST(getcontext(&on_lent_stack) == 0);
+    on_lent_stack.uc_stack.ss_sp = lent_stack;
+    on_lent_stack.uc_stack.ss_size = sizeof lent_stack;
+    on_lent_stack.uc_link = &caller;
+    makecontext(&on_lent_stack, check_deepest, 0);
+    TEST(swapcontext(&caller, &on_lent_stack) == 0);
+    TEST(checks(found_deep, 0, 0, 1, 1));
+    TEST(40000 < stack_taken());
+    TEST(stack_taken() < 50000);
 }
 
 /* ─── Check with workspace ─── */
@@ -1356,6 +1420,7 @@ int main(void) {
     test_nothing();
     test_check();
     test_check_space();
+    test_stack();
     test_check_with();
     test_strict();
     test_own_bodies();

@@ -216,9 +216,6 @@ pub fn read_term(s: &[u8], at: usize, version: usize, left: usize, in_array: boo
     }
 }
 
-// It has no frame of its own, and neither has `read_elements`: a level of a term then takes 144
-// bytes of stack for 208.
-#[inline(always)]
 #[cycle(conditions_and_terms)]
 fn read_arith(s: &[u8], at: usize, version: usize, left: usize, in_array: bool) -> Read
     ensures { result ≡ ending (arith_of version (condition_at version left) (term_at version left) in_array s.now at) }
@@ -229,7 +226,6 @@ fn read_arith(s: &[u8], at: usize, version: usize, left: usize, in_array: bool) 
 }
 
 // A count of an array's elements and the elements.
-#[inline(always)]
 #[cycle(conditions_and_terms)]
 fn read_elements(s: &[u8], start: usize, version: usize, left: usize) -> Read
     ensures { result ≡ ending (element_list version (condition_at version left) (term_at version left) s.now start) }

@@ -32,6 +32,9 @@ fn kind_type(kind: TermKind) -> Typed
 }
 
 // One element more: the first decides, and an element without a type or of another one makes the array mixed.
+// It is not inlined: its types would lie on the stack once for each level of an array, and lie
+// there once.
+#[inline(never)]
 #[tactic(auto, using(crate::proofs::Arrays::joining))]
 fn seen_with<'a>(schema: &'a [u8], condition: &'a [u8], seen: Seen, typed: Typed) -> Seen
     ensures { result ≡ seen_with schema.now condition.now seen typed }
@@ -114,16 +117,14 @@ pub fn element_type<'a>(schema: &'a [u8], condition: &'a [u8], at: usize, left: 
     requires at_value { accepted (term_at (version_in condition.now) left false condition.now at) ≡ true }
     ensures { TypedAt schema.now condition.now (term_here condition.now at) (term_type none (term_in condition.now at)) left result }
 {
-    match nodes::term_kind_at(condition, at) {
-        TermKind::Array => {
-            let elements = nodes::term_part(condition, at);
-            array_type(schema, condition, elements, left - 1)
-        }
-        _ => Element {
+    let TermKind::Array = nodes::term_kind_at(condition, at) else {
+        return Element {
             typed: leaf_type(condition, at),
             next: nodes::past_term(condition, at),
-        },
-    }
+        };
+    };
+    let elements = nodes::term_part(condition, at);
+    array_type(schema, condition, elements, left - 1)
 }
 
 // The array whose count of elements stands at `start`.

@@ -28,8 +28,8 @@ element_type-overflow_sub-left t c = search of_elements
 pub element_type-array_type-requires : goal.element_type-array_type-requires
 element_type-array_type-requires t c = search of_elements
 
-pub element_type-returns-in-Array : goal.element_type-returns-in-Array
-element_type-returns-in-Array t c = search of_elements
+pub element_type-returns : goal.element_type-returns
+element_type-returns t c = search of_elements
 
 pub element_type-leaf_type-requires : goal.element_type-leaf_type-requires
 element_type-leaf_type-requires t c = search of_elements
